@@ -1,0 +1,141 @@
+-- Checks 1 to 8 pass exactly the arguments that have the eight properties of document 01's table. Assumes nothing.
+use Prim.Native.Nat.{ℕ, _*_, _%_, _≤_}
+use mathlib.Core.Path.{_≡_, refl}
+use mathlib.Core.Bool.{Bool, true, false}
+use mathlib.Core.List.{List}
+use native.Mathlib.Omega.{arith}
+use borrow.Author.Tests.{ne-eqb, le-ltb, lt-leb, eqb-false, ltb-false, leb-false}
+use lib.Dec.{eqb, ltb, leb}
+use lib.ListN.{length}
+use Rattle.words.specs.Basics.{All}
+use Rattle.words.proofs.Bools.{neither, both-false}
+use Rattle.words.proofs.Sums.{all-map}
+use Rattle.appointments.specs.Appointments.{Appt, appts, largest-load, scratch-words}
+use Rattle.appointments.specs.Checks.{blank, First, at, nowhere, first-from, has-blank, has-unlisted, Check, passed, refused, bar, bar-at, checks-1-to-5, checks}
+use Rattle.appointments.proofs.Loads.{Listed, appts-length}
+use Rattle.appointments.proofs.FirstFrom.{nowhere-all, all-nowhere}
+
+-- ── what passing means ──
+
+-- no end is blank
+abbrev pub Filled : Appt → Type 0
+Filled x = (x .first ≡ blank → ⊥) × (x .second ≡ blank → ⊥)
+
+-- A list that passes checks 1 to 5.
+pub record Good-list (P : ℕ) (list : List ℕ) : Type 0 where
+  pub parties : P ≤ 1024
+  pub even : length list % 2 ≡ 0
+  pub few : length (appts list) ≤ 4096
+  pub filled : All Filled (appts list)
+  pub listed : All (Listed P) (appts list)
+
+-- Arguments that pass checks 1 to 8.
+pub record Passes (P : ℕ) (list : List ℕ) (slots scratch : ℕ) : Type 0 where
+  pub good : Good-list P list
+  pub product : largest-load P (appts list) * P ≤ 8192
+  pub slot-room : length (appts list) ≤ slots
+  pub scratch-room : scratch-words P (largest-load P (appts list)) ≤ scratch
+
+-- a good list holds two numbers for each of its A appointments
+pub good-length : {P : ℕ} {list : List ℕ} → Good-list P list → length list ≡ 2 * length (appts list)
+good-length {P} {list} g = appts-length list (g .even)
+
+-- ── the tests of checks 4 and 5 ──
+
+pub filled-test : (x : Appt) → Filled x → has-blank x ≡ false
+filled-test x h = both-false (ne-eqb (x .first) blank (h .0)) (ne-eqb (x .second) blank (h .1))
+
+pub test-filled : (x : Appt) → has-blank x ≡ false → Filled x
+test-filled x e =
+    let b = neither (eqb (x .first) blank) (eqb (x .second) blank) e in
+    (eqb-false (x .first) blank (b .0), eqb-false (x .second) blank (b .1))
+
+pub listed-test : (P : ℕ) (x : Appt) → Listed P x → has-unlisted P x ≡ false
+listed-test P x h = both-false (lt-leb P (x .first) (h .0)) (lt-leb P (x .second) (h .1))
+
+pub test-listed : (P : ℕ) (x : Appt) → has-unlisted P x ≡ false → Listed P x
+test-listed P x e =
+    let b = neither (leb P (x .first)) (leb P (x .second)) e in
+    (leb-false P (x .first) (b .0), leb-false P (x .second) (b .1))
+
+-- check 2's test
+pub even-test : (n : ℕ) → n % 2 ≡ 0 → eqb (n % 2) 1 ≡ false
+even-test n e = ne-eqb (n % 2) 1 (λ o. omega arith)
+
+pub test-even : (n : ℕ) → eqb (n % 2) 1 ≡ false → n % 2 ≡ 0
+test-even n e = let n-odd : n % 2 ≡ 1 → ⊥ = eqb-false (n % 2) 1 e in omega arith
+
+-- ── checks 1 to 5 ──
+
+-- a good list passes on to what comes next
+pub good-goes-on : (P : ℕ) (list : List ℕ) (next : Check) → Good-list P list → checks-1-to-5 P list next ≡ next
+unfolding checks-1-to-5
+good-goes-on P list next g =
+    rw (
+      le-ltb 1024 P (g .parties),
+      even-test (length list) (g .even),
+      le-ltb 4096 (length (appts list)) (g .few),
+      all-nowhere 0 has-blank (appts list) (all-map filled-test (appts list) (g .filled)),
+      all-nowhere 0 (has-unlisted P) (appts list) (all-map (listed-test P) (appts list) (g .listed)),
+    )
+
+-- Whoever has the eight properties passes.
+pub passes-passed : (P : ℕ) (list : List ℕ) (slots scratch : ℕ) → Passes P list slots scratch → checks P list slots scratch ≡ passed
+unfolding checks
+passes-passed P list slots scratch p =
+    rw (
+      le-ltb 8192 (largest-load P (appts list) * P) (p .product),
+      le-ltb slots (length (appts list)) (p .slot-room),
+      le-ltb scratch (scratch-words P (largest-load P (appts list))) (p .scratch-room),
+    )
+    (good-goes-on P list passed (p .good))
+
+-- ── one check ──
+
+pub refused-passed {ℓ} : {X : Type ℓ} (n i : ℕ) → refused n i ≡ passed → X
+refused-passed n i e = let z : _≡_ {A = ℕ} 0 1 = cc in absurd (omega arith)
+
+pub bar-passed : (t : Bool) (n : ℕ) (next : Check) → bar t n next ≡ passed → (t ≡ false) × (next ≡ passed)
+bar-passed true n next e = refused-passed n 0 e
+bar-passed false n next e = (refl, e)
+
+pub bar-at-passed : (f : First) (n : ℕ) (next : Check) → bar-at f n next ≡ passed → (f ≡ nowhere) × (next ≡ passed)
+bar-at-passed (at i) n next e = refused-passed n i e
+bar-at-passed nowhere n next e = (refl, e)
+
+-- ── what passed says ──
+
+-- what passes checks 1 to 5 is a good list, and what comes next passes too
+pub passed-good : (P : ℕ) (list : List ℕ) (next : Check) → checks-1-to-5 P list next ≡ passed → Good-list P list × (next ≡ passed)
+unfolding checks-1-to-5
+passed-good P list next e =
+    let c₁ = bar-passed (ltb 1024 P) 1 _ e in
+    let c₂ = bar-passed (eqb (length list % 2) 1) 2 _ (c₁ .1) in
+    let c₃ = bar-passed (ltb 4096 (length (appts list))) 3 _ (c₂ .1) in
+    let c₄ = bar-at-passed (first-from 0 has-blank (appts list)) 4 _ (c₃ .1) in
+    let c₅ = bar-at-passed (first-from 0 (has-unlisted P) (appts list)) 5 next (c₄ .1) in (
+      record {
+        parties = ltb-false 1024 P (c₁ .0);
+        even = test-even (length list) (c₂ .0);
+        few = ltb-false 4096 (length (appts list)) (c₃ .0);
+        filled = all-map test-filled (appts list) (nowhere-all 0 has-blank (appts list) (c₄ .0));
+        listed = all-map (test-listed P) (appts list) (nowhere-all 0 (has-unlisted P) (appts list) (c₅ .0));
+      },
+      c₅ .1,
+    )
+
+-- Whoever passes has the eight properties.
+pub passed-passes : (P : ℕ) (list : List ℕ) (slots scratch : ℕ) → checks P list slots scratch ≡ passed → Passes P list slots scratch
+unfolding checks
+passed-passes P list slots scratch e =
+    let D : ℕ = largest-load P (appts list) in
+    let c₁ = passed-good P list _ e in
+    let c₆ = bar-passed (ltb 8192 (D * P)) 6 _ (c₁ .1) in
+    let c₇ = bar-passed (ltb slots (length (appts list))) 7 _ (c₆ .1) in
+    let c₈ = bar-passed (ltb scratch (scratch-words P D)) 8 passed (c₇ .1) in
+    record {
+      good = c₁ .0;
+      product = ltb-false 8192 (D * P) (c₆ .0);
+      slot-room = ltb-false slots (length (appts list)) (c₇ .0);
+      scratch-room = ltb-false scratch (scratch-words P D) (c₈ .0);
+    }

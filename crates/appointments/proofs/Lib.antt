@@ -1,0 +1,9 @@
+pub mod Loads
+pub mod PlanSums
+pub mod LowerBound
+pub mod Pigeonhole
+pub mod FirstFrom
+pub mod ChecksLaws
+pub mod Causes
+pub mod Flat
+pub mod Answering

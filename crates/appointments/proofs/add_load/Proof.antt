@@ -1,0 +1,10 @@
+use borrow.Author.Needs.{needs}
+use Rattle.appointments.proofs.add_load.Statement.{statement}
+use Rattle.appointments.proofs.add_load.Tie as tie
+
+-- src/lib.rt:45:1
+returns : tie.Need-returns
+returns c = cc (c .before .before .put .ensures, c .before .before .before .before .get .ensures .0)
+
+pub add-load-spec : {M : Type 1} → statement M
+add-load-spec = tie.close (tie.spec (λ c κs. search needs) (λ c. search needs) (λ c κs. search needs) (λ c. search needs) returns)

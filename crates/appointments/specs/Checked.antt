@@ -1,0 +1,30 @@
+-- The answers of the checks' code, by document 01's checks. Assumes nothing.
+use Prim.Native.Nat.{ℕ, zero, suc, max}
+use mathlib.Core.List.{List}
+use Rattle.words.specs.Words.{word}
+use Rattle.appointments.specs.Appointments.{appts}
+use Rattle.appointments.specs.Checks.{First, at, nowhere, first-from, has-blank, has-unlisted, Check, passed, refused, bar-at}
+use Rattle.appointments.specs.declared.Found.{Found}
+use Rattle.appointments.specs.declared.Found.the-variants.{At, Nowhere}
+use Rattle.appointments.specs.declared.Checked.{Checked}
+use Rattle.appointments.specs.declared.Checked.the-variants.{Passed, Refused}
+
+-- a first position as the code answers it
+abbrev pub found : First → Found
+found (at i) = At i
+found nowhere = Nowhere
+
+-- what the checks came to as the code answers it: D where all passed, else the number and the place
+abbrev pub checked : Check → ℕ → Checked
+checked passed D = Passed D
+checked (refused number place) D = Refused number place
+
+-- the largest of the first p words
+unfoldable pub largest-word : ℕ → List ℕ → ℕ
+largest-word zero s = 0
+largest-word (suc p) s = max (largest-word p s) (word s p)
+
+-- checks 4 and 5
+abbrev pub check-ends : ℕ → List ℕ → Check → Check
+check-ends P list next =
+    bar-at (first-from 0 has-blank (appts list)) 4 (bar-at (first-from 0 (has-unlisted P) (appts list)) 5 next)

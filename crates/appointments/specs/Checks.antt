@@ -1,0 +1,65 @@
+-- Document 01's checks 1 to 8, in order, with the number and the place of each refusal. Assumes nothing.
+use Prim.Native.Nat.{ℕ, zero, suc, _+_, _*_, _%_}
+use mathlib.Core.Bool.{Bool, true, false, _||_}
+use mathlib.Core.List.{List, [], _∷_}
+use lib.Dec.{eqb, ltb, leb}
+use lib.ListN.{length}
+use Rattle.words.specs.Basics.{pick}
+use Rattle.appointments.specs.Appointments.{Appt, appts, largest-load, scratch-words}
+
+-- The mark of a blank end.
+abbrev pub blank : ℕ
+blank = 65535
+
+-- a first position, or none
+pub data First : Type 0 where
+  at : ℕ → First
+  nowhere : First
+
+-- The first position, counted from i, whose appointment passes the test.
+unfoldable pub first-from : ℕ → (Appt → Bool) → List Appt → First
+first-from i test [] = nowhere
+first-from i test (x ∷ xs) = let later = first-from (i + 1) test xs in pick (test x) (at i) later
+
+-- check 4: an end is blank
+abbrev pub has-blank : Appt → Bool
+has-blank x = eqb (x .first) blank || eqb (x .second) blank
+
+-- check 5: an end is not below P
+abbrev pub has-unlisted : ℕ → Appt → Bool
+has-unlisted P x = leb P (x .first) || leb P (x .second)
+
+-- What a sequence of checks comes to: all passed, or the first refusal with its number and place.
+pub data Check : Type 0 where
+  passed : Check
+  refused : ℕ → ℕ → Check
+
+-- refuse with a number and place 0 if the test holds, else go on
+abbrev pub bar : Bool → ℕ → Check → Check
+bar true number next = refused number 0
+bar false number next = next
+
+-- refuse with a number at the position found, else go on
+abbrev pub bar-at : First → ℕ → Check → Check
+bar-at (at i) number next = refused number i
+bar-at nowhere number next = next
+
+-- Checks 1 to 5, those of the list alone. 4 covers the whole list before 5 begins.
+unfoldable pub checks-1-to-5 : ℕ → List ℕ → Check → Check
+checks-1-to-5 P list next =
+    bar (ltb 1024 P) 1
+    (bar (eqb (length list % 2) 1) 2
+    (bar (ltb 4096 (length (appts list))) 3
+    (bar-at (first-from 0 has-blank (appts list)) 4
+    (bar-at (first-from 0 (has-unlisted P) (appts list)) 5
+    next))))
+
+-- Checks 1 to 8, of P, the list and the lengths of the slot buffer and of scratch.
+unfoldable pub checks : ℕ → List ℕ → ℕ → ℕ → Check
+checks P list slots scratch =
+    let D : ℕ = largest-load P (appts list) in
+    checks-1-to-5 P list
+    (bar (ltb 8192 (D * P)) 6
+    (bar (ltb slots (length (appts list))) 7
+    (bar (ltb scratch (scratch-words P D)) 8
+    passed)))

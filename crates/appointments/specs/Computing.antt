@@ -1,0 +1,10 @@
+-- Opens every definition of this crate and of those below it: an example that is computed says `unfolding computing`.
+-- Assumes nothing.
+use Rattle.words.specs.Computing as Words
+use Rattle.appointments.specs.Appointments.{appts, names, load, largest-load}
+use Rattle.appointments.specs.Plans.{different, meets}
+use Rattle.appointments.specs.Checks.{first-from, checks-1-to-5, checks}
+
+unfoldable pub computing : Unit {0}
+unfolding Words.computing appts names load largest-load different meets first-from checks-1-to-5 checks
+computing = tt

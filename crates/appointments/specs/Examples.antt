@@ -1,0 +1,110 @@
+-- Worked examples, each by computing: loads, D, W, the number of slots, meets, and the checks at their limits. Assumes
+-- nothing.
+use Prim.Native.Nat.{ℕ, zero, suc}
+use mathlib.Core.Path.{_≡_, refl}
+use mathlib.Core.List.{List, [], _∷_}
+use Rattle.appointments.specs.Appointments.{appts, load, largest-load, scratch-words}
+use Rattle.appointments.specs.Plans.{different, meets}
+use Rattle.appointments.specs.Checks.{passed, refused, checks}
+use Rattle.appointments.specs.Computing.{computing}
+
+-- the appointment 0-1, n times
+unfoldable pub again : ℕ → List ℕ
+again zero = []
+again (suc n) = 0 ∷ 1 ∷ again n
+
+-- ── loads, D and W ──
+
+-- A party with itself is named twice.
+pub self-load : load 0 (appts (0 ∷ 0 ∷ [])) ≡ 2
+unfolding computing
+self-load = refl
+
+-- so D is 2 and W is 128 × 1 × 3
+pub self-words : scratch-words 1 (largest-load 1 (appts (0 ∷ 0 ∷ []))) ≡ 384
+unfolding computing
+self-words = refl
+
+-- 0-1 1-2: D is 2, the load of party 1
+pub two-appts : largest-load 3 (appts (0 ∷ 1 ∷ 1 ∷ 2 ∷ [])) ≡ 2
+unfolding computing
+two-appts = refl
+
+-- ── plans ──
+
+-- equal slots count once, and slots need not be below D
+pub three-slots : different (7 ∷ 0 ∷ 7 ∷ 65536 ∷ []) ≡ 3
+unfolding computing
+three-slots = refl
+
+-- 0-1 1-2 in one slot: party 1 meets it twice, a clash
+pub a-clash : meets 1 0 (appts (0 ∷ 1 ∷ 1 ∷ 2 ∷ [])) (0 ∷ 0 ∷ []) ≡ 2
+unfolding computing
+a-clash = refl
+
+-- a party with itself makes a clash alone
+pub self-clash : meets 0 0 (appts (0 ∷ 0 ∷ [])) (0 ∷ []) ≡ 2
+unfolding computing
+self-clash = refl
+
+-- ── checks ──
+
+-- check 1: P 1,024 passes, 1,025 doesn't
+pub parties-1024 : checks 1024 [] 0 131072 ≡ passed
+unfolding computing
+parties-1024 = refl
+
+pub parties-1025 : checks 1025 [] 0 131200 ≡ refused 1 0
+unfolding computing
+parties-1025 = refl
+
+-- check 2 comes before the others look at the list
+pub odd-list : checks 1 (65535 ∷ []) 0 0 ≡ refused 2 0
+unfolding computing
+odd-list = refl
+
+-- check 3: A 4,096 passes, 4,097 doesn't
+pub appts-4096 : checks 2 (again 4096) 4096 1048832 ≡ passed
+unfolding computing again
+appts-4096 = refl
+
+pub appts-4097 : checks 2 (again 4097) 4097 9999999 ≡ refused 3 0
+unfolding computing again
+appts-4097 = refl
+
+-- check 4 covers the whole list before 5 begins: an end of 2 at an earlier place, or at the same, doesn't matter
+pub blank-before-unlisted : checks 2 (0 ∷ 2 ∷ 1 ∷ 65535 ∷ []) 9 99999 ≡ refused 4 1
+unfolding computing
+blank-before-unlisted = refl
+
+pub blank-beside-unlisted : checks 2 (0 ∷ 1 ∷ 2 ∷ 65535 ∷ []) 9 99999 ≡ refused 4 1
+unfolding computing
+blank-beside-unlisted = refl
+
+-- check 5: the first place with an end not below P, here its second end
+pub unlisted : checks 2 (0 ∷ 1 ∷ 0 ∷ 2 ∷ 9 ∷ 0 ∷ []) 9 99999 ≡ refused 5 1
+unfolding computing
+unlisted = refl
+
+-- check 6: P 3 passes with D 2,730, and 2,731 gives 6
+pub product-8190 : checks 3 (again 2730) 2730 1048704 ≡ passed
+unfolding computing again
+product-8190 = refl
+
+pub product-8193 : checks 3 (again 2731) 2731 9999999 ≡ refused 6 0
+unfolding computing again
+product-8193 = refl
+
+-- check 7: one slot entry for each appointment
+pub slots-short : checks 2 (0 ∷ 1 ∷ 0 ∷ 1 ∷ []) 1 99999 ≡ refused 7 0
+unfolding computing
+slots-short = refl
+
+-- check 8: W words of scratch pass, one fewer doesn't
+pub scratch-384 : checks 1 (0 ∷ 0 ∷ []) 1 384 ≡ passed
+unfolding computing
+scratch-384 = refl
+
+pub scratch-383 : checks 1 (0 ∷ 0 ∷ []) 1 383 ≡ refused 8 0
+unfolding computing
+scratch-383 = refl

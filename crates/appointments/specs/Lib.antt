@@ -1,0 +1,7 @@
+pub mod Appointments
+pub mod Rounds
+pub mod Plans
+pub mod Checks
+pub mod Checked
+pub mod Computing
+pub mod Examples

@@ -1,0 +1,6 @@
+pub mod Answers
+pub mod Waiting
+pub mod Viewer
+pub mod Filed
+pub mod Computing
+pub mod Examples

@@ -1,0 +1,74 @@
+-- Matchings added to a regular graph raise its degree by as many, and their copies add up. Assumes nothing.
+use Prim.Native.Nat.{ℕ, _+_, _<_}
+use mathlib.Core.Path.{_≡_}
+use mathlib.Core.List.{List, [], _∷_}
+use native.Mathlib.Omega.{arith}
+use lib.ListN.{length}
+use Rattle.words.specs.Basics.{total, All}
+use Rattle.words.proofs.Sums.{all-map, total-cong-all, total-const}
+use Rattle.multigraph.specs.Multigraph.{Graph, add-matching}
+use Rattle.multigraph.specs.Regular.{weigh, names, degree, Regular, Positive, Symmetric}
+use Rattle.multigraph.proofs.Ends.{names-symmetric}
+use Rattle.multigraph.proofs.Matchings.{weigh-add-matching, Sound, add-matching-sound}
+use Rattle.matching.specs.Perfect.{Full, Perfect}
+use Rattle.matching.proofs.MatchingLaws.{perfect-weigh}
+use Rattle.edge_color.specs.EdgeColor.{add-matchings}
+
+-- each party has as many copies in perfect matchings as there are matchings
+pub perfect-degrees :
+    (N : ℕ) (side : ℕ → ℕ) (v : ℕ) → v < N → (ms : List Graph) → All (Perfect N side) ms →
+    total (λ (m : Graph). degree v m) ms ≡ length ms
+perfect-degrees N side v below ms h =
+    let ones : total (λ (m : Graph). degree v m) ms ≡ total (λ (m : Graph). 1) ms =
+    total-cong-all _ _ ms (all-map (λ m p. p .regular .even v below) ms h) in
+    omega (arith, ones, total-const 1 ms)
+
+pub weigh-add-matchings :
+    (w : ℕ → ℕ → ℕ) → Symmetric w → (N : ℕ) (side : ℕ → ℕ) (g : Graph) (ms : List Graph) → All (Perfect N side) ms →
+    weigh w (add-matchings g ms) ≡ weigh w g + total (λ (m : Graph). weigh w m) ms
+unfolding add-matchings total
+weigh-add-matchings w s N side g [] h = omega arith
+weigh-add-matchings w s N side g (m ∷ ms) h =
+    omega (
+      arith,
+      weigh-add-matchings w s N side (add-matching g m) ms (h .1),
+      weigh-add-matching w s g m,
+      perfect-weigh w N side m (h .0),
+    )
+
+pub add-matchings-sound :
+    (N : ℕ) (side : ℕ → ℕ) (g : Graph) (ms : List Graph) → Sound N side g → All (Perfect N side) ms →
+    Sound N side (add-matchings g ms)
+unfolding add-matchings
+add-matchings-sound N side g [] k h = k
+add-matchings-sound N side g (m ∷ ms) k h =
+    add-matchings-sound N side (add-matching g m) ms (add-matching-sound N side g m k (h .0 .regular .across)) (h .1)
+
+pub full : {N : ℕ} {side : ℕ → ℕ} {d : ℕ} {g : Graph} → Regular N side d g → Positive g → Full N side d g
+full r pos = record { regular = r; positive = pos }
+
+pub full-sound : (N : ℕ) (side : ℕ → ℕ) (d : ℕ) (g : Graph) → Full N side d g → Sound N side g
+full-sound N side d g f = record { across = f .regular .across; apart = f .regular .apart; positive = f .positive }
+
+-- each matching that is moved to a graph raises its degree by 1
+pub add-matchings-law :
+    (N : ℕ) (side : ℕ → ℕ) (k : ℕ) (g : Graph) (ms : List Graph) → Full N side k g → All (Perfect N side) ms →
+    Full N side (k + length ms) (add-matchings g ms)
+add-matchings-law N side k g ms f h =
+    let sound = add-matchings-sound N side g ms (full-sound N side k g f) h in
+    record {
+      regular =
+          record {
+            even =
+                λ v below.
+                omega (
+                  arith,
+                  weigh-add-matchings (names v) (names-symmetric v) N side g ms h,
+                  f .regular .even v below,
+                  perfect-degrees N side v below ms h,
+                );
+            across = sound .across;
+            apart = sound .apart;
+          };
+      positive = sound .positive;
+    }

@@ -1,0 +1,4 @@
+pub mod EdgeColor
+pub mod Coloured
+pub mod Computing
+pub mod Examples

@@ -1,0 +1,1 @@
+// Both colouring routines over scratch words follow; this crate has their definitions and laws.

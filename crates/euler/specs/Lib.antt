@@ -1,0 +1,5 @@
+pub mod Euler
+pub mod Split
+pub mod Halved
+pub mod Computing
+pub mod Examples

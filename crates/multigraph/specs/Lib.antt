@@ -1,0 +1,5 @@
+pub mod Multigraph
+pub mod Regular
+pub mod Stored
+pub mod Computing
+pub mod Examples

@@ -1,0 +1,126 @@
+-- The theorem of demand 3, of the answer and the slots that the planning call's definition gives: refusal 9 exactly for the
+-- lists that pass checks 1 to 8 and have a closed round of odd length; every other list that passes is accepted; and an
+-- accepted list's plan has no clash and as few slots as any, D of them, each of which every busiest party meets exactly once.
+-- That such a plan exists is König's theorem (a bipartite multigraph has an edge colouring with as many colours as its
+-- largest degree). And no planning fails. Assumes nothing.
+use Prim.Native.Nat.{ℕ, _≤_}
+use mathlib.Core.Path.{_≡_, refl, sym, _∙_}
+use mathlib.Core.List.{List, _++_}
+use native.Mathlib.Omega.{arith}
+use lib.ListN.{length, take, drop}
+use lib.Seq.{take-at}
+use Rattle.appointments.specs.Appointments.{appts, largest-load}
+use Rattle.appointments.specs.Checks.{passed, refused, checks}
+use Rattle.appointments.proofs.ChecksLaws.{refused-passed}
+use Rattle.appointments.proofs.Causes.{Cause, many-parties, odd-length, many-appts, blank-end, unlisted-end, large-product, few-slots, small-scratch, refused-cause}
+use Rattle.planning.specs.Planning.{plan, planned, refusal, plan-answer, plan-slots}
+use Rattle.planning.specs.Demand3.{Shortest-plan, Demand-3}
+use Rattle.planning.proofs.Outcomes.{shortest-plan, Found-plan, No-plan, Came, barred, found, odd, came}
+
+-- ── answers ──
+
+pub planned-refusal {ℓ} : {X : Type ℓ} (D n i : ℕ) → planned D ≡ refusal n i → X
+planned-refusal D n i e = let z : _≡_ {A = ℕ} 0 1 = cc in absurd (omega arith)
+
+pub planned-same : (D E : ℕ) → planned D ≡ planned E → D ≡ E
+planned-same D E e = cc
+
+pub refusal-number : (n i k j : ℕ) → refusal n i ≡ refusal k j → n ≡ k
+refusal-number n i k j e = cc
+
+-- checks 1 to 8 refuse with their own numbers
+pub cause-number : {P : ℕ} {list : List ℕ} {slots scratch n i : ℕ} → Cause P list slots scratch n i → n ≤ 8
+cause-number (many-parties h) = omega arith
+cause-number (odd-length p h) = omega arith
+cause-number (many-appts p e h) = omega arith
+cause-number (blank-end p e a h) = omega arith
+cause-number (unlisted-end p e a f h) = omega arith
+cause-number (large-product g h) = omega arith
+cause-number (few-slots g p h) = omega arith
+cause-number (small-scratch g p r h) = omega arith
+
+-- ── the three cases ──
+
+module _ (P : ℕ) (list : List ℕ) (slots scratch : ℕ) where
+  -- a check refuses
+  refused-demand :
+      (n i : ℕ) → checks P list slots scratch ≡ refused n i → (after : List ℕ) →
+      Demand-3 P list slots scratch (refusal n i) after
+  refused-demand n i e after =
+      record {
+        nine = λ q. absurd (omega (arith, cause-number (refused-cause P list slots scratch n i e), refusal-number n i 9 0 q));
+        nine-only = λ q odd. refused-passed n i (sym e ∙ q);
+        accepted = λ q even. refused-passed n i (sym e ∙ q);
+        only-passed = λ D q. planned-refusal D n i (sym q);
+        plan = λ D q. planned-refusal D n i (sym q);
+      }
+
+  module _ (e : checks P list slots scratch ≡ passed) where
+    -- the list passes and is not bipartite
+    nine-demand : No-plan P (appts list) → (after : List ℕ) → Demand-3 P list slots scratch (refusal 9 0) after
+    nine-demand no-plan after =
+        record {
+          nine = λ q. (e, no-plan .odd);
+          nine-only = λ q odd. refl;
+          accepted = λ q even. absurd (even (no-plan .odd));
+          only-passed = λ D q. e;
+          plan = λ D q. planned-refusal D 9 0 (sym q);
+        }
+
+    -- the list passes and gets a plan
+    plan-demand :
+        (f : Found-plan P (appts list)) (rest : List ℕ) →
+        Demand-3 P list slots scratch (planned (largest-load P (appts list))) (f .slots ++ rest)
+    plan-demand f rest =
+        record {
+          nine = λ q. planned-refusal (largest-load P (appts list)) 9 0 q;
+          nine-only = λ q odd. absurd (f .none-odd odd);
+          accepted = λ q even. refl;
+          only-passed = λ D q. e;
+          plan = shortest;
+        }
+      where
+        first : take (length (appts list)) (f .slots ++ rest) ≡ f .slots
+        first = take-at (f .slots) rest (length (appts list)) (f .proper .plan-of)
+
+        shortest :
+            (D : ℕ) → planned (largest-load P (appts list)) ≡ planned D →
+            Shortest-plan P (appts list) D (take (length (appts list)) (f .slots ++ rest))
+        shortest D q =
+            rw (first, ← planned-same (largest-load P (appts list)) D q)
+            (shortest-plan P (appts list) (f .slots) (f .proper))
+
+-- ── the planning call ──
+
+module _ (P : ℕ) (list slots scratch : List ℕ) where
+  -- Demand 3, for every list and for all buffers.
+  pub demand-3 :
+      Demand-3 P list (length slots) (length scratch) (plan-answer P list slots scratch) (plan-slots P list slots scratch)
+  unfolding plan-answer plan-slots
+  demand-3 = go (came P list (length slots) (length scratch))
+    where
+      go :
+          Came P list (length slots) (length scratch) →
+          Demand-3 P list (length slots) (length scratch) (plan-answer P list slots scratch) (plan-slots P list slots scratch)
+      go (barred n i e) = rw e (refused-demand P list (length slots) (length scratch) n i e slots)
+      go (found e f) =
+          rw (e, f .found) (plan-demand P list (length slots) (length scratch) e f (drop (length (f .slots)) slots))
+      go (odd e f) = rw (e, f .found) (nine-demand P list (length slots) (length scratch) e f slots)
+
+  -- no refusal has a number above 9
+  pub refusal-le-9 : (n i : ℕ) → plan-answer P list slots scratch ≡ refusal n i → n ≤ 9
+  unfolding plan-answer
+  refusal-le-9 n i = go (came P list (length slots) (length scratch))
+    where
+      go : Came P list (length slots) (length scratch) → plan-answer P list slots scratch ≡ refusal n i → n ≤ 9
+      go (barred k j e) q =
+          let r : refusal k j ≡ refusal n i = rw e at q in
+          omega (arith, cause-number (refused-cause P list (length slots) (length scratch) k j e), refusal-number k j n i r)
+      go (found e f) q = planned-refusal (largest-load P (appts list)) n i (rw (e, f .found) at q)
+      go (odd e f) q =
+          let r : refusal 9 0 ≡ refusal n i = rw (e, f .found) at q in
+          omega (arith, refusal-number 9 0 n i r)
+
+  -- No planning fails: the number that no table has is never given.
+  pub never-failed : plan-answer P list slots scratch ≡ refusal 1000 0 → ⊥
+  never-failed e = omega (arith, refusal-le-9 1000 0 e)

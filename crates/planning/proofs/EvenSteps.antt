@@ -1,0 +1,197 @@
+-- One step of evening out: it passes a full party, or adds copies between two short ones, which fills one of them. What holds
+-- at every step is kept, and the steps still needed go down. Assumes nothing.
+use Prim.Native.Nat.{ℕ, _+_, _*_, _-_, _≤_, _<_, min, max}
+use mathlib.Core.Path.{_≡_, sym, _∙_, ap}
+use mathlib.Core.List.{List, [], _∷_}
+use mathlib.Core.Logic.{⊎-elim}
+use native.Mathlib.Omega.{arith}
+use native.Mathlib.Decide.{ℕ-discrete, decLe}
+use lib.ListN.{length}
+use Rattle.words.specs.Basics.{is, count, All}
+use Rattle.words.proofs.Sums.{is-same, is-ne, is-eq, is-le, is-cases}
+use Rattle.multigraph.specs.Multigraph.{Graph, add-edge}
+use Rattle.multigraph.specs.Regular.{names, degree, between, copies-between}
+use Rattle.multigraph.proofs.Ends.{names-symmetric, between-symmetric}
+use Rattle.multigraph.proofs.Adding.{weigh-add-edge, across-add-edge, positive-add-edge, apart-add-edge}
+use Rattle.multigraph.proofs.Matchings.{Sound}
+use Rattle.planning.specs.GivenPartition.{Evening, evening}
+
+-- What holds at every step: D bounds all degrees, no copy of the graph at the start is gone, the parties that have been
+-- passed are full, and those still to be filled are on their sides.
+pub record Evens (N : ℕ) (side : ℕ → ℕ) (D : ℕ) (start : Graph) (s : Evening) : Type 0 where
+  pub sound : Sound N side (s .graph)
+  pub most : (v : ℕ) → v < N → degree v (s .graph) ≤ D
+  pub kept : (u v : ℕ) → copies-between u v start ≤ copies-between u v (s .graph)
+  pub full : (v : ℕ) → v < N → count v (s .left) ≡ 0 → count v (s .right) ≡ 0 → degree v (s .graph) ≡ D
+  pub lefts : All (λ (v : ℕ). (v < N) × (side v ≡ 0)) (s .left)
+  pub rights : All (λ (v : ℕ). (v < N) × (side v ≡ 1)) (s .right)
+
+-- ── steps that suffice ──
+
+-- 1 where the first party of a list is full
+unfoldable pub head-full : ℕ → Graph → List ℕ → ℕ
+head-full D g [] = 0
+head-full D g (v ∷ vs) = is (degree v g) D
+
+-- two steps for each party, less one where the next step passes a full one
+unfoldable pub steps : ℕ → Evening → ℕ
+steps D s =
+    2 * (length (s .left) + length (s .right))
+    - max (head-full D (s .graph) (s .left)) (head-full D (s .graph) (s .right))
+
+pub steps-le : (D : ℕ) (s : Evening) → steps D s ≤ 2 * (length (s .left) + length (s .right))
+unfolding steps
+steps-le D s = omega arith
+
+head-full-le : (D : ℕ) (g : Graph) (vs : List ℕ) → head-full D g vs ≤ 1
+unfolding head-full
+head-full-le D g [] = omega arith
+head-full-le D g (v ∷ vs) = is-le (degree v g) D
+
+-- passing a party lowers the steps, and so does filling one of two short ones
+pub pass-left-less :
+    (D : ℕ) (g : Graph) (l : ℕ) (left right : List ℕ) → steps D (evening g left right) < steps D (evening g (l ∷ left) right)
+unfolding steps
+pass-left-less D g l left right = omega (arith, head-full-le D g (l ∷ left), head-full-le D g right)
+
+pub pass-right-less :
+    (D : ℕ) (g : Graph) (r : ℕ) (left right : List ℕ) → steps D (evening g left right) < steps D (evening g left (r ∷ right))
+unfolding steps
+pass-right-less D g r left right = omega (arith, head-full-le D g left, head-full-le D g (r ∷ right))
+
+pub fill-less :
+    (D : ℕ) (g h : Graph) (l r : ℕ) (left right : List ℕ) → degree l g < D → degree r g < D →
+    1 ≤ max (is (degree l h) D) (is (degree r h) D) →
+    steps D (evening h (l ∷ left) (r ∷ right)) < steps D (evening g (l ∷ left) (r ∷ right))
+unfolding steps head-full
+fill-less D g h l r left right a b full =
+    rw (is-ne {u = degree l g} {v = D} (λ e. omega arith), is-ne {u = degree r g} {v = D} (λ e. omega arith))
+    (omega (arith, is-le (degree l h) D, is-le (degree r h) D))
+
+-- ── one step ──
+
+-- a party that is not among those still to be filled is full, or it is the one that has just been found full
+passed :
+    (D : ℕ) (g : Graph) (w : ℕ) (ws : List ℕ) → degree w g ≡ D → (v : ℕ) → (count v (w ∷ ws) ≡ 0 → degree v g ≡ D) →
+    count v ws ≡ 0 → degree v g ≡ D
+unfolding count
+passed D g w ws d v full c =
+    ⊎-elim (λ i. ap (λ (u : ℕ). degree u g) (i .0) ∙ d) (λ i. full (omega (arith, i .1))) (is-cases v w)
+
+-- the smaller shortfall of two short parties is not 0, and fills one of them
+shortfall-pos : (D a b : ℕ) → a < D → b < D → 0 < min (D - a) (D - b)
+shortfall-pos D a b h k = omega arith
+
+shortfall-fills : (D a b : ℕ) → a < D → b < D → 1 ≤ max (is (a + min (D - a) (D - b)) D) (is (b + min (D - a) (D - b)) D)
+shortfall-fills D a b h k =
+    elim (decLe a b) [
+      | yes le ↦ let e : b + min (D - a) (D - b) ≡ D = omega arith in omega (arith, is-eq e)
+      | no n ↦ let e : a + min (D - a) (D - b) ≡ D = omega arith in omega (arith, is-eq e)
+    ]
+
+-- degrees after copies of a pair l, r have been added
+degree-added : (v : ℕ) (g : Graph) (l r m : ℕ) → degree v (add-edge g l r m 0) ≡ degree v g + m * names v l r
+degree-added v g l r m = weigh-add-edge (names v) (names-symmetric v) g l r m 0
+
+module _ (g : Graph) (l r m : ℕ) (apart : l ≡ r → ⊥) where
+  added-left : degree l (add-edge g l r m 0) ≡ degree l g + m
+  added-left = degree-added l g l r m ∙ rw (is-same l, is-ne {u = l} {v = r} apart) (omega arith)
+
+  added-right : degree r (add-edge g l r m 0) ≡ degree r g + m
+  added-right = degree-added r g l r m ∙ rw (is-same r, is-ne {u = r} {v = l} (λ e. apart (sym e))) (omega arith)
+
+  added-else : (v : ℕ) → (v ≡ l → ⊥) → (v ≡ r → ⊥) → degree v (add-edge g l r m 0) ≡ degree v g
+  added-else v a b = degree-added v g l r m ∙ rw (is-ne {u = v} {v = l} a, is-ne {u = v} {v = r} b) (omega arith)
+
+module _ (N : ℕ) (side : ℕ → ℕ) (D : ℕ) (start : Graph) where
+  -- a full party is passed, on the left or on the right
+  pub pass-left :
+      (g : Graph) (l : ℕ) (left right : List ℕ) → Evens N side D start (evening g (l ∷ left) right) → degree l g ≡ D →
+      Evens N side D start (evening g left right)
+  pass-left g l left right e d =
+      record {
+        sound = e .sound;
+        most = e .most;
+        kept = e .kept;
+        full = λ v h cl cr. passed D g l left d v (λ c. e .full v h c cr) cl;
+        lefts = e .lefts .1;
+        rights = e .rights;
+      }
+
+  pub pass-right :
+      (g : Graph) (r : ℕ) (left right : List ℕ) → Evens N side D start (evening g left (r ∷ right)) → degree r g ≡ D →
+      Evens N side D start (evening g left right)
+  pass-right g r left right e d =
+      record {
+        sound = e .sound;
+        most = e .most;
+        kept = e .kept;
+        full = λ v h cl cr. passed D g r right d v (λ c. e .full v h cl c) cr;
+        lefts = e .lefts;
+        rights = e .rights .1;
+      }
+
+  -- the smaller shortfall is added between two short parties
+  module _
+      (g : Graph) (l r : ℕ) (left right : List ℕ) (e : Evens N side D start (evening g (l ∷ left) (r ∷ right)))
+      (short-l : degree l g < D) (short-r : degree r g < D) where
+    abbrev pub m : ℕ
+    m = min (D - degree l g) (D - degree r g)
+
+    abbrev pub g' : Graph
+    g' = add-edge g l r m 0
+
+    ends-apart : l ≡ r → ⊥
+    ends-apart q = omega (arith, e .lefts .0 .1, e .rights .0 .1, ap side q)
+
+    some : 0 < m
+    some = shortfall-pos D (degree l g) (degree r g) short-l short-r
+
+    added-most : (v : ℕ) → v < N → degree v g' ≤ D
+    added-most v h =
+        elim (ℕ-discrete v l) [
+          | yes q ↦ rw q (omega (arith, added-left g l r m ends-apart, e .most l (e .lefts .0 .0)))
+          | no a ↦
+              elim (ℕ-discrete v r) [
+                | yes q ↦ rw q (omega (arith, added-right g l r m ends-apart, e .most r (e .rights .0 .0)))
+                | no b ↦ omega (arith, added-else g l r m ends-apart v a b, e .most v h)
+              ]
+        ]
+
+    added-kept : (u v : ℕ) → copies-between u v start ≤ copies-between u v g'
+    added-kept u v = omega (arith, weigh-add-edge (between u v) (between-symmetric u v) g l r m 0, e .kept u v)
+
+    added-full : (v : ℕ) → v < N → count v (l ∷ left) ≡ 0 → count v (r ∷ right) ≡ 0 → degree v g' ≡ D
+    unfolding count
+    added-full v h cl cr =
+        let a : v ≡ l → ⊥ = λ q. omega (arith, is-eq q) in
+        let b : v ≡ r → ⊥ = λ q. omega (arith, is-eq q) in
+        added-else g l r m ends-apart v a b ∙ e .full v h cl cr
+
+    pub fill : Evens N side D start (evening g' (l ∷ left) (r ∷ right))
+    fill =
+        record {
+          sound =
+              record {
+                across =
+                    across-add-edge N side g l r m 0 (e .sound .across)
+                    (record {
+                      first-below = e .lefts .0 .0;
+                      second-below = e .rights .0 .0;
+                      sides = omega (arith, e .lefts .0 .1, e .rights .0 .1);
+                    });
+                apart = apart-add-edge g l r m 0 (e .sound .apart);
+                positive = positive-add-edge g l r m 0 (e .sound .positive) some;
+              };
+          most = added-most;
+          kept = added-kept;
+          full = added-full;
+          lefts = e .lefts;
+          rights = e .rights;
+        }
+
+    -- then one of the two is full
+    pub filled : 1 ≤ max (is (degree l g') D) (is (degree r g') D)
+    filled =
+        rw (added-left g l r m ends-apart, added-right g l r m ends-apart)
+        (shortfall-fills D (degree l g) (degree r g) short-l short-r)

@@ -1,0 +1,10 @@
+pub mod Pairs
+pub mod Padding
+pub mod Shortfalls
+pub mod EvenSteps
+pub mod EvenOut
+pub mod GiveSlots
+pub mod GivenPartitionLaws
+pub mod Outcomes
+pub mod Demand3
+pub mod Frame

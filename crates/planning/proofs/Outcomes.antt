@@ -1,0 +1,82 @@
+-- What `bipartite_edge_color` comes to: a plan where no closed round is odd, `GraphNotBipartite` where one is, and never
+-- neither; such a plan is a shortest one; and so a call comes to one of three ends. Assumes nothing.
+use Prim.Native.Nat.{ℕ}
+use mathlib.Core.Path.{_≡_, refl, _∙_, ap}
+use mathlib.Core.List.{List}
+use mathlib.Core.Logic.{_⊎_, inl, inr, ⊎-elim}
+use Rattle.words.specs.Basics.{All, Run}
+use Rattle.words.proofs.Runs.{ran-is}
+use Rattle.appointments.specs.Appointments.{Appt, appts, largest-load}
+use Rattle.appointments.specs.Rounds.{Odd-round}
+use Rattle.appointments.specs.Checks.{Check, passed, refused, checks}
+use Rattle.appointments.proofs.Loads.{Listed}
+use Rattle.appointments.proofs.LowerBound.{lower-bound, different-is}
+use Rattle.appointments.proofs.Pigeonhole.{busiest-meets-once}
+use Rattle.appointments.proofs.ChecksLaws.{passed-passes}
+use Rattle.two_color.specs.TwoSides.{Found-sides}
+use Rattle.two_color.proofs.TwoColorLaws.{two-color-decides}
+use Rattle.planning.specs.GivenPartition.{bipartite-edge-color-given-partition}
+use Rattle.planning.specs.Planning.{plan, graph-not-bipartite, outcome, given-sides, bipartite-edge-color}
+use Rattle.planning.specs.Demand3.{Shortest-plan}
+use Rattle.planning.proofs.GivenPartitionLaws.{Proper-plan, given-partition-law}
+
+-- A plan without a clash whose slots are below D is a shortest plan: by the lower bound no other is shorter, and by the
+-- pigeonhole principle a busiest party meets each of its slots once.
+pub shortest-plan :
+    (P : ℕ) (xs : List Appt) (slots : List ℕ) → Proper-plan P xs slots → Shortest-plan P xs (largest-load P xs) slots
+shortest-plan P xs slots p =
+    record {
+      plan-of = p .plan-of;
+      below = p .below;
+      different-slots = different-is P xs slots (p .plan-of) (p .clash-free) (p .below);
+      largest = refl;
+      clash-free = p .clash-free;
+      shortest = λ other o free. lower-bound P xs other o free;
+      busiest = λ v b. busiest-meets-once P v xs slots b (p .plan-of) (p .clash-free) (p .below);
+    }
+
+-- a plan was found, and no closed round is odd
+pub record Found-plan (P : ℕ) (xs : List Appt) : Type 0 where
+  pub slots : List ℕ
+  pub found : bipartite-edge-color P xs ≡ plan slots
+  pub proper : Proper-plan P xs slots
+  pub none-odd : Odd-round xs → ⊥
+
+-- the list is not bipartite, and a closed round is odd
+pub record No-plan (P : ℕ) (xs : List Appt) : Type 0 where
+  pub found : bipartite-edge-color P xs ≡ graph-not-bipartite
+  pub odd : Odd-round xs
+
+-- One or the other.
+pub outcome-decides : (P : ℕ) (xs : List Appt) → All (Listed P) xs → Found-plan P xs ⊎ No-plan P xs
+unfolding bipartite-edge-color
+outcome-decides P xs listed =
+    ⊎-elim planned (λ r. inr (record { found = ap (given-sides P xs) (r .answer); odd = r .odd }))
+    (two-color-decides P xs listed)
+  where
+    planned : Found-sides P xs → Found-plan P xs ⊎ No-plan P xs
+    planned f =
+        let r : Run (List ℕ) = bipartite-edge-color-given-partition P xs (f .left) (f .right) in
+        let p = ran-is (Proper-plan P xs) r (given-partition-law P xs (f .side) (f .left) (f .right) listed (f .two-sides)) in
+        inl
+        (record {
+          slots = p .0;
+          found = ap (given-sides P xs) (f .answer) ∙ ap outcome (p .1);
+          proper = p .2;
+          none-odd = f .none-odd;
+        })
+
+-- What a call comes to: a check refuses; or the list passes and gets a plan; or it passes and is not bipartite.
+pub data Came (P : ℕ) (list : List ℕ) (slots scratch : ℕ) : Type 0 where
+  barred : (n i : ℕ) → checks P list slots scratch ≡ refused n i → Came P list slots scratch
+  found : checks P list slots scratch ≡ passed → Found-plan P (appts list) → Came P list slots scratch
+  odd : checks P list slots scratch ≡ passed → No-plan P (appts list) → Came P list slots scratch
+
+pub came : (P : ℕ) (list : List ℕ) (slots scratch : ℕ) → Came P list slots scratch
+came P list slots scratch = go (checks P list slots scratch) refl
+  where
+    go : (c : Check) → checks P list slots scratch ≡ c → Came P list slots scratch
+    go (refused n i) e = barred n i e
+    go passed e =
+        ⊎-elim (λ f. found e f) (λ f. odd e f)
+        (outcome-decides P (appts list) (passed-passes P list slots scratch e .good .listed))

@@ -1,0 +1,65 @@
+-- Worked examples of main, each computed to the byte: document 01's input, malformed lines of each kind, the order of 11, 10
+-- and 1, and lines that look odd and are read. A wrong definition is refused here. Assumes nothing.
+use Prim.Native.String.{String}
+use mathlib.Core.Path.{_≡_, refl}
+use lib.ListN.{replicate}
+use Rattle.text.specs.Ascii.{ascii}
+use Rattle.text.specs.Text.{text-output}
+use Rattle.text.specs.Computing.{computing}
+
+-- the input gives the output
+abbrev Prints : String → String → Type 0
+Prints given output = text-output (ascii given) ≡ ascii output
+
+-- document 01's example
+document-01 : Prints "3\n0,1\n1,2\n" "plan 2\n0 0 1 0\n1 1 2 1\nparty 0 1\nparty 1 0\nparty 2 1\n"
+unfolding computing
+document-01 = refl
+
+-- each kind of malformed line, by its number
+malformed-lines :
+    Prints "" "refused 10 1\n"
+    × Prints "3" "refused 10 1\n"
+    × Prints "\n" "refused 10 1\n"
+    × Prints "3\n0,1" "refused 10 2\n"
+    × Prints "3\n\n" "refused 10 2\n"
+    × Prints "3\n0\n" "refused 10 2\n"
+    × Prints "3\n0,1\n1,2\n\n0,1\n" "refused 10 4\n"
+    × Prints "3\n0, 1\n" "refused 10 2\n"
+    × Prints "3\r\n0,1\r\n" "refused 10 1\n"
+    × Prints "3\n0,1\r\n" "refused 10 2\n"
+    × Prints "3\n0,1,2\n" "refused 10 2\n"
+    × Prints "3\n0,000001\n" "refused 10 2\n"
+    × Prints "3\n65535,1\n" "refused 10 2\n"
+    × Prints "65535\n" "refused 10 1\n"
+    × Prints "3\n/,1\n" "refused 10 2\n"
+    × Prints "3\n0,:\n" "refused 10 2\n"
+unfolding computing
+malformed-lines = (refl, refl, refl, refl, refl, refl, refl, refl, refl, refl, refl, refl, refl, refl, refl, refl)
+
+-- 11 precedes 10, which precedes 1
+refusals-in-order :
+    (text-output (replicate 4097 0) ≡ ascii "refused 11 0\n")
+    × (text-output (replicate 4096 0) ≡ ascii "refused 10 1\n")
+    × Prints "1025\n0,1,2\n" "refused 10 2\n"
+    × Prints "1025\n0,\n" "refused 1 0\n"
+unfolding computing
+refusals-in-order = (refl, refl, refl, refl)
+
+-- what the planning call refuses: an empty end is blank, and 65,534 is a number
+planning-refuses :
+    Prints "2\n0,1\n,1\n" "refused 4 1\n"
+    × Prints "2\n,\n" "refused 4 0\n"
+    × Prints "2\n0,1\n0,65534\n" "refused 5 1\n"
+    × Prints "129\n" "refused 8 0\n"
+    × Prints "1\n0,0\n" "refused 9 0\n"
+unfolding computing
+planning-refuses = (refl, refl, refl, refl, refl)
+
+-- leading zeros are read, and no parties are fine
+odd-looking :
+    Prints "00002\n00000,1\n" "plan 1\n0 0 1 0\nparty 0 0\nparty 1 0\n"
+    × Prints "0\n" "plan 0\n"
+    × Prints "2\n" "plan 0\nparty 0 0\nparty 1 0\n"
+unfolding computing
+odd-looking = (refl, refl, refl)

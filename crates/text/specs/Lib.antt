@@ -1,0 +1,6 @@
+pub mod Ascii
+pub mod Reading
+pub mod Printing
+pub mod Text
+pub mod Computing
+pub mod Examples

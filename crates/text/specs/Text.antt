@@ -1,0 +1,37 @@
+-- Main as one function from input bytes to output bytes. Assumes nothing.
+use Prim.Native.Nat.{ℕ}
+use mathlib.Core.List.{List}
+use lib.Dec.{ltb}
+use lib.ListN.{length, replicate}
+use Rattle.words.specs.Basics.{pick}
+use Rattle.planning.specs.Planning.{Answer, planned, refusal, plan-answer, plan-slots}
+use Rattle.text.specs.Reading.{Input, input, malformed, read-text}
+use Rattle.text.specs.Printing.{Report, plan, refused, printed, plan-lines, refusal-line}
+
+-- Main lends 4,096 slot entries and 16,384 scratch words.
+abbrev pub lent-slots : List ℕ
+lent-slots = replicate 4096 0
+
+abbrev pub lent-scratch : List ℕ
+lent-scratch = replicate 16384 0
+
+abbrev pub planned-report : ℕ → List ℕ → Answer → List ℕ → Report
+planned-report P list (planned D) slots = plan P list D slots
+planned-report P list (refusal number place) slots = refused number place
+
+-- what the planning call says of the input
+abbrev pub input-report : Input → Report
+input-report (input P list) =
+    planned-report P list (plan-answer P list lent-slots lent-scratch) (plan-slots P list lent-slots lent-scratch)
+input-report (malformed n) = refused 10 n
+
+-- 11 precedes 10, which precedes 1.
+unfoldable pub report : List ℕ → Report
+unfolding read-text
+report bytes =
+    let read = input-report (read-text bytes) in
+    pick (ltb 4096 (length bytes)) (refused 11 0) read
+
+unfoldable pub text-output : List ℕ → List ℕ
+unfolding report plan-lines refusal-line
+text-output bytes = printed (report bytes)

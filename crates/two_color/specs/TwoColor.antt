@@ -1,0 +1,89 @@
+-- Module 2 of document 01, `two_color` of coloring.rs, on a list of appointments. Assumes nothing.
+use Prim.Native.Nat.{ℕ, zero, suc, _-_}
+use mathlib.Core.Bool.{Bool, true, false}
+use mathlib.Core.List.{List, [], _∷_, _++_, reverse}
+use lib.Dec.{eqb}
+use Rattle.words.specs.Basics.{pick, iterate}
+use Rattle.appointments.specs.Appointments.{Appt}
+
+-- A party with its colour: 0 is left, 1 is right.
+pub record Mark : Type 0 where
+  pub party : ℕ
+  pub colour : ℕ
+
+abbrev pub mark : ℕ → ℕ → Mark
+mark v c = record { party = v; colour = c }
+
+-- the colour of a party, and 2 for a party that has none yet
+unfoldable pub colour-of : ℕ → List Mark → ℕ
+colour-of v [] = 2
+colour-of v (m ∷ ms) = pick (eqb v (m .party)) (m .colour) (colour-of v ms)
+
+-- the other ends of a party's appointments: of those where it is first end, or where it is second end
+unfoldable pub second-ends : ℕ → List Appt → List ℕ
+second-ends v [] = []
+second-ends v (x ∷ xs) = let rest = second-ends v xs in pick (eqb v (x .first)) (x .second ∷ rest) rest
+
+unfoldable pub first-ends : ℕ → List Appt → List ℕ
+first-ends v [] = []
+first-ends v (x ∷ xs) = let rest = first-ends v xs in pick (eqb v (x .second)) (x .first ∷ rest) rest
+
+-- The neighbours of a party, taken over single appointments: those where it is first end come newest first, then those
+-- where it is second end, newest first.
+unfoldable pub neighbours : ℕ → List Appt → List ℕ
+neighbours v xs = second-ends v (reverse xs) ++ first-ends v (reverse xs)
+
+-- What the search has come to: the parties coloured so far, newest first, and the stack, its last party first; or refused,
+-- since two neighbours have one colour.
+pub data Search : Type 0 where
+  going : List Mark → List ℕ → Search
+  refused : Search
+
+-- A neighbour w of a party of colour c: it refuses if it has that colour, gets the other and is pushed if it has none.
+unfoldable pub touch : ℕ → ℕ → Search → Search
+touch c w refused = refused
+touch c w (going marks stack) =
+    pick (eqb (colour-of w marks) c) refused
+    (pick (eqb (colour-of w marks) 2) (going (mark w (1 - c) ∷ marks) (w ∷ stack)) (going marks stack))
+
+unfoldable pub touch-all : ℕ → List ℕ → Search → Search
+touch-all c [] s = s
+touch-all c (w ∷ ws) s = touch-all c ws (touch c w s)
+
+-- The last party on the stack comes off, and its neighbours are looked at. With an empty stack nothing happens.
+unfoldable pub pop : List Appt → Search → Search
+pop xs refused = refused
+pop xs (going marks []) = going marks []
+pop xs (going marks (v ∷ stack)) = touch-all (colour-of v marks) (neighbours v xs) (going marks stack)
+
+-- A party that is still uncoloured gets 1 and goes on the stack, which is then worked off. No more parties come off than
+-- there are, so P steps suffice (a law).
+unfoldable pub start : ℕ → List Appt → ℕ → Search → Search
+start P xs v refused = refused
+start P xs v (going marks stack) =
+    pick (eqb (colour-of v marks) 2) (iterate P (pop xs) (going (mark v 1 ∷ marks) (v ∷ stack))) (going marks stack)
+
+-- the parties below v, in number order
+unfoldable pub search-below : ℕ → List Appt → ℕ → Search
+search-below P xs zero = going [] []
+search-below P xs (suc v) = start P xs v (search-below P xs v)
+
+-- the parties of a colour, in order of first colouring
+unfoldable pub side : ℕ → List Mark → List ℕ
+side c [] = []
+side c (m ∷ ms) = let earlier = side c ms in pick (eqb c (m .colour)) (earlier ++ (m .party ∷ [])) earlier
+
+-- The answer: the left and the right side, each in order of first colouring; not bipartite; or (which a law rules out)
+-- the steps didn't suffice.
+pub data Sides : Type 0 where
+  sides : List ℕ → List ℕ → Sides
+  not-bipartite : Sides
+  unfinished : Sides
+
+abbrev pub sides-of : Search → Sides
+sides-of (going marks []) = sides (side 0 marks) (side 1 marks)
+sides-of (going marks (v ∷ stack)) = unfinished
+sides-of refused = not-bipartite
+
+unfoldable pub two-color : ℕ → List Appt → Sides
+two-color P xs = sides-of (search-below P xs P)

@@ -1,0 +1,26 @@
+-- Clearing from the front, one word at a time. Assumes nothing.
+use Prim.Native.Nat.{ℕ, zero, suc, _+_, _<_, _≤_}
+use mathlib.Core.Path.{_≡_, refl, sym, _∙_, ap}
+use mathlib.Core.List.{List, [], _∷_, _++_}
+use native.Mathlib.Omega.{arith}
+use native.Mathlib.Numerals.{add-one}
+use lib.ListN.{length, getD, set, drop, replicate, length-replicate, length-append, length-drop}
+use lib.Seq.{drop-cons, set-at}
+
+-- the first i words 0, the others as they were
+abbrev pub cleared : ℕ → List ℕ → List ℕ
+cleared i s = replicate i 0 ++ drop i s
+
+shift : (i : ℕ) (t : List ℕ) → replicate i 0 ++ 0 ∷ t ≡ replicate (suc i) 0 ++ t
+shift zero t = refl
+shift (suc i) t = ap (λ l. 0 ∷ l) (shift i t)
+
+pub cleared-more : (i : ℕ) (s : List ℕ) → i < length s → set (cleared i s) i 0 ≡ cleared (i + 1) s
+cleared-more i s h =
+    ap (λ l. set (replicate i 0 ++ l) i 0) (drop-cons s i 0 h)
+    ∙ set-at (replicate i 0) (getD s i 0) (drop (suc i) s) 0 i (length-replicate i 0)
+    ∙ shift i (drop (suc i) s)
+    ∙ ap (λ n. replicate n 0 ++ drop n s) (sym (add-one i))
+
+pub length-cleared : (i : ℕ) (s : List ℕ) → i ≤ length s → length (cleared i s) ≡ length s
+length-cleared i s h = simp (length-append, length-replicate, length-drop) (omega arith)

@@ -1,0 +1,5 @@
+pub mod Bools
+pub mod Sums
+pub mod Runs
+pub mod Clearing
+pub mod Frames

@@ -1,0 +1,7 @@
+-- Opens every definition of this crate and of those below it: an example that is computed says `unfolding computing`.
+-- Assumes nothing.
+use Rattle.words.specs.Basics.{is, total, count, iterate, sum-below}
+
+unfoldable pub computing : Unit {0}
+unfolding is total count iterate sum-below
+computing = tt

@@ -1,0 +1,4 @@
+pub mod Basics
+pub mod Words
+pub mod Frames
+pub mod Computing

@@ -1,0 +1,17 @@
+-- Words in a list that stands for a lent slice: read as 0 past the end, written only inside, numbers cut to the word's width.
+-- Assumes nothing.
+use Prim.Native.Nat.{ℕ, _%_}
+use mathlib.Core.List.{List}
+use lib.ListN.{getD, set}
+
+-- the word at i, and 0 past the end
+abbrev pub word : List ℕ → ℕ → ℕ
+word s i = getD s i 0
+
+-- x, cut to 32 bits, put at i; past the end nothing happens
+abbrev pub put-word : List ℕ → ℕ → ℕ → List ℕ
+put-word s i x = set s i (x % 4294967296)
+
+-- x, cut to 16 bits, put at i; past the end nothing happens
+abbrev pub put-half-word : List ℕ → ℕ → ℕ → List ℕ
+put-half-word s i x = set s i (x % 65536)

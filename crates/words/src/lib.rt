@@ -1,0 +1,58 @@
+// Words in lent slices: reading and writing that is total, and clearing. Everything above stands on these.
+ghost use mathlib.Core.Path.{_≡_};
+ghost use mathlib.Core.List.{_++_};
+ghost use Prim.Native.Nat.{ℕ, _+_, _<_, _≤_};
+ghost use lib.ListN.{length, replicate, drop};
+ghost use Rattle.words.specs.Words.{word, «put-word», «put-half-word»};
+
+// The word at `i`, and 0 past the end.
+pub fn get(s: &[u32], i: usize) -> usize
+    ensures { λ r. ⌜ (r ≡ word (now (s .entry)) i) × (r < 4294967296) ⌝ }
+{
+    if i < s.len() {
+        let x = s[i];
+        return x as usize;
+    }
+    0
+}
+
+// Puts `x`, cut to 32 bits, at `i`; past the end nothing happens.
+pub fn put(s: &mut [u32], i: usize, x: usize)
+    ensures { λ r. ⌜ now (s .exit) ≡ put-word (now (s .entry)) i x ⌝ }
+{
+    if i < s.len() {
+        s[i] = (x % 4294967296) as u32;
+    }
+}
+
+// The 16-bit word at `i`, and 0 past the end.
+pub fn get16(s: &[u16], i: usize) -> usize
+    ensures { λ r. ⌜ (r ≡ word (now (s .entry)) i) × (r < 65536) ⌝ }
+{
+    if i < s.len() {
+        let x = s[i];
+        return x as usize;
+    }
+    0
+}
+
+// Puts `x`, cut to 16 bits, at `i`; past the end nothing happens.
+pub fn put16(s: &mut [u16], i: usize, x: usize)
+    ensures { λ r. ⌜ now (s .exit) ≡ put-half-word (now (s .entry)) i x ⌝ }
+{
+    if i < s.len() {
+        s[i] = (x % 65536) as u16;
+    }
+}
+
+// Sets the first `n` words to 0.
+pub fn clear(s: &mut [u32], n: usize)
+    requires { do ⌜ n ≤ (← ⟦s.len()⟧) ⌝ }
+    ensures { λ r. ⌜ now (s .exit) ≡ replicate n 0 ++ drop n (now (s .entry)) ⌝ }
+{
+    let mut i = 0;
+    while i < n {
+        s[i] = 0;
+        i += 1;
+    }
+}

@@ -1,0 +1,53 @@
+//! Makes the two texts that are compiled but not stored: `two_color` cut out of coloring.rs, and bipartite_coloring.rs with
+//! the second search of document 01 (second-search.diff).
+
+use std::path::{Path, PathBuf};
+use std::process::Command;
+use std::{env, fs};
+
+const SOURCES: &str = "../docs/src/rustworkx-core/src";
+
+/// The use lines of coloring.rs that `two_color` needs, by how they begin.
+const NEEDED_USES: [&str; 4] =
+    ["use std::hash::Hash;", "use crate::dictmap::*;", "use petgraph::visit::{", "use petgraph::{"];
+
+fn main() {
+    let out = PathBuf::from(env::var_os("OUT_DIR").expect("cargo sets OUT_DIR"));
+    let coloring = Path::new(SOURCES).join("coloring.rs");
+    let bipartite = Path::new(SOURCES).join("bipartite_coloring.rs");
+    for input in [&coloring, &bipartite, &PathBuf::from("second-search.diff"), &PathBuf::from("build.rs")] {
+        println!("cargo:rerun-if-changed={}", input.display());
+    }
+
+    let text = fs::read_to_string(&coloring).expect("docs/src holds coloring.rs");
+    fs::write(out.join("coloring.rs"), cut_two_color(&text)).expect("the build folder can be written");
+
+    let status = Command::new("patch")
+        .args(["--fuzz=0", "--quiet", "--output"])
+        .arg(out.join("second_search.rs"))
+        .arg(&bipartite)
+        .arg("second-search.diff")
+        .status()
+        .expect("patch can be run");
+    assert!(status.success(), "second-search.diff no longer fits bipartite_coloring.rs");
+}
+
+/// The licence note, the needed use lines, and `two_color` with its comment; every line as it stands in the file.
+fn cut_two_color(text: &str) -> String {
+    let lines: Vec<&str> = text.lines().collect();
+    let mut kept: Vec<&str> = lines.iter().copied().take_while(|line| line.starts_with("//")).collect();
+    for needed in NEEDED_USES {
+        let from = find(&lines, 0, |line| line.starts_with(needed));
+        let to = find(&lines, from, |line| line.ends_with(';'));
+        kept.extend(&lines[from..=to]);
+    }
+    let header = find(&lines, 0, |line| line.starts_with("pub fn two_color<G>"));
+    let comment = (0..header).rev().take_while(|&at| lines[at].starts_with("///")).last().unwrap_or(header);
+    let end = find(&lines, header, |line| line == "}");
+    kept.extend(&lines[comment..=end]);
+    kept.join("\n") + "\n"
+}
+
+fn find(lines: &[&str], from: usize, matches: impl Fn(&str) -> bool) -> usize {
+    (from..lines.len()).find(|&at| matches(lines[at])).expect("coloring.rs holds two_color as it is known")
+}

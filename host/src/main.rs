@@ -1,0 +1,101 @@
+//! Runs rustworkx-core's `bipartite_edge_color` on lists of appointments, makes random lists, and has the definitions
+//! computed on lists with the Rust's fresh answers.
+
+mod definitions;
+mod format;
+mod list;
+mod lists;
+mod random;
+mod reference;
+
+// The Rust as published, which no formatter may touch.
+#[path = "../../docs/src/rustworkx-core/src/bipartite_coloring.rs"]
+#[rustfmt::skip]
+mod bipartite_coloring;
+#[path = "../../docs/src/rustworkx-core/src/dictmap.rs"]
+#[rustfmt::skip]
+mod dictmap;
+
+/// `two_color`, as the build cuts it out of coloring.rs.
+#[allow(unused_imports)]
+mod coloring {
+    include!(concat!(env!("OUT_DIR"), "/coloring.rs"));
+}
+
+/// bipartite_coloring.rs with second-search.diff applied.
+mod second_search {
+    include!(concat!(env!("OUT_DIR"), "/second_search.rs"));
+}
+
+use list::{MOST_APPOINTMENTS, MOST_PARTIES};
+use lists::Lists;
+use std::io::{self, BufRead, Write};
+use std::process::ExitCode;
+
+const USAGE: &str = "\
+bimtsure-host answer [--second] [--panics]
+    read lists, one to a line as `P first-second first-second ..`, and print what the Rust answers to each:
+    `planned D s0 s1 ..`, `refused 9`, `panic`, or `refused N PLACE` by checks 1 to 6
+    --second    the Rust with document 01's second search
+    --panics    print the message of each panic, to standard error
+bimtsure-host lists COUNT SEED [MOST]
+    print COUNT random lists of at most MOST appointments (if not given, 4096), which SEED decides
+bimtsure-host definitions [COUNT [SEED]]
+    have the definitions computed on COUNT random lists (if not given, 240), which SEED (1) decides, and compare with
+    fresh answers of the Rust; from the repository's root";
+
+fn main() -> ExitCode {
+    let words: Vec<String> = std::env::args().skip(1).collect();
+    let words: Vec<&str> = words.iter().map(String::as_str).collect();
+    let done = match words.as_slice() {
+        ["answer", options @ ..] => answer(options),
+        ["lists", count, seed] => print_lists(count, seed, MOST_APPOINTMENTS),
+        ["lists", count, seed, most] => number(most).and_then(|most| print_lists(count, seed, most)),
+        ["definitions"] => definitions::check(240, 1),
+        ["definitions", count] => number(count).and_then(|count| definitions::check(count, 1)),
+        ["definitions", count, seed] => number(count).and_then(|count| definitions::check(count, number(seed)? as u64)),
+        _ => Err(USAGE.to_string()),
+    };
+    match done {
+        Ok(()) => ExitCode::SUCCESS,
+        Err(message) => {
+            eprintln!("{message}");
+            ExitCode::FAILURE
+        }
+    }
+}
+
+fn number(text: &str) -> Result<usize, String> {
+    text.parse().map_err(|_| format!("{text} is no number\n{USAGE}"))
+}
+
+fn answer(options: &[&str]) -> Result<(), String> {
+    if options.iter().any(|option| !["--second", "--panics"].contains(option)) {
+        return Err(USAGE.to_string());
+    }
+    if !options.contains(&"--panics") {
+        reference::silence_panics();
+    }
+    let run = if options.contains(&"--second") { reference::with_second_search } else { reference::published };
+    let mut out = io::BufWriter::new(io::stdout().lock());
+    for (at, line) in io::stdin().lock().lines().enumerate() {
+        let line = line.map_err(|error| error.to_string())?;
+        let list = format::read_list(&line).map_err(|error| format!("line {}: {error}", at + 1))?;
+        let text = match list.check() {
+            Ok(largest_load) => format::write_outcome(largest_load, &run(&list)),
+            Err(refusal) => format::write_refusal(refusal),
+        };
+        writeln!(out, "{text}").map_err(|error| error.to_string())?;
+    }
+    out.flush().map_err(|error| error.to_string())
+}
+
+fn print_lists(count: &str, seed: &str, most: usize) -> Result<(), String> {
+    let count = number(count)?;
+    let mut lists = Lists::new(number(seed)? as u64, most, MOST_PARTIES);
+    let mut out = io::BufWriter::new(io::stdout().lock());
+    for _ in 0..count {
+        writeln!(out, "{}", format::write_list(&lists.any())).map_err(|error| error.to_string())?;
+    }
+    out.flush().map_err(|error| error.to_string())
+}

@@ -1,0 +1,66 @@
+//! Runs the Rust on a list that has passed checks 1 to 6: as published, or with document 01's second search.
+
+use crate::dictmap::DictMap;
+use crate::list::List;
+use crate::{bipartite_coloring, second_search};
+use petgraph::graph::{EdgeIndex, NodeIndex, UnGraph};
+use std::panic;
+use std::sync::atomic::{AtomicBool, Ordering};
+
+static IN_THE_RUST: AtomicBool = AtomicBool::new(false);
+
+#[derive(Clone, Debug, PartialEq, Eq)]
+pub enum Outcome {
+    /// a slot for each appointment
+    Planned(Vec<usize>),
+    /// `GraphNotBipartite`
+    NotBipartite,
+    Panicked,
+}
+
+/// The reference of document 01: an undirected graph with P nodes and the appointments added in list order.
+fn graph_of(list: &List) -> UnGraph<(), ()> {
+    let mut graph = UnGraph::default();
+    for _ in 0..list.parties {
+        graph.add_node(());
+    }
+    for (first, second) in list.appointments() {
+        graph.add_edge(NodeIndex::new(first.into()), NodeIndex::new(second.into()), ());
+    }
+    graph
+}
+
+/// bipartite_coloring.rs as it stands in docs/src.
+pub fn published(list: &List) -> Outcome {
+    let graph = graph_of(list);
+    outcome(list, || bipartite_coloring::bipartite_edge_color(&graph).ok())
+}
+
+/// The same with second-search.diff applied.
+pub fn with_second_search(list: &List) -> Outcome {
+    let graph = graph_of(list);
+    outcome(list, || second_search::bipartite_edge_color(&graph).ok())
+}
+
+fn outcome(list: &List, color: impl FnOnce() -> Option<DictMap<EdgeIndex, usize>>) -> Outcome {
+    IN_THE_RUST.store(true, Ordering::Relaxed);
+    let result = panic::catch_unwind(panic::AssertUnwindSafe(color));
+    IN_THE_RUST.store(false, Ordering::Relaxed);
+    match result {
+        Ok(Some(colors)) => {
+            Outcome::Planned((0..list.count()).map(|position| colors[&EdgeIndex::new(position)]).collect())
+        }
+        Ok(None) => Outcome::NotBipartite,
+        Err(_) => Outcome::Panicked,
+    }
+}
+
+/// Keeps the panics of the Rust, which are answers here, from being printed. Any other is printed as usual.
+pub fn silence_panics() {
+    let usual = panic::take_hook();
+    panic::set_hook(Box::new(move |info| {
+        if !IN_THE_RUST.load(Ordering::Relaxed) {
+            usual(info);
+        }
+    }));
+}
