@@ -22,11 +22,13 @@ use Rattle.edge_color.specs.EdgeColor.{rbmg-edge-color}
 use Rattle.edge_color.specs.Coloured.{Colours}
 use Rattle.edge_color.proofs.ColorLaws.{color-law}
 use Rattle.matching.specs.Perfect.{Perfect}
-use Rattle.planning.specs.GivenPartition.{add-appointments, padded, even-out, give-slots, bipartite-edge-color-given-partition}
-use Rattle.planning.proofs.Pairs.{degree-load, copies-appts, sound-list}
-use Rattle.planning.proofs.Padding.{padded-side, even-length, even-parties, padded-partition, padded-crosses}
-use Rattle.planning.proofs.EvenOut.{Evened, even-out-law}
-use Rattle.planning.proofs.GiveSlots.{Slots-given, give-slots-law}
+use Rattle.evening.specs.Evening.{add-appointments, padded, even-out}
+use Rattle.slots.specs.Slots.{give-slots}
+use Rattle.planning.specs.GivenPartition.{bipartite-edge-color-given-partition}
+use Rattle.evening.proofs.Pairs.{degree-load, copies-appts, sound-list}
+use Rattle.evening.proofs.Padding.{padded-side, even-length, even-parties, padded-partition, padded-crosses}
+use Rattle.evening.proofs.EvenOut.{Evened, even-out-law}
+use Rattle.slots.proofs.GiveSlots.{Slots-given, give-slots-law}
 
 -- a plan of the list with slots below D and without a clash
 pub record Proper-plan (P : ℕ) (xs : List Appt) (plan : List ℕ) : Type 0 where

@@ -1,9 +1,3 @@
-pub mod Pairs
-pub mod Padding
-pub mod Shortfalls
-pub mod EvenSteps
-pub mod EvenOut
-pub mod GiveSlots
 pub mod GivenPartitionLaws
 pub mod Outcomes
 pub mod Demand3

@@ -14,7 +14,7 @@ use Rattle.multigraph.specs.Regular.{names, degree, between, copies-between}
 use Rattle.multigraph.proofs.Ends.{names-symmetric, between-symmetric}
 use Rattle.multigraph.proofs.Adding.{weigh-add-edge, across-add-edge, positive-add-edge, apart-add-edge}
 use Rattle.multigraph.proofs.Matchings.{Sound}
-use Rattle.planning.specs.GivenPartition.{Evening, evening}
+use Rattle.evening.specs.Evening.{Evening, evening}
 
 -- What holds at every step: D bounds all degrees, no copy of the graph at the start is gone, the parties that have been
 -- passed are full, and those still to be filled are on their sides.

@@ -14,9 +14,9 @@ use Rattle.words.proofs.Runs.{iterate-keeps, iterate-ends}
 use Rattle.multigraph.specs.Multigraph.{Graph}
 use Rattle.multigraph.specs.Regular.{degree, copies-between, Partition, Regular, Positive}
 use Rattle.multigraph.proofs.Matchings.{Sound}
-use Rattle.planning.specs.GivenPartition.{Evening, evening, even-out-pair, even-out-next, even-out-step, evened, even-out}
-use Rattle.planning.proofs.Shortfalls.{off-side, side-counts, short, both-full, shorts-same}
-use Rattle.planning.proofs.EvenSteps.{Evens, steps, steps-le, pass-left-less, pass-right-less, fill-less, pass-left, pass-right, g', fill, filled}
+use Rattle.evening.specs.Evening.{Evening, evening, even-out-pair, even-out-next, even-out-step, evened, even-out}
+use Rattle.evening.proofs.Shortfalls.{off-side, side-counts, short, both-full, shorts-same}
+use Rattle.evening.proofs.EvenSteps.{Evens, steps, steps-le, pass-left-less, pass-right-less, fill-less, pass-left, pass-right, g', fill, filled}
 
 -- What evening out gives.
 pub record Evened (N : ℕ) (side : ℕ → ℕ) (D : ℕ) (start g : Graph) : Type 0 where

@@ -13,7 +13,7 @@ use Rattle.multigraph.proofs.Ends.{names-symmetric, between-symmetric}
 use Rattle.multigraph.proofs.Weights.{weigh-none}
 use Rattle.multigraph.proofs.Adding.{weigh-add-edge, across-add-edge, positive-add-edge, apart-add-edge}
 use Rattle.multigraph.proofs.Matchings.{Sound}
-use Rattle.planning.specs.GivenPartition.{add-appointments}
+use Rattle.evening.specs.Evening.{add-appointments}
 
 -- the appointments of a list, each weighed by its ends
 unfoldable pub weigh-appts : (ℕ → ℕ → ℕ) → List Appt → ℕ

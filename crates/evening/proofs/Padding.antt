@@ -14,8 +14,8 @@ use Rattle.appointments.specs.Appointments.{Appt}
 use Rattle.appointments.proofs.Loads.{Listed}
 use Rattle.two_color.specs.TwoSides.{Two-sides}
 use Rattle.multigraph.specs.Regular.{Partition}
-use Rattle.planning.specs.GivenPartition.{new-parties, padded}
-use Rattle.planning.proofs.Pairs.{Crosses}
+use Rattle.evening.specs.Evening.{new-parties, padded}
+use Rattle.evening.proofs.Pairs.{Crosses}
 
 -- ── new parties ──
 

@@ -1,0 +1,3 @@
+pub mod Evening
+pub mod Computing
+pub mod Examples
