@@ -4,4 +4,10 @@ pub mod FiledLaws
 pub mod RoundTrip
 pub mod ViewerLaws
 pub mod ViewerSteps
+pub mod Searching
+pub mod Filling
+pub mod ByIndex
+pub mod WritingSteps
+pub mod ReadingSteps
 pub mod WaitingLaws
+pub mod WaitingSteps

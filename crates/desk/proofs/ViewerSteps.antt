@@ -63,11 +63,11 @@ module _ (party : ℕ) (slots : List ℕ) where
 
 module _ (party : ℕ) (list slots : List ℕ) where
   -- one step, by the first position found, and where the viewer then stands
-  step-found : (from i : ℕ) → first-from from (named party) (drop from (appts list)) ≡ at i → view-step party list slots from ≡ found (seen slots i)
+  pub step-found : (from i : ℕ) → first-from from (named party) (drop from (appts list)) ≡ at i → view-step party list slots from ≡ found (seen slots i)
   unfolding view-step
   step-found from i e = rw e
 
-  step-end : (from : ℕ) → first-from from (named party) (drop from (appts list)) ≡ nowhere → view-step party list slots from ≡ end
+  pub step-end : (from : ℕ) → first-from from (named party) (drop from (appts list)) ≡ nowhere → view-step party list slots from ≡ end
   unfolding view-step
   step-end from e = rw e
 

@@ -10,10 +10,7 @@ use Rattle.words.specs.Basics.{pick, is}
 use Rattle.words.proofs.Bools.{either, never-true}
 use Rattle.multigraph.specs.Multigraph.{Pair, pair, joins}
 use Rattle.multigraph.specs.Regular.{names, between, Symmetric}
-
--- the pair's ends are a and b, one way round or the other
-abbrev pub Same-ends : ℕ → ℕ → ℕ → ℕ → Type 0
-Same-ends a b c d = ((c ≡ a) × (d ≡ b)) ⊎ ((c ≡ b) × (d ≡ a))
+pub use Rattle.multigraph.specs.Regular.{Same-ends}
 
 both-true : (t u : Bool) → (t && u) ≡ true → (t ≡ true) × (u ≡ true)
 both-true true u e = (refl, e)

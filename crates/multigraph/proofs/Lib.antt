@@ -4,3 +4,13 @@ pub mod Adding
 pub mod Removing
 pub mod Matchings
 pub mod Sizes
+pub mod Spans
+pub mod Numbers
+pub mod Kept
+pub mod Mapping
+pub mod AddingWords
+pub mod MatchingWords
+pub mod Without
+pub mod RemovingWords
+pub mod SmallWords
+pub mod Parts

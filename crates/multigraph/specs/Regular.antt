@@ -3,6 +3,7 @@
 use Prim.Native.Nat.{ℕ, zero, suc, _+_, _*_, _<_, _≤_}
 use mathlib.Core.Path.{_≡_}
 use mathlib.Core.List.{List, [], _∷_}
+use mathlib.Core.Logic.{_⊎_}
 use lib.ListN.{length}
 use Rattle.words.specs.Basics.{pick, is, total, count, All}
 use Rattle.multigraph.specs.Multigraph.{Pair, Graph, joins}
@@ -22,6 +23,10 @@ degree v g = weigh (names v) g
 -- 1 where a copy with ends a and b joins u and v, either way round
 unfoldable pub between : ℕ → ℕ → ℕ → ℕ → ℕ
 between u v a b = pick (joins u v (record { first = a; second = b; copies = 0; bad = 0 })) 1 0
+
+-- the ends c and d are a and b, one way round or the other
+abbrev pub Same-ends : ℕ → ℕ → ℕ → ℕ → Type 0
+Same-ends a b c d = ((c ≡ a) × (d ≡ b)) ⊎ ((c ≡ b) × (d ≡ a))
 
 -- how many copies join u and v
 abbrev pub copies-between : ℕ → ℕ → Graph → ℕ

@@ -5,3 +5,12 @@ pub mod Marks
 pub mod Search
 pub mod Starts
 pub mod TwoColorLaws
+pub mod ModelLaws
+pub mod Turns
+pub mod Held
+pub mod Showing
+pub mod Stepping
+pub mod Backwards
+pub mod Filling
+pub mod Beginning
+pub mod Finishing

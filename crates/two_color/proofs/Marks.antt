@@ -38,11 +38,11 @@ Marked P (m ∷ ms) = (m .party < P) × (m .colour ≤ 1) × (colour-of (m .part
 
 -- ── the sides read off the marks ──
 
-side-same : (c : ℕ) (m : Mark) (ms : List Mark) → c ≡ m .colour → side c (m ∷ ms) ≡ side c ms ++ (m .party ∷ [])
+pub side-same : (c : ℕ) (m : Mark) (ms : List Mark) → c ≡ m .colour → side c (m ∷ ms) ≡ side c ms ++ (m .party ∷ [])
 unfolding side
 side-same c m ms e = rw (eq-eqb c (m .colour) e)
 
-side-other : (c : ℕ) (m : Mark) (ms : List Mark) → (c ≡ m .colour → ⊥) → side c (m ∷ ms) ≡ side c ms
+pub side-other : (c : ℕ) (m : Mark) (ms : List Mark) → (c ≡ m .colour → ⊥) → side c (m ∷ ms) ≡ side c ms
 unfolding side
 side-other c m ms n = rw (ne-eqb c (m .colour) n)
 

@@ -26,15 +26,15 @@ all-kept Q false w rest h = (λ e. never-true e, h)
 -- ── the other ends of a party's appointments ──
 
 -- `ends` gives the far ends of the appointments whose near end is v
-record Far-ends (v : ℕ) (near far : Appt → ℕ) (ends : List Appt → List ℕ) : Type 0 where
-  none : ends [] ≡ []
-  more : (x : Appt) (xs : List Appt) → ends (x ∷ xs) ≡ pick (eqb v (near x)) (far x ∷ ends xs) (ends xs)
+pub record Far-ends (v : ℕ) (near far : Appt → ℕ) (ends : List Appt → List ℕ) : Type 0 where
+  pub none : ends [] ≡ []
+  pub more : (x : Appt) (xs : List Appt) → ends (x ∷ xs) ≡ pick (eqb v (near x)) (far x ∷ ends xs) (ends xs)
 
-seconds : (v : ℕ) → Far-ends v (λ x. x .first) (λ x. x .second) (second-ends v)
+pub seconds : (v : ℕ) → Far-ends v (λ x. x .first) (λ x. x .second) (second-ends v)
 unfolding second-ends
 seconds v = record { none = refl; more = λ x xs. refl }
 
-firsts : (v : ℕ) → Far-ends v (λ x. x .second) (λ x. x .first) (first-ends v)
+pub firsts : (v : ℕ) → Far-ends v (λ x. x .second) (λ x. x .first) (first-ends v)
 unfolding first-ends
 firsts v = record { none = refl; more = λ x xs. refl }
 

@@ -205,7 +205,7 @@ module _ (P : ℕ) (xs : List Appt) (s : ℕ) (listed : All (Listed P) xs) where
           (λ c. inl (record { listed = omega (arith, k .listed, c .1); reached = k .reached }))
           (is-cases u v)
 
-  neighbours-below : (v : ℕ) → All (λ w. Joined xs v w × (w < P)) (neighbours v xs)
+  pub neighbours-below : (v : ℕ) → All (λ w. Joined xs v w × (w < P)) (neighbours v xs)
   neighbours-below v = all-neighbours _ v xs (λ w j. (j, all-joined (λ u x. x < P) xs (all-map (λ x k. (k .1, k .0)) xs listed) v w j))
 
   -- One party off: the search stays sound, and there is less to come.

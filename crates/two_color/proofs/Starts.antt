@@ -38,7 +38,7 @@ Ended P xs k refused = Odd-round xs
 
 module _ (P : ℕ) (xs : List Appt) (listed : All (Listed P) xs) where
   -- nobody waits any more
-  rested : (s : ℕ) (ms : List Mark) → Going P xs s ms [] → Settled-below P xs (suc s) ms
+  pub rested : (s : ℕ) (ms : List Mark) → Going P xs s ms [] → Settled-below P xs (suc s) ms
   unfolding count
   rested s ms g =
       record {
@@ -48,7 +48,7 @@ module _ (P : ℕ) (xs : List Appt) (listed : All (Listed P) xs) where
       }
 
   -- P steps suffice: no more parties come off than there are.
-  worked-off : (s : ℕ) (r : Search) → Sound P xs s r → to-come P r ≤ P → Ended P xs (suc s) (iterate P (pop xs) r)
+  pub worked-off : (s : ℕ) (r : Search) → Sound P xs s r → to-come P r ≤ P → Ended P xs (suc s) (iterate P (pop xs) r)
   unfolding pop
   worked-off s r h few = iterate-ends {Inv = Sound P xs s} {Done = Ended P xs (suc s)} (pop xs) (to-come P) keep turn stay P r few h
     where
@@ -70,7 +70,7 @@ module _ (P : ℕ) (xs : List Appt) (listed : All (Listed P) xs) where
   -- ── one start ──
 
   -- an uncoloured party gets 1 and goes on the stack
-  started : (s : ℕ) (ms : List Mark) → s < P → Settled-below P xs s ms → colour-of s ms ≡ 2 → Going P xs s (mark s 1 ∷ ms) (s ∷ [])
+  pub started : (s : ℕ) (ms : List Mark) → s < P → Settled-below P xs s ms → colour-of s ms ≡ 2 → Going P xs s (mark s 1 ∷ ms) (s ∷ [])
   unfolding count
   started s ms below h free =
       let m : Mark = mark s 1 in
@@ -83,7 +83,7 @@ module _ (P : ℕ) (xs : List Appt) (listed : All (Listed P) xs) where
       }
 
   -- one that has a colour is passed over
-  skipped : (s : ℕ) (ms : List Mark) → Settled-below P xs s ms → colour-of s ms ≤ 1 → Settled-below P xs (suc s) ms
+  pub skipped : (s : ℕ) (ms : List Mark) → Settled-below P xs s ms → colour-of s ms ≤ 1 → Settled-below P xs (suc s) ms
   skipped s ms h own =
       let early : (u : ℕ) → u ≤ s → colour-of u ms ≤ 1 = up-to (λ u. colour-of u ms ≤ 1) s (h .early) own in
       record { marked = h .marked; early = λ u k. early u (omega arith); settled = h .settled }

@@ -1,3 +1,5 @@
 pub mod TwoColor
 pub mod TwoSides
+pub mod Model
+pub mod Contract
 pub mod Computing

@@ -1,1 +1,243 @@
-// `two_color` over scratch words follows; this crate has its definition and the two theorems about it.
+// `two_color`: puts the parties of a list of appointments on two sides, left and right, such that the two ends of every
+// appointment are on different sides; or finds that this cannot be done. Stated by its definition in specs/TwoColor.antt.
+//
+// The words that it takes start at `u`, p words for each of the first four, d words for each row:
+//   u          left, the parties of colour 0 in order of first colouring
+//   u + p      right, those of colour 1
+//   u + 2p     the stack
+//   u + 3p     each party's colour, and 2 while it has none
+//   u + 4p     five words: is it refused; the next party to start from; how many are on the stack, on the left, on the right
+//   u + 4p + 5 for each party the length of its row and where its row starts
+//   u + 6p + 5 the rows: a party's neighbours, in the order in which they are looked at
+// All that the search reads only lies above all that it writes.
+ghost use mathlib.Core.Path.{_≡_};
+ghost use Prim.Native.Nat.{_+_, _*_, _/_, _<_, _≤_};
+ghost use Rattle.two_color.specs.Model.{Small, appendM, clearStateM, startPartyM, startPartiesM, pushEndM, fillRowsM, colorPartyM, touchM, lookM, touchAllM, takeOffM, nextPartyM, stepM, stepsM, preparedM};
+ghost use Rattle.two_color.specs.Contract.{«Can-color», Colored};
+
+// The sides, with the number of parties on the left; or some closed round of appointments has odd length.
+pub enum TwoColoring {
+    Sides(usize),
+    NotBipartite,
+}
+
+// Puts `w` at the end of the list whose length stands at `k` and whose words start at `a`. Rows, stack and sides are such lists.
+fn append(s: &mut [u32], k: usize, a: usize, w: usize)
+    requires { ⌜ a < 1099511627776 ⌝ }
+    ensures { λ r. ⌜ now (s .exit) ≡ appendM k a w (now (s .entry)) ⌝ }
+{
+    let n = words::get(s, k);
+    words::put(s, a + n, w);
+    words::put(s, k, n + 1);
+}
+
+// Nothing is refused, party 0 is next, and the stack and both sides are empty.
+fn clear_state(s: &mut [u32], u: usize, p: usize)
+    requires { ⌜ Small u p ⌝ }
+    ensures { λ r. ⌜ now (s .exit) ≡ clearStateM u p (now (s .entry)) ⌝ }
+{
+    let at = u + 4 * p;
+    words::put(s, at, 0);
+    words::put(s, at + 1, 0);
+    words::put(s, at + 2, 0);
+    words::put(s, at + 3, 0);
+    words::put(s, at + 4, 0);
+}
+
+// A party without a colour and with an empty row.
+fn start_party(s: &mut [u32], u: usize, p: usize, d: usize, v: usize)
+    requires { ⌜ Small u p ⌝ }
+    requires { ⌜ v < 4294967296 ⌝ }
+    requires { ⌜ d * v < 4294967296 ⌝ }
+    ensures { λ r. ⌜ now (s .exit) ≡ startPartyM u p d v (now (s .entry)) ⌝ }
+{
+    words::put(s, u + 3 * p + v, 2);
+    words::put(s, u + 4 * p + 5 + 2 * v, 0);
+    words::put(s, u + 4 * p + 6 + 2 * v, u + 6 * p + 5 + d * v);
+}
+
+fn start_parties(s: &mut [u32], u: usize, p: usize, d: usize)
+    requires { ⌜ Small u p ⌝ }
+    requires { ⌜ d * p ≤ 8192 ⌝ }
+    ensures { λ r. ⌜ now (s .exit) ≡ startPartiesM u p d p (now (s .entry)) ⌝ }
+{
+    let mut v = 0;
+    while v < p {
+        start_party(s, u, p, d, v);
+        v += 1;
+    }
+}
+
+// The number at `j` goes into the row of the party at `i`.
+fn push_end(s: &mut [u32], u: usize, p: usize, list: &[u16], i: usize, j: usize)
+    requires { ⌜ Small u p ⌝ }
+    ensures { λ r. ⌜ now (s .exit) ≡ pushEndM u p (now (list .entry)) i j (now (s .entry)) ⌝ }
+{
+    let v = words::get16(list, i);
+    let w = words::get16(list, j);
+    let row = words::get(s, u + 4 * p + 6 + 2 * v);
+    append(s, u + 4 * p + 5 + 2 * v, row, w);
+}
+
+// Each appointment, from the newest down: its end `far` goes into the row of its end `near` (0 the first end, 1 the second).
+fn fill_rows(s: &mut [u32], u: usize, p: usize, list: &[u16], near: usize, far: usize)
+    requires { ⌜ Small u p ⌝ }
+    requires { do ⌜ (← ⟦list.len()⟧) ≤ 8192 ⌝ }
+    requires { ⌜ (near ≤ 1) × (far ≤ 1) ⌝ }
+    ensures { λ r. do ⌜ now (s .exit) ≡ fillRowsM u p (now (list .entry)) near far ((← ⟦list.len()⟧ .entry) / 2) (now (s .entry)) ⌝ }
+{
+    let mut i = list.len() / 2;
+    while i > 0 {
+        i -= 1;
+        push_end(s, u, p, list, 2 * i + near, 2 * i + far);
+    }
+}
+
+// A party gets its colour, goes on the stack and to the end of its side.
+fn color_party(s: &mut [u32], u: usize, p: usize, w: usize, color: usize)
+    requires { ⌜ Small u p ⌝ }
+    requires { ⌜ w < 4294967296 ⌝ }
+    ensures { λ r. ⌜ now (s .exit) ≡ colorPartyM u p w color (now (s .entry)) ⌝ }
+{
+    words::put(s, u + 3 * p + w, color);
+    append(s, u + 4 * p + 2, u + 2 * p, w);
+    if color == 0 {
+        append(s, u + 4 * p + 3, u, w);
+        return;
+    }
+    append(s, u + 4 * p + 4, u + p, w);
+}
+
+// A neighbour of a party of that colour: refuses if it has the same, gets the other if it has none.
+fn touch(s: &mut [u32], u: usize, p: usize, color: usize, w: usize)
+    requires { ⌜ Small u p ⌝ }
+    requires { ⌜ w < 4294967296 ⌝ }
+    ensures { λ r. ⌜ now (s .exit) ≡ touchM u p color w (now (s .entry)) ⌝ }
+{
+    let refused = words::get(s, u + 4 * p);
+    if refused != 0 {
+        return;
+    }
+    let have = words::get(s, u + 3 * p + w);
+    if have == color {
+        words::put(s, u + 4 * p, 1);
+        return;
+    }
+    if have == 2 {
+        color_party(s, u, p, w, 1 - color % 2);
+    }
+}
+
+fn look(s: &mut [u32], u: usize, p: usize, color: usize, at: usize)
+    requires { ⌜ Small u p ⌝ }
+    ensures { λ r. ⌜ now (s .exit) ≡ lookM u p color at (now (s .entry)) ⌝ }
+{
+    let w = words::get(s, at);
+    touch(s, u, p, color, w);
+}
+
+// All neighbours of a party, in the order of its row.
+fn touch_all(s: &mut [u32], u: usize, p: usize, v: usize)
+    requires { ⌜ Small u p ⌝ }
+    requires { ⌜ v < 4294967296 ⌝ }
+    ensures { λ r. ⌜ now (s .exit) ≡ touchAllM u p v (now (s .entry)) ⌝ }
+{
+    let color = words::get(s, u + 3 * p + v);
+    let n = words::get(s, u + 4 * p + 5 + 2 * v);
+    let row = words::get(s, u + 4 * p + 6 + 2 * v);
+    let mut t = 0;
+    while t < n {
+        look(s, u, p, color, row + t);
+        t += 1;
+    }
+}
+
+// The last party on a stack of `h` comes off.
+fn take_off(s: &mut [u32], u: usize, p: usize, h: usize)
+    requires { ⌜ Small u p ⌝ }
+    requires { ⌜ (0 < h) × (h < 4294967296) ⌝ }
+    ensures { λ r. ⌜ now (s .exit) ≡ takeOffM u p h (now (s .entry)) ⌝ }
+{
+    let v = words::get(s, u + 2 * p + (h - 1));
+    words::put(s, u + 4 * p + 2, h - 1);
+    touch_all(s, u, p, v);
+}
+
+// On to the next party, which gets 1 if it has no colour. After the last there is none, and nothing happens.
+fn next_party(s: &mut [u32], u: usize, p: usize)
+    requires { ⌜ Small u p ⌝ }
+    ensures { λ r. ⌜ now (s .exit) ≡ nextPartyM u p (now (s .entry)) ⌝ }
+{
+    let v = words::get(s, u + 4 * p + 1);
+    if v >= p {
+        return;
+    }
+    let have = words::get(s, u + 3 * p + v);
+    words::put(s, u + 4 * p + 1, v + 1);
+    if have == 2 {
+        color_party(s, u, p, v, 1);
+    }
+}
+
+fn step(s: &mut [u32], u: usize, p: usize)
+    requires { ⌜ Small u p ⌝ }
+    ensures { λ r. ⌜ now (s .exit) ≡ stepM u p (now (s .entry)) ⌝ }
+{
+    let refused = words::get(s, u + 4 * p);
+    if refused != 0 {
+        return;
+    }
+    let h = words::get(s, u + 4 * p + 2);
+    if h == 0 {
+        next_party(s, u, p);
+        return;
+    }
+    take_off(s, u, p, h);
+}
+
+// Each party is passed once and comes off once: 2·p steps suffice, and one after the end does nothing.
+fn all_steps(s: &mut [u32], u: usize, p: usize)
+    requires { ⌜ Small u p ⌝ }
+    ensures { λ r. ⌜ now (s .exit) ≡ stepsM u p (2 * p) (now (s .entry)) ⌝ }
+{
+    let n = 2 * p;
+    let mut k = 0;
+    while k < n {
+        step(s, u, p);
+        k += 1;
+    }
+}
+
+// First ends before second ends, newest first: document 01's order of neighbours.
+fn prepare(s: &mut [u32], u: usize, p: usize, d: usize, list: &[u16])
+    requires { ⌜ Small u p ⌝ }
+    requires { do ⌜ (← ⟦list.len()⟧) ≤ 8192 ⌝ }
+    requires { ⌜ d * p ≤ 8192 ⌝ }
+    ensures { λ r. ⌜ now (s .exit) ≡ preparedM u p d (now (list .entry)) (now (s .entry)) ⌝ }
+{
+    clear_state(s, u, p);
+    start_parties(s, u, p, d);
+    fill_rows(s, u, p, list, 0, 1);
+    fill_rows(s, u, p, list, 1, 0);
+}
+
+// The left side is at the mark and the right side p words above it; the mark is put above both, also where it refuses.
+// Everything below the old mark stays.
+pub fn two_color(s: &mut [u32], used: &mut usize, p: usize, d: usize, list: &[u16]) -> TwoColoring
+    requires { ⌜ Can-color p d (now used) (now list) (now s) ⌝ }
+    ensures { λ r. ⌜ Colored p (now (list .entry)) (now (used .entry)) (now (s .entry)) (now (used .exit)) (now (s .exit)) r ⌝ }
+{
+    let u = *used;
+    *used = u + 2 * p;
+    if p == 0 {
+        return TwoColoring::Sides(0);
+    }
+    prepare(s, u, p, d, list);
+    all_steps(s, u, p);
+    let refused = words::get(s, u + 4 * p);
+    if refused != 0 {
+        return TwoColoring::NotBipartite;
+    }
+    let left = words::get(s, u + 4 * p + 3);
+    TwoColoring::Sides(left)
+}

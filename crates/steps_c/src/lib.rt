@@ -1,0 +1,47 @@
+// Single steps of the planner, exported so that the host can hold them beside the Rust's. No part of the product.
+ghost use mathlib.Core.Path.{_≡_};
+ghost use Prim.Native.Nat.{_%_};
+ghost use Rattle.steps_c.specs.Compared.{«Two-colored», «refusal-number»};
+use appointments::Checked;
+use two_color::TwoColoring;
+
+// Number 0 and how many parties stand on the left, or the number of a refusal.
+#[repr(C)]
+pub struct TwoColorAnswer {
+    pub number: u32,
+    pub left: u32,
+}
+
+fn refused(checked: Checked) -> TwoColorAnswer
+    ensures { λ r. ⌜ (r .left ≡ 0) × (r .number ≡ refusal-number checked % 4294967296) ⌝ }
+{
+    match checked {
+        Checked::Passed(_) => TwoColorAnswer { number: 0, left: 0 },
+        Checked::Refused(number, _) => TwoColorAnswer {
+            number: (number % 4294967296) as u32,
+            left: 0,
+        },
+    }
+}
+
+// Checks 1 to 8 (a slot buffer is not needed), then `two_color`: the left parties stand in the first words of scratch, the right
+// ones from word P on.
+#[no_mangle]
+pub extern "C" fn bimtsure_two_color(p: u16, list: &[u16], scratch: &mut [u32]) -> TwoColorAnswer
+    ensures { λ r. ⌜ Two-colored p (now (list .entry)) (now (scratch .exit)) (r .number) (r .left) ⌝ }
+{
+    let parties = p as usize;
+    let checked = appointments::check_all(parties, list, list.len(), scratch.len());
+    let Checked::Passed(d) = checked else {
+        return refused(checked);
+    };
+    let mut used = 0;
+    let colored = two_color::two_color(scratch, &mut used, parties, d, list);
+    match colored {
+        TwoColoring::Sides(left) => TwoColorAnswer {
+            number: 0,
+            left: left as u32,
+        },
+        TwoColoring::NotBipartite => TwoColorAnswer { number: 9, left: 0 },
+    }
+}

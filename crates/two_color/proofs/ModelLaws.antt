@@ -1,0 +1,77 @@
+-- The cases of each step of the code's model, and its loops one turn further. Assumes nothing.
+use Prim.Native.Nat.{ℕ, _+_, _*_, _-_, _%_, _<_, _≤_}
+use mathlib.Core.Path.{_≡_}
+use mathlib.Core.List.{List}
+use native.Mathlib.Numerals.{add-one}
+use borrow.Author.Tests.{eq-eqb, ne-eqb, lt-ltb, le-ltb}
+use Rattle.words.specs.Words.{word, put-word}
+use Rattle.two_color.specs.Model.{appendM, startPartyM, startPartiesM, pushEndM, fillRowsM, colorPartyM, touchM, lookM, looksM, takeOffM, nextPartyM, stepM, stepsM}
+
+-- what color_party does before it chooses the side
+abbrev pub stacked : ℕ → ℕ → ℕ → ℕ → List ℕ → List ℕ
+stacked u p w color s = appendM (u + 4 * p + 2) (u + 2 * p) w (put-word s (u + 3 * p + w) color)
+
+module _ (u p : ℕ) (s : List ℕ) where
+  pub color-left : (w color : ℕ) → color ≡ 0 → colorPartyM u p w color s ≡ appendM (u + 4 * p + 3) u w (stacked u p w color s)
+  unfolding colorPartyM
+  color-left w color h = rw (eq-eqb color 0 h)
+
+  pub color-right : (w color : ℕ) → (color ≡ 0 → ⊥) → colorPartyM u p w color s ≡ appendM (u + 4 * p + 4) (u + p) w (stacked u p w color s)
+  unfolding colorPartyM
+  color-right w color h = rw (ne-eqb color 0 h)
+
+  pub touch-rests : (color w : ℕ) → (word s (u + 4 * p) ≡ 0 → ⊥) → touchM u p color w s ≡ s
+  unfolding touchM
+  touch-rests color w h = rw (ne-eqb (word s (u + 4 * p)) 0 h)
+
+  pub touch-refuses : (color w : ℕ) → word s (u + 4 * p) ≡ 0 → word s (u + 3 * p + w) ≡ color → touchM u p color w s ≡ put-word s (u + 4 * p) 1
+  unfolding touchM
+  touch-refuses color w h e = rw (eq-eqb (word s (u + 4 * p)) 0 h, eq-eqb (word s (u + 3 * p + w)) color e)
+
+  pub touch-colors : (color w : ℕ) → word s (u + 4 * p) ≡ 0 → (word s (u + 3 * p + w) ≡ color → ⊥) → word s (u + 3 * p + w) ≡ 2 → touchM u p color w s ≡ colorPartyM u p w (1 - color % 2) s
+  unfolding touchM
+  touch-colors color w h n e = rw (eq-eqb (word s (u + 4 * p)) 0 h, ne-eqb (word s (u + 3 * p + w)) color n, eq-eqb (word s (u + 3 * p + w)) 2 e)
+
+  pub touch-passes : (color w : ℕ) → word s (u + 4 * p) ≡ 0 → (word s (u + 3 * p + w) ≡ color → ⊥) → (word s (u + 3 * p + w) ≡ 2 → ⊥) → touchM u p color w s ≡ s
+  unfolding touchM
+  touch-passes color w h n m = rw (eq-eqb (word s (u + 4 * p)) 0 h, ne-eqb (word s (u + 3 * p + w)) color n, ne-eqb (word s (u + 3 * p + w)) 2 m)
+
+  pub next-none : p ≤ word s (u + 4 * p + 1) → nextPartyM u p s ≡ s
+  unfolding nextPartyM
+  next-none h = rw (le-ltb (word s (u + 4 * p + 1)) p h)
+
+  pub next-colors : (v : ℕ) → word s (u + 4 * p + 1) ≡ v → v < p → word s (u + 3 * p + v) ≡ 2 → nextPartyM u p s ≡ colorPartyM u p v 1 (put-word s (u + 4 * p + 1) (v + 1))
+  unfolding nextPartyM
+  next-colors v e h k = rw (e, lt-ltb v p h, eq-eqb (word s (u + 3 * p + v)) 2 k)
+
+  pub next-passes : (v : ℕ) → word s (u + 4 * p + 1) ≡ v → v < p → (word s (u + 3 * p + v) ≡ 2 → ⊥) → nextPartyM u p s ≡ put-word s (u + 4 * p + 1) (v + 1)
+  unfolding nextPartyM
+  next-passes v e h k = rw (e, lt-ltb v p h, ne-eqb (word s (u + 3 * p + v)) 2 k)
+
+  pub step-rests : (word s (u + 4 * p) ≡ 0 → ⊥) → stepM u p s ≡ s
+  unfolding stepM
+  step-rests h = rw (ne-eqb (word s (u + 4 * p)) 0 h)
+
+  pub step-next : word s (u + 4 * p) ≡ 0 → word s (u + 4 * p + 2) ≡ 0 → stepM u p s ≡ nextPartyM u p s
+  unfolding stepM
+  step-next h e = rw (eq-eqb (word s (u + 4 * p)) 0 h, eq-eqb (word s (u + 4 * p + 2)) 0 e)
+
+  pub step-off : word s (u + 4 * p) ≡ 0 → (word s (u + 4 * p + 2) ≡ 0 → ⊥) → stepM u p s ≡ takeOffM u p (word s (u + 4 * p + 2)) s
+  unfolding stepM
+  step-off h e = rw (eq-eqb (word s (u + 4 * p)) 0 h, ne-eqb (word s (u + 4 * p + 2)) 0 e)
+
+  pub parties-more : (d v : ℕ) → startPartiesM u p d (v + 1) s ≡ startPartyM u p d v (startPartiesM u p d v s)
+  unfolding startPartiesM
+  parties-more d v = rw (add-one v)
+
+  pub looks-more : (color row t : ℕ) → looksM u p color row (t + 1) s ≡ lookM u p color (row + t) (looksM u p color row t s)
+  unfolding looksM
+  looks-more color row t = rw (add-one t)
+
+  pub steps-more : (k : ℕ) → stepsM u p (k + 1) s ≡ stepM u p (stepsM u p k s)
+  unfolding stepsM
+  steps-more k = rw (add-one k)
+
+  pub fill-more : (list : List ℕ) (near far i : ℕ) → fillRowsM u p list near far (i + 1) s ≡ fillRowsM u p list near far i (pushEndM u p list (2 * i + near) (2 * i + far) s)
+  unfolding fillRowsM
+  fill-more list near far i = rw (add-one i)

@@ -1,0 +1,48 @@
+use Prim.Native.Nat.{_≤_, _*_, _-_}
+use mathlib.Core.Path.{_≡_, refl, sym, _∙_, ap}
+use native.Mathlib.Omega.{arith}
+use lib.ListN.{length}
+use Rattle.two_color.specs.Model.{stepM, stepsM}
+use Rattle.two_color.proofs.ModelLaws.{steps-more}
+use borrow.Author.Needs.{needs}
+use Rattle.two_color.proofs.all_steps.Statement.{statement}
+use Rattle.two_color.proofs.all_steps.Tie as tie
+
+abbrev Inv-loop : tie.InvT-loop
+Inv-loop s₀ u p n k₀ s k = (k ≤ 2 * p) × (length s ≡ length s₀) × (s ≡ stepsM u p k s₀)
+
+abbrev μ-loop : tie.MeasureT-loop
+μ-loop s₀ u p n k₀ s k = 2 * p - k
+
+-- src/lib.rt:206:5
+loop-holds : tie.Need-loop-holds Inv-loop μ-loop
+unfolding stepsM
+loop-holds c = (omega arith, refl, refl)
+
+-- src/lib.rt:206:5
+loop-again : tie.Need-loop-again Inv-loop μ-loop
+loop-again c =
+    let a = c .before .before .before .before .before .before .before .args in
+    let l = c .before .before .before .before .before .loop in
+    (omega arith, search needs, c .before .before .step .ensures ∙ ap (stepM (a .u) (a .p)) (l .inv .2) ∙ sym (steps-more (a .u) (a .p) (a .s .now) (l .k)))
+
+-- src/lib.rt:200:1
+returns : tie.Need-returns Inv-loop μ-loop
+returns c =
+    let e : c .before .loop .k ≡ 2 * c .before .before .before .args .p = omega arith in
+    rw e at (c .before .loop .inv .2)
+
+pub all-steps-spec : {M : Type 1} → statement M
+all-steps-spec =
+    tie.close
+    (tie.spec
+    Inv-loop
+    μ-loop
+    (λ c. search needs)
+    loop-holds
+    (λ c κs. search needs)
+    (λ c. search needs)
+    (λ c. search needs)
+    loop-again
+    (λ c. search needs)
+    returns)

@@ -1,0 +1,14 @@
+use Rattle.two_color.specs.Model.{appendM}
+use borrow.Author.Needs.{needs}
+use Rattle.two_color.proofs.append.Statement.{statement}
+use Rattle.two_color.proofs.append.Tie as tie
+
+-- src/lib.rt:26:1
+returns : tie.Need-returns
+unfolding appendM
+returns c = cc
+
+pub append-spec : {M : Type 1} → statement M
+append-spec =
+    tie.close
+    (tie.spec (λ c κs. search needs) (λ c. search needs) (λ c κs. search needs) (λ c. search needs) (λ c κs. search needs) (λ c. search needs) returns)

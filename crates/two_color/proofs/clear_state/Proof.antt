@@ -1,0 +1,27 @@
+use Rattle.two_color.specs.Model.{clearStateM}
+use borrow.Author.Needs.{needs}
+use Rattle.two_color.proofs.clear_state.Statement.{statement}
+use Rattle.two_color.proofs.clear_state.Tie as tie
+
+-- src/lib.rt:36:1
+returns : tie.Need-returns
+unfolding clearStateM
+returns c = cc
+
+pub clear-state-spec : {M : Type 1} → statement M
+clear-state-spec =
+    tie.close
+    (tie.spec
+    (λ c. search needs)
+    (λ c. search needs)
+    (λ c κs. search needs)
+    (λ c. search needs)
+    (λ c κs. search needs)
+    (λ c. search needs)
+    (λ c κs. search needs)
+    (λ c. search needs)
+    (λ c κs. search needs)
+    (λ c. search needs)
+    (λ c κs. search needs)
+    (λ c. search needs)
+    returns)

@@ -1,0 +1,20 @@
+use Rattle.two_color.specs.Model.{preparedM}
+use borrow.Author.Needs.{needs}
+use Rattle.two_color.proofs.prepare.Statement.{statement}
+use Rattle.two_color.proofs.prepare.Tie as tie
+
+-- src/lib.rt:213:1
+returns : tie.Need-returns
+unfolding preparedM
+returns c = cc
+
+pub prepare-spec : {M : Type 1} → statement M
+prepare-spec =
+    tie.close
+    (tie.spec
+    (λ c κs. search needs)
+    (λ c κs. search needs)
+    (λ c κs. search needs)
+    (λ c κs. search needs)
+    (λ c. search needs)
+    returns)

@@ -1,0 +1,37 @@
+use Rattle.two_color.specs.Model.{startPartyM}
+use borrow.Author.Needs.{needs}
+use Rattle.two_color.proofs.start_party.Statement.{statement}
+use Rattle.two_color.proofs.start_party.Tie as tie
+
+-- src/lib.rt:49:1
+returns : tie.Need-returns
+unfolding startPartyM
+returns c = cc
+
+pub start-party-spec : {M : Type 1} → statement M
+start-party-spec =
+    tie.close
+    (tie.spec
+    (λ c. search needs)
+    (λ c. search needs)
+    (λ c. search needs)
+    (λ c κs. search needs)
+    (λ c. search needs)
+    (λ c. search needs)
+    (λ c. search needs)
+    (λ c. search needs)
+    (λ c. search needs)
+    (λ c κs. search needs)
+    (λ c. search needs)
+    (λ c. search needs)
+    (λ c. search needs)
+    (λ c. search needs)
+    (λ c. search needs)
+    (λ c. search needs)
+    (λ c. search needs)
+    (λ c. search needs)
+    (λ c. search needs)
+    (λ c. search needs)
+    (λ c κs. search needs)
+    (λ c. search needs)
+    returns)

@@ -1,0 +1,52 @@
+use Prim.Native.Nat.{_+_, _*_}
+use mathlib.Core.Path.{_≡_, sym, _∙_, ap}
+use native.Mathlib.Omega.{arith}
+use Rattle.words.specs.Words.{word}
+use Rattle.two_color.specs.Model.{takeOffM}
+use Rattle.two_color.proofs.ModelLaws.{step-rests, step-next, step-off}
+use borrow.Author.Needs.{needs}
+use Rattle.two_color.proofs.step.Statement.{statement}
+use Rattle.two_color.proofs.step.Tie as tie
+
+-- src/lib.rt:189:9
+returns : tie.Need-returns
+returns c =
+    let a = c .before .before .before .before .args in
+    sym (step-rests (a .u) (a .p) (a .s .now) (λ e. c .if1 .taken (c .before .get .ensures .0 ∙ e)))
+
+-- src/lib.rt:194:9
+returns-2 : tie.Need-returns-2
+returns-2 c =
+    let a = c .before .before .before .before .before .before .before .before .before .before .before .args in
+    let h : word (a .s .now) (a .u + 4 * a .p) ≡ 0 = omega (arith, c .before .before .before .before .before .before .before .before .get .ensures .0, c .before .before .before .before .before .before .before .if1 .left) in
+    c .before .before .next-party .ensures ∙ sym (step-next (a .u) (a .p) (a .s .now) h (sym (c .before .before .before .before .before .get2 .ensures .0) ∙ c .before .before .before .before .if2 .taken))
+
+-- src/lib.rt:183:1
+returns-3 : tie.Need-returns-3
+returns-3 c =
+    let a = c .before .before .before .before .before .before .before .before .before .before .before .args in
+    let h : word (a .s .now) (a .u + 4 * a .p) ≡ 0 = omega (arith, c .before .before .before .before .before .before .before .before .get .ensures .0, c .before .before .before .before .before .before .before .if1 .left) in
+    let e = c .before .before .before .before .before .get2 .ensures .0 in
+    c .before .before .take-off .ensures
+    ∙ ap (λ n. takeOffM (a .u) (a .p) n (a .s .now)) e
+    ∙ sym (step-off (a .u) (a .p) (a .s .now) h (λ k. c .before .before .before .before .if2 .left (e ∙ k)))
+
+pub step-spec : {M : Type 1} → statement M
+step-spec =
+    tie.close
+    (tie.spec
+    (λ c. search needs)
+    (λ c. search needs)
+    (λ c κs. search needs)
+    (λ c. search needs)
+    returns
+    (λ c. search needs)
+    (λ c. search needs)
+    (λ c. search needs)
+    (λ c κs. search needs)
+    (λ c κs. search needs)
+    (λ c. search needs)
+    returns-2
+    (λ c κs. search needs)
+    (λ c. search needs)
+    returns-3)

@@ -1,0 +1,71 @@
+use Prim.Native.Nat.{_≤_, _+_, _-_}
+use mathlib.Core.Path.{_≡_, refl, sym, _∙_, ap}
+use native.Mathlib.Omega.{arith}
+use lib.ListN.{length}
+use Rattle.two_color.specs.Model.{lookM, looksM, touchAllM}
+use Rattle.two_color.proofs.ModelLaws.{looks-more}
+use borrow.Author.Needs.{needs}
+use Rattle.two_color.proofs.touch_all.Statement.{statement}
+use Rattle.two_color.proofs.touch_all.Tie as tie
+
+abbrev Inv-loop : tie.InvT-loop
+Inv-loop s₀ u p v color n row t₀ s t =
+    (t ≤ n) × (length s ≡ length s₀) × (s ≡ looksM u p color row t s₀)
+
+abbrev μ-loop : tie.MeasureT-loop
+μ-loop s₀ u p v color n row t₀ s t = n - t
+
+-- src/lib.rt:150:5
+loop-holds : tie.Need-loop-holds Inv-loop μ-loop
+unfolding looksM
+loop-holds c = (omega arith, refl, refl)
+
+-- src/lib.rt:150:5
+loop-again : tie.Need-loop-again Inv-loop μ-loop
+loop-again c =
+    let a = c .before .before .before .before .before .before .before .before .before .before .before .before .before .args in
+    let l = c .before .before .before .before .before .loop in
+    let color = c .before .before .before .before .before .before .before .before .before .before .get .result in
+    let row = c .before .before .before .before .before .before .get3 .result in (
+      omega arith,
+      search needs,
+      c .before .before .look .ensures ∙ ap (lookM (a .u) (a .p) color (row + l .t)) (l .inv .2) ∙ sym (looks-more (a .u) (a .p) (a .s .now) color row (l .t)),
+    )
+
+-- src/lib.rt:141:1
+returns : tie.Need-returns Inv-loop μ-loop
+unfolding touchAllM
+returns c =
+    let e : c .before .loop .t ≡ c .before .before .before .before .get2 .result = omega arith in
+    cc
+
+pub touch-all-spec : {M : Type 1} → statement M
+touch-all-spec =
+    tie.close
+    (tie.spec
+    Inv-loop
+    μ-loop
+    (λ c. search needs)
+    (λ c. search needs)
+    (λ c. search needs)
+    (λ c κs. search needs)
+    (λ c. search needs)
+    (λ c. search needs)
+    (λ c. search needs)
+    (λ c. search needs)
+    (λ c. search needs)
+    (λ c κs. search needs)
+    (λ c. search needs)
+    (λ c. search needs)
+    (λ c. search needs)
+    (λ c. search needs)
+    (λ c. search needs)
+    (λ c κs. search needs)
+    loop-holds
+    (λ c. search needs)
+    (λ c κs. search needs)
+    (λ c. search needs)
+    (λ c. search needs)
+    loop-again
+    (λ c. search needs)
+    returns)
