@@ -29,3 +29,8 @@ graph-at s ends pairs g = entries s ends pairs g 0 (word s (g + 1))
 unfoldable pub matching-at : List ℕ → ℕ → ℕ → ℕ → ℕ → Graph
 matching-at s ends pairs m zero = []
 matching-at s ends pairs m (suc k) = numbered s ends pairs (word s m) 1 ∷ matching-at s ends pairs (m + 1) k
+
+-- d matchings of n pair numbers each, side by side at `out`
+unfoldable pub matchings-at : List ℕ → ℕ → ℕ → ℕ → ℕ → ℕ → List Graph
+matchings-at s ends pairs out n zero = []
+matchings-at s ends pairs out n (suc d) = matching-at s ends pairs out n ∷ matchings-at s ends pairs (out + n) n d

@@ -1,1 +1,7 @@
 pub mod GiveSlots
+pub mod StepLaws
+pub mod Chains
+pub mod Pushing
+pub mod StoredMatchings
+pub mod Taking
+pub mod StoredSlots

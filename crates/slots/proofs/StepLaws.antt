@@ -1,0 +1,58 @@
+-- One turn of each loop's model, and where it stops. Assumes nothing.
+use Prim.Native.Nat.{ℕ, suc, _+_, _*_, _-_, _<_, _≤_}
+use mathlib.Core.Path.{_≡_}
+use mathlib.Core.List.{List}
+use native.Mathlib.Omega.{arith}
+use native.Mathlib.Numerals.{add-one}
+use native.Mathlib.Nat.{mul-le-mul-left}
+use Rattle.slots.specs.Steps.{pushed, matching-pushed, all-pushed, taken-words, taken-slots, given-words, given-slots}
+
+-- a matching below d ends among the words of d matchings
+pub matching-within : (n z d : ℕ) → z < d → n * z + n ≤ n * d
+matching-within n z d h =
+    let le : n * (z + 1) ≤ n * d = mul-le-mul-left n (omega arith) in
+    omega arith
+
+pub matching-pushed-more :
+    (n out top z j : ℕ) (s : List ℕ) →
+    matching-pushed n out top z (j + 1) s ≡ pushed out top z (n * z + j) (matching-pushed n out top z j s)
+unfolding matching-pushed
+matching-pushed-more n out top z j s = rw add-one
+
+pub all-pushed-more :
+    (n out top z : ℕ) (s : List ℕ) →
+    all-pushed n out top (z + 1) s ≡ matching-pushed n out top z n (all-pushed n out top z s)
+unfolding all-pushed
+all-pushed-more n out top z s = rw add-one
+
+module _ (out apair top a i : ℕ) where
+  module _ (h : i < a) where
+    still : a - i ≡ suc (a - (i + 1))
+    still = omega arith
+
+    pub given-words-turn :
+        (s : List ℕ) →
+        given-words out apair top i (a - i) s
+        ≡ given-words out apair top (i + 1) (a - (i + 1)) (taken-words out top (apair + i) s)
+    unfolding given-words
+    given-words-turn s = rw still
+
+    pub given-slots-turn :
+        (s slots : List ℕ) →
+        given-slots out apair top i (a - i) s slots
+        ≡ given-slots out apair top (i + 1) (a - (i + 1)) (taken-words out top (apair + i) s)
+        (taken-slots top (apair + i) i s slots)
+    unfolding given-slots
+    given-slots-turn s slots = rw still
+
+  module _ (h : a ≤ i) where
+    over : a - i ≡ 0
+    over = omega arith
+
+    pub given-words-stop : (s : List ℕ) → given-words out apair top i (a - i) s ≡ s
+    unfolding given-words
+    given-words-stop s = rw over
+
+    pub given-slots-stop : (s slots : List ℕ) → given-slots out apair top i (a - i) s slots ≡ slots
+    unfolding given-slots
+    given-slots-stop s slots = rw over
