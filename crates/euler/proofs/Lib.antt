@@ -5,3 +5,16 @@ pub mod Tours
 pub mod EulerLaws
 pub mod Dealing
 pub mod SplitLaws
+pub mod ModelLaws
+pub mod Straight
+pub mod Places
+pub mod Positions
+pub mod Filling
+pub mod Scans
+pub mod Following
+pub mod Stepping
+pub mod HalfLaws
+pub mod Parities
+pub mod HalfWords
+pub mod Grounds
+pub mod SplitWords

@@ -100,7 +100,7 @@ both-half :
 both-half v k g cs c d = omega (arith, same-degree v g cs c, both-copies (names v) (names-symmetric v) g cs c)
 
 -- the rest of a graph of even degrees has even degrees
-rest-even : (v k : ℕ) (g : Graph) → degree v g ≡ 2 * k → total (ends v) (rest g) % 2 ≡ 0
+pub rest-even : (v k : ℕ) (g : Graph) → degree v g ≡ 2 * k → total (ends v) (rest g) % 2 ≡ 0
 rest-even v k g h = omega (arith, weigh-parts (names v) g)
 
 -- ── the split ──

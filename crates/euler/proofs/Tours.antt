@@ -41,7 +41,7 @@ named v (p ∷ ps) e =
     (λ t. omega (arith, named v ps t))
     (either (eqb v (p .first) || eqb v (p .second)) (names-party v ps) e)
 
-visited-named : (v : ℕ) (cs : List (List Pair)) → visited v cs ≡ true → 0 < in-all (ends v) cs
+pub visited-named : (v : ℕ) (cs : List (List Pair)) → visited v cs ≡ true → 0 < in-all (ends v) cs
 unfolding visited total
 visited-named v [] e = never-true e
 visited-named v (c ∷ cs) e =

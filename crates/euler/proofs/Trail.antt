@@ -26,7 +26,7 @@ trail-reverse a b ps h = trail-onto a b a ps [] h refl
 abbrev pub aslant : (ℕ → ℕ) → Pair → ℕ
 aslant side p = (side (p .first) + side (p .second) - 1) + (1 - (side (p .first) + side (p .second)))
 
-leads-across : (side : ℕ → ℕ) (p : Pair) (a b : ℕ) → Leads p a b → aslant side p ≡ 0 → side a + side b ≡ 1
+pub leads-across : (side : ℕ → ℕ) (p : Pair) (a b : ℕ) → Leads p a b → aslant side p ≡ 0 → side a + side b ≡ 1
 leads-across side p a b h z = sym (h .same (λ x y. side x + side y) (λ x y. omega arith)) ∙ omega arith
 
 -- The ends of v at places 0, 2, .. against those at places 1, 3, .. of a trail from a to b: a and b are on one side where

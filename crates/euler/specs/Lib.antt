@@ -1,5 +1,7 @@
 pub mod Euler
 pub mod Split
 pub mod Halved
+pub mod Room
+pub mod Model
 pub mod Computing
 pub mod Examples

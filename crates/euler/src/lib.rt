@@ -1,1 +1,367 @@
-// `euler_cycles` and `rbmg_split_into_two` over scratch words follow; this crate has their definitions and laws.
+// `euler_cycles` and `rbmg_split_into_two` over scratch words. The words of a split, from its mark up: the first half, the
+// second half, eight columns, and the rows of half-edges.
+ghost use mathlib.Core.Path.{_≡_};
+ghost use Prim.Native.Nat.{ℕ, _+_, _*_, _-_, _/_, _<_, _≤_};
+ghost use Rattle.euler.specs.Model.{Stage, Fits, Small, copiesM, firstM, secondM};
+ghost use Rattle.euler.specs.Model.{startRowM, startM, rowFirstM, firstsM, linkM, rowSecondM, secondsM, fillM};
+ghost use Rattle.euler.specs.Model.{takeM, backM, stepM, walkM, begun};
+ghost use Rattle.euler.specs.Model.{moreM, pushM, entryM, entriesM, singleM, singlesM, halfM, splitM};
+ghost use Rattle.euler.specs.Room.{Splits, «Halves-stored»};
+
+// Where a split's words lie: the graph, the table of ends, the columns, the rows, and how many half-edges a row has room for.
+// Columns, at b + 8·j: 0 cursor and 1 end of the row of party j; 2 mark and 5 first half-edge of entry j; 3 stack; 4 places
+// written. Rows, two words a half-edge: its mate plus 1, or 0 once its mate is taken; its entry's place · 2048 + the other party.
+pub struct Rows {
+    pub g: usize,
+    pub ends: usize,
+    pub b: usize,
+    pub rows: usize,
+    pub width: usize,
+}
+
+// A walk: the party of the outer loop, the party at which it stands, the height of the stack, the places written.
+pub struct Walk {
+    pub next: usize,
+    pub at: usize,
+    pub height: usize,
+    pub written: usize,
+}
+
+fn copies_of(s: &[u32], l: Rows, i: usize) -> usize
+    requires { ⌜ Fits l × (i < 8589934592) ⌝ }
+    ensures { λ r. ⌜ (r ≡ copiesM l (now (s .entry)) i) × (r < 4294967296) ⌝ }
+{
+    words::get(s, l.g + 3 + 2 * i)
+}
+
+fn first_of(s: &[u32], l: Rows, i: usize) -> usize
+    requires { ⌜ Fits l × (i < 8589934592) ⌝ }
+    ensures { λ r. ⌜ (r ≡ firstM l (now (s .entry)) i) × (r < 4294967296) ⌝ }
+{
+    let e = words::get(s, l.g + 2 + 2 * i);
+    let v = multigraph::first_end(s, l.ends, multigraph::EdgeIndex(e as u32));
+    v.0 as usize
+}
+
+fn second_of(s: &[u32], l: Rows, i: usize) -> usize
+    requires { ⌜ Fits l × (i < 8589934592) ⌝ }
+    ensures { λ r. ⌜ (r ≡ secondM l (now (s .entry)) i) × (r < 4294967296) ⌝ }
+{
+    let e = words::get(s, l.g + 2 + 2 * i);
+    let v = multigraph::second_end(s, l.ends, multigraph::EdgeIndex(e as u32));
+    v.0 as usize
+}
+
+// An empty row for the party v.
+fn start_row(s: &mut [u32], l: Rows, v: usize, x: usize)
+    requires { ⌜ Fits l × (v < 4294967296) ⌝ }
+    ensures { λ r. ⌜ now (s .exit) ≡ startRowM l (now (s .entry)) v x ⌝ }
+{
+    words::put(s, l.b + 8 * v, x);
+    words::put(s, l.b + 8 * v + 1, x);
+}
+
+fn start_rows(s: &mut [u32], l: Rows, parties: usize)
+    requires { ⌜ Fits l × (parties < 4294967296) ⌝ }
+    ensures { λ r. ⌜ now (s .exit) ≡ startM l parties (now (s .entry)) ⌝ }
+{
+    let mut v = 0;
+    let mut x = 0;
+    while v < parties {
+        start_row(s, l, v, x);
+        v += 1;
+        x += l.width;
+    }
+}
+
+// Entry i, if its copies are odd, gets a half-edge in its first end's row; its mark is cleared.
+fn row_first(s: &mut [u32], l: Rows, i: usize)
+    requires { ⌜ Fits l × (i < 4294967296) ⌝ }
+    ensures { λ r. ⌜ now (s .exit) ≡ rowFirstM l (now (s .entry)) i ⌝ }
+{
+    let c = copies_of(s, l, i);
+    let a = first_of(s, l, i);
+    let h = words::get(s, l.b + 8 * a + 1);
+    words::put(s, l.b + 8 * i + 2, 0);
+    if c % 2 == 0 {
+        return;
+    }
+    words::put(s, l.b + 8 * a + 1, h + 1);
+    words::put(s, l.b + 8 * i + 5, h);
+}
+
+// From the newest entry down.
+fn fill_firsts(s: &mut [u32], l: Rows, m: usize)
+    requires { ⌜ Fits l × (m < 4294967296) ⌝ }
+    ensures { λ r. ⌜ now (s .exit) ≡ firstsM l m m (now (s .entry)) ⌝ }
+{
+    let mut k = 0;
+    while k < m {
+        row_first(s, l, m - 1 - k);
+        k += 1;
+    }
+}
+
+// The half-edges x, at the party a, and h, at the party d, are mates, of entry i.
+fn link(s: &mut [u32], l: Rows, i: usize, x: usize, a: usize, h: usize, d: usize)
+    requires { ⌜ Fits l × (i < 4294967296) × (x < 4294967296) × (a < 4294967296) × (h < 4294967296) × (d < 4294967296) ⌝ }
+    ensures { λ r. ⌜ now (s .exit) ≡ linkM l (now (s .entry)) i x a h d ⌝ }
+{
+    words::put(s, l.rows + 2 * x, h + 1);
+    words::put(s, l.rows + 2 * x + 1, i * 2048 + d);
+    words::put(s, l.rows + 2 * h, x + 1);
+    words::put(s, l.rows + 2 * h + 1, i * 2048 + a);
+}
+
+// Entry i, if its copies are odd, gets its half-edge in its second end's row.
+fn row_second(s: &mut [u32], l: Rows, i: usize)
+    requires { ⌜ Fits l × (i < 4294967296) ⌝ }
+    ensures { λ r. ⌜ now (s .exit) ≡ rowSecondM l (now (s .entry)) i ⌝ }
+{
+    let c = copies_of(s, l, i);
+    if c % 2 == 0 {
+        return;
+    }
+    let a = first_of(s, l, i);
+    let d = second_of(s, l, i);
+    let h = words::get(s, l.b + 8 * d + 1);
+    let x = words::get(s, l.b + 8 * i + 5);
+    words::put(s, l.b + 8 * d + 1, h + 1);
+    link(s, l, i, x, a, h, d);
+}
+
+fn fill_seconds(s: &mut [u32], l: Rows, m: usize)
+    requires { ⌜ Fits l × (m < 4294967296) ⌝ }
+    ensures { λ r. ⌜ now (s .exit) ≡ secondsM l m m (now (s .entry)) ⌝ }
+{
+    let mut k = 0;
+    while k < m {
+        row_second(s, l, m - 1 - k);
+        k += 1;
+    }
+}
+
+// The rows of all parties: pairs where the party is first end, newest first, then those where it is second end.
+fn fill_rows(s: &mut [u32], l: Rows, m: usize, parties: usize)
+    requires { ⌜ Fits l × (m < 4294967296) × (parties < 4294967296) ⌝ }
+    ensures { λ r. ⌜ now (s .exit) ≡ fillM l m parties (now (s .entry)) ⌝ }
+{
+    start_rows(s, l, parties);
+    fill_firsts(s, l, m);
+    fill_seconds(s, l, m);
+}
+
+// The half-edge c of the party at which the walk stands: passed if it is used, else taken and followed.
+fn take_or_pass(s: &mut [u32], l: Rows, w: Walk, c: usize) -> Walk
+    requires { ⌜ Fits l × Small 68719476736 w × (c < 4294967296) ⌝ }
+    ensures { λ r. ⌜ record { words = now (s .exit); walk = r } ≡ takeM l (now (s .entry)) w c ⌝ }
+{
+    let mate = words::get(s, l.rows + 2 * c);
+    let x = words::get(s, l.rows + 2 * c + 1);
+    words::put(s, l.b + 8 * w.at, c + 1);
+    if mate == 0 {
+        return w;
+    }
+    words::put(s, l.rows + 2 * (mate - 1), 0);
+    words::put(s, l.b + 8 * w.height + 3, x / 2048 * 2048 + w.at);
+    Walk {
+        next: w.next,
+        at: x % 2048,
+        height: w.height + 1,
+        written: w.written,
+    }
+}
+
+// Stuck: step back, write the place down, and mark its entry with the place's parity.
+fn step_back(s: &mut [u32], l: Rows, w: Walk) -> Walk
+    requires { ⌜ Fits l × Small 68719476736 w × (0 < w .height) ⌝ }
+    ensures { λ r. ⌜ record { words = now (s .exit); walk = r } ≡ backM l (now (s .entry)) w ⌝ }
+{
+    let x = words::get(s, l.b + 8 * (w.height - 1) + 3);
+    let i = x / 2048;
+    words::put(s, l.b + 8 * i + 2, 2 + w.written % 2);
+    words::put(s, l.b + 8 * w.written + 4, i);
+    Walk {
+        next: w.next,
+        at: x % 2048,
+        height: w.height - 1,
+        written: w.written + 1,
+    }
+}
+
+// One step of the walk; past the last party nothing happens.
+fn walk_step(s: &mut [u32], l: Rows, parties: usize, w: Walk) -> Walk
+    requires { ⌜ Fits l × Small 68719476736 w ⌝ }
+    ensures { λ r. ⌜ record { words = now (s .exit); walk = r } ≡ stepM l parties (record { words = now (s .entry); walk = w }) ⌝ }
+{
+    if parties <= w.next {
+        return w;
+    }
+    let c = words::get(s, l.b + 8 * w.at);
+    let e = words::get(s, l.b + 8 * w.at + 1);
+    if c < e {
+        return take_or_pass(s, l, w, c);
+    }
+    if 0 < w.height {
+        return step_back(s, l, w);
+    }
+    Walk {
+        next: w.next + 1,
+        at: w.next + 1,
+        height: 0,
+        written: w.written,
+    }
+}
+
+// `euler_cycles`: the walks from all parties, in number order, their places written one after the other. Each pair is taken,
+// passed and written down once, so three steps for each pair and one for each party suffice.
+fn euler_cycles(s: &mut [u32], l: Rows, m: usize, parties: usize) -> usize
+    requires { ⌜ Fits l × (m < 4294967296) × (parties < 4294967296) ⌝ }
+    ensures { λ r. ⌜ (now (s .exit) ≡ walkM l parties (3 * m + parties) (begun (now (s .entry))) .words)
+        × (r ≡ walkM l parties (3 * m + parties) (begun (now (s .entry))) .walk .written) × (r < 68719476736) ⌝ }
+{
+    let bound = 3 * m + parties;
+    let mut w = Walk {
+        next: 0,
+        at: 0,
+        height: 0,
+        written: 0,
+    };
+    let mut k = 0;
+    while k < bound {
+        if parties <= w.next {
+            return w.written;
+        }
+        w = walk_step(s, l, parties, w);
+        k += 1;
+    }
+    w.written
+}
+
+// One more copy where the entry is marked for this half.
+fn more(mark: usize, parity: usize) -> usize
+    requires { ⌜ parity < 2 ⌝ }
+    ensures { λ r. ⌜ (r ≡ moreM mark parity) × (r ≤ 1) ⌝ }
+{
+    if mark == 2 + parity { 1 } else { 0 }
+}
+
+// An entry of a half, at its place `at`.
+fn push(s: &mut [u32], h: usize, at: usize, e: usize, copies: usize) -> usize
+    requires { ⌜ (h < 4294967296) × (at < 137438953472) ⌝ }
+    ensures { λ r. ⌜ (now (s .exit) ≡ pushM h (now (s .entry)) at e copies) × (r ≡ at + 1) ⌝ }
+{
+    words::put(s, h + 2 + 2 * at, e);
+    words::put(s, h + 3 + 2 * at, copies);
+    at + 1
+}
+
+fn half_entry(s: &mut [u32], l: Rows, h: usize, parity: usize, at: usize, i: usize) -> usize
+    requires { ⌜ Fits l × (h < 4294967296) × (parity < 2) × (at < 68719476736) × (i < 4294967296) ⌝ }
+    ensures { λ r. ⌜ record { words = now (s .exit); count = r } ≡ entryM l h parity (record { words = now (s .entry); count = at }) i ⌝ }
+{
+    let c = copies_of(s, l, i);
+    if c < 2 {
+        return at;
+    }
+    let e = words::get(s, l.g + 2 + 2 * i);
+    let mark = words::get(s, l.b + 8 * i + 2);
+    let x = more(mark, parity);
+    push(s, h, at, e, c / 2 + x)
+}
+
+// The entries of 2 copies or more, in order: half of them.
+fn half_entries(s: &mut [u32], l: Rows, h: usize, parity: usize, m: usize) -> usize
+    requires { ⌜ Fits l × (h < 4294967296) × (parity < 2) × (m < 4294967296) ⌝ }
+    ensures { λ r. ⌜ (record { words = now (s .exit); count = r } ≡ entriesM l h parity m (now (s .entry))) × (r ≤ m) ⌝ }
+{
+    let mut at = 0;
+    let mut i = 0;
+    while i < m {
+        at = half_entry(s, l, h, parity, at, i);
+        i += 1;
+    }
+    at
+}
+
+fn half_single(s: &mut [u32], l: Rows, h: usize, at: usize, j: usize) -> usize
+    requires { ⌜ Fits l × (h < 4294967296) × (at < 137438953472) × (j < 137438953472) ⌝ }
+    ensures { λ r. ⌜ record { words = now (s .exit); count = r } ≡ singleM l h (record { words = now (s .entry); count = at }) j ⌝ }
+{
+    let i = words::get(s, l.b + 8 * j + 4);
+    let c = copies_of(s, l, i);
+    if 2 <= c {
+        return at;
+    }
+    let e = words::get(s, l.g + 2 + 2 * i);
+    push(s, h, at, e, 1)
+}
+
+// Then the written places of this parity whose entry has one copy, in the order of writing.
+fn half_singles(
+    s: &mut [u32],
+    l: Rows,
+    h: usize,
+    parity: usize,
+    from: usize,
+    written: usize,
+) -> usize
+    requires { ⌜ Fits l × (h < 4294967296) × (parity < 2) × (from < 4294967296) × (written < 68719476736) ⌝ }
+    ensures { λ r. ⌜ record { words = now (s .exit); count = r } ≡ singlesM l h parity ((written + 1 - parity) / 2) (record { words = now (s .entry); count = from }) ⌝ }
+{
+    let count = (written + 1 - parity) / 2;
+    let mut at = from;
+    let mut k = 0;
+    while k < count {
+        at = half_single(s, l, h, at, parity + 2 * k);
+        k += 1;
+    }
+    at
+}
+
+fn half(s: &mut [u32], l: Rows, h: usize, parity: usize, m: usize, written: usize)
+    requires { ⌜ Fits l × (h < 4294967296) × (parity < 2) × (m < 4294967296) × (written < 68719476736) ⌝ }
+    ensures { λ r. ⌜ now (s .exit) ≡ halfM l h parity m written (now (s .entry)) ⌝ }
+{
+    let from = half_entries(s, l, h, parity, m);
+    let at = half_singles(s, l, h, parity, from, written);
+    words::put(s, h, h);
+    words::put(s, h + 1, at);
+}
+
+fn split_words(s: &mut [u32], l: Rows, first: usize, second: usize, m: usize, parties: usize)
+    requires { ⌜ Fits l × (first < 4294967296) × (second < 4294967296) × (m < 4294967296) × (parties < 4294967296) ⌝ }
+    ensures { λ r. ⌜ now (s .exit) ≡ splitM l first second m parties (now (s .entry)) ⌝ }
+{
+    fill_rows(s, l, m, parties);
+    let written = euler_cycles(s, l, m, parties);
+    half(s, l, first, 0, m, written);
+    half(s, l, second, 1, m, written);
+}
+
+// `rbmg_split_into_two`: both halves of the graph at g, pushed at the mark, which moves behind them.
+pub fn rbmg_split_into_two(
+    s: &mut [u32],
+    used: &mut usize,
+    ends: usize,
+    g: usize,
+    n: usize,
+    width: usize,
+)
+    requires { ⌜ Splits (now s) (now used) ends g n width ⌝ }
+    ensures { λ r. ⌜ Halves-stored (now (s .entry)) (now (s .exit)) (now (used .entry)) (now (used .exit)) ends g n width ⌝ }
+{
+    let k = n * (width + 1);
+    let h = *used;
+    let b = h + 2 * k + 2 * k;
+    let l = Rows {
+        g: g,
+        ends: ends,
+        b: b,
+        rows: b + 8 * k,
+        width: width,
+    };
+    let m = words::get(s, g + 1);
+    split_words(s, l, h, h + 2 * k, m, 2 * n);
+    *used = h + 4 * k;
+}

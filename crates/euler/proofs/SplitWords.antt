@@ -1,0 +1,330 @@
+-- The words after a split hold the halves of the definition, pair for pair and copy for copy. Assumes nothing.
+use Prim.Native.Nat.{ℕ, _+_, _*_, _-_, _≤_, _<_}
+use mathlib.Core.Path.{_≡_, refl, sym, _∙_, ap}
+use mathlib.Core.Bool.{Bool, true, false}
+use mathlib.Core.List.{List, [], _∷_, map, reverse, append-nil}
+use native.Mathlib.Omega.{arith}
+use native.Mathlib.Nat.{mul-le-mul-left, mul-le-mul-right, mul-assoc}
+use lib.Dec.{leb}
+use lib.ListN.{length}
+use Rattle.words.specs.Basics.{pick, total, count, Run, ran, and-then}
+use Rattle.words.specs.Words.{word}
+use Rattle.words.proofs.Sums.{total-reverse, total-append}
+use Rattle.words.proofs.Frames.{keeps-less, keeps-trans}
+use Rattle.multigraph.specs.Multigraph.{Pair, Graph, joins}
+use Rattle.multigraph.specs.Regular.{Regular}
+use Rattle.multigraph.specs.Stored.{entries, graph-at}
+use Rattle.euler.specs.declared.Rows.{Rows}
+use Rattle.euler.specs.Euler.{Tour, euler-cycles}
+use Rattle.euler.specs.Split.{Halves, add-halves, rest, every-other, add-pairs, deal, rbmg-split-into-two}
+use Rattle.euler.specs.Room.{Splits, Halves-stored}
+use Rattle.euler.specs.Model.{Fits, Stage, copiesM, firstM, secondM, fillM, walkM, begun, halfM, laid, splitM}
+use Rattle.euler.proofs.Taken.{ends}
+use Rattle.euler.proofs.Tours.{in-all}
+use Rattle.euler.proofs.Straight.{along, Same-tour, same-tour, deal-along}
+use Rattle.euler.proofs.Places.{keep}
+use Rattle.euler.proofs.Filling.{Laid, filled}
+use Rattle.euler.proofs.Following.{column-same}
+use Rattle.euler.proofs.Stepping.{Walked-all, walked-all}
+use Rattle.euler.proofs.Parities.{dealt, dealt-all, dealt-count, every-other-dealt}
+use Rattle.euler.proofs.HalfLaws.{held, bigs, small, one, halves-are, half-of, deal-all}
+use Rattle.euler.proofs.HalfWords.{Only, Same-entry, entries-same, Ready, Half-done, half-done}
+use Rattle.euler.proofs.Grounds.{joins-apart, ends-fit, rest-odd, rest-slant, rest-evens, places-once, upto-entries}
+
+-- ── the cycles' pairs, all in a row ──
+
+along-total : (f : Pair → ℕ) (cs : List (List Pair)) → total f (along cs) ≡ in-all f cs
+unfolding along total
+along-total f [] = refl
+along-total f (c ∷ cs) = total-append f c (along cs) ∙ ap (λ (x : ℕ). total f c + x) (along-total f cs)
+
+module _ (s : List ℕ) (u ends g n width : ℕ) (q : Splits s u ends g n width) (fit : (i : ℕ) → word s i < 4294967296) where
+  abbrev N : ℕ
+  N = 2 * n
+
+  abbrev k : ℕ
+  k = n * (width + 1)
+
+  abbrev m : ℕ
+  m = word s (g + 1)
+
+  abbrev l : Rows
+  l = laid u k ends g width
+
+  abbrev h₂ : ℕ
+  h₂ = u + 2 * k
+
+  reg : Regular N (q .side) (2 * q .half) (entries s ends 0 g 0 m)
+  unfolding graph-at
+  reg = q .regular
+
+  -- ── room ──
+
+  pub grounds : Laid l N m k s
+  unfolding graph-at
+  grounds =
+      let kk : n * (width + 1) ≡ n * width + n = omega arith in
+      let two : n * 2 ≤ n * width = mul-le-mul-left n (q .two) in
+      record {
+        place = refl;
+        room = omega arith;
+        small = q .short;
+        parties = omega arith;
+        few = q .few;
+        entries = omega arith;
+        short = omega arith;
+        wide = omega (arith, mul-assoc 2 n width);
+        graph = omega arith;
+        table = λ i b. omega (arith, q .table i b);
+        fit = ends-fit l s N m (q .side) (2 * q .half) reg width (q .wide);
+      }
+
+  module _ (pairs : ℕ) where
+    abbrev C : ℕ → ℕ
+    C i = copiesM l s i
+
+    abbrev F : ℕ → ℕ
+    F i = firstM l s i
+
+    abbrev S : ℕ → ℕ
+    S i = secondM l s i
+
+    abbrev flag : ℕ → ℕ
+    flag i = pick (leb pairs (word s (g + 2 + 2 * i))) 1 0
+
+    abbrev G : Graph
+    G = entries s ends pairs g 0 m
+
+    abbrev r : Graph
+    r = rest G
+
+    apart : (i j c : ℕ) → i < m → j < m → (i ≡ j → ⊥) → joins (F i) (S i) (held C F S flag j c) ≡ false
+    apart i j c b e x = joins-apart l s N m (q .side) (2 * q .half) reg i j c (flag j) b e x
+
+    tours : Same-tour N r
+    tours =
+        same-tour (q .side) r (rest-slant l s N m (q .side) (2 * q .half) reg pairs)
+        (rest-evens l s N m (q .side) (2 * q .half) reg pairs (q .half) refl) N
+
+    -- the walk on words, from filled rows
+    abbrev walked : Stage
+    walked = walkM l N (3 * m + N) (begun (fillM l m N s))
+
+    walk-done :
+        Walked-all l N m k s grounds flag r (q .side) (rest-slant l s N m (q .side) (2 * q .half) reg pairs)
+        (rest-evens l s N m (q .side) (2 * q .half) reg pairs (q .half) refl) walked
+    walk-done =
+        walked-all l N m k s grounds flag r (q .side) (rest-slant l s N m (q .side) (2 * q .half) reg pairs)
+        (rest-evens l s N m (q .side) (2 * q .half) reg pairs (q .half) refl) (fillM l m N s) (filled l N m k s grounds)
+        (rest-odd l s N m (q .side) (2 * q .half) reg pairs width)
+
+    abbrev ws : List ℕ
+    ws = walk-done .ws
+
+    -- what is written is along the cycles
+    along-is : along (tours .tour .cycles) ≡ reverse (map (one C F S flag) ws)
+    along-is = sym (tours .written) ∙ ap reverse (sym (walk-done .same))
+
+    written-few : (f : Pair → ℕ) → total f (map (one C F S flag) ws) ≤ total f r
+    written-few f =
+        omega (
+          arith,
+          total-reverse f (map (one C F S flag) ws),
+          ap (total f) along-is,
+          along-total f (tours .tour .cycles),
+          tours .toured .whole f,
+        )
+
+    once : (i : ℕ) → count i ws ≤ 1
+    once = places-once l s N m (q .side) (2 * q .half) reg pairs ws (walk-done .places) written-few
+
+    -- ── the definition's halves ──
+
+    -- both halves before the rest is dealt
+    undealt : add-halves [] G ≡ half-of C F S flag m apart []
+    unfolding keep count
+    undealt =
+        ap (add-halves []) (sym (upto-entries l s N m (q .side) (2 * q .half) reg pairs m))
+        ∙ halves-are C F S flag m apart m (omega arith)
+        ∙ sym (append-nil (bigs C F S flag (λ i. 0) m))
+
+    dealt-half : (b : Bool) → add-pairs (add-halves [] G) (every-other b (along (tours .tour .cycles))) ≡ half-of C F S flag m apart (dealt (pick b 0 1) ws)
+    dealt-half b =
+        let cs : List ℕ = dealt (pick b 0 1) ws in
+        ap (λ (x : List Pair). add-pairs (add-halves [] G) (every-other b x)) along-is
+        ∙ ap (add-pairs (add-halves [] G)) (every-other-dealt (one C F S flag) b ws)
+        ∙ ap (λ (x : Graph). add-pairs x (map (one C F S flag) cs)) undealt
+        ∙ deal-all C F S flag m apart cs [] tt (dealt-all (λ i. i < m) (pick b 0 1) ws (walk-done .places))
+        (λ i. omega (arith, dealt-count i (pick b 0 1) ws, once i))
+
+    splits-into :
+        rbmg-split-into-two N G
+        ≡ ran (record {
+          first-half = half-of C F S flag m apart (dealt 0 ws);
+          second-half = half-of C F S flag m apart (dealt 1 ws);
+        })
+    unfolding rbmg-split-into-two euler-cycles
+    splits-into =
+        ap
+        (λ (x : Run Tour).
+        and-then (and-then x (λ t. ran (t .cycles)))
+        (λ cs. ran (deal (record { first-half = add-halves [] G; second-half = add-halves [] G }) cs)))
+        (tours .runs)
+        ∙ ap (λ (x : Halves). ran x)
+        (deal-along (record { first-half = add-halves [] G; second-half = add-halves [] G }) (tours .tour .cycles) (tours .even)
+        ∙ rw (dealt-half true, dealt-half false))
+
+    -- ── the words ──
+
+    abbrev wr : ℕ
+    wr = walked .walk .written
+
+    abbrev s₂ : List ℕ
+    s₂ = walked .words
+
+    abbrev s₃ : List ℕ
+    s₃ = halfM l u 0 m wr s₂
+
+    abbrev s₄ : List ℕ
+    s₄ = halfM l h₂ 1 m wr s₃
+
+    less : m < k
+    less = grounds .entries
+
+    ready-first : Ready l m k u u wr s s₂ ws
+    ready-first =
+        let len : length s₂ ≡ length s = walk-done .keeps .len in
+        record {
+          graph = q .graph;
+          table = q .table;
+          fits = λ i b. fit (g + 3 + 2 * i);
+          keeps = keeps-less u (omega arith) (walk-done .keeps);
+          marks = walk-done .marks;
+          written = walk-done .written;
+          places = walk-done .places;
+          once = once;
+          less = less;
+          above = omega arith;
+          under = omega arith;
+          inside = omega (arith, q .room);
+          small = omega (arith, q .short);
+        }
+
+    first-done : Half-done l m k u u wr pairs 0 s s₂ ws ready-first (omega arith) apart s₃ (half-of C F S flag m apart (dealt 0 ws))
+    first-done = half-done l m k u u wr pairs 0 s s₂ ws ready-first (omega arith) apart
+
+    ready-second : Ready l m k u h₂ wr s s₃ ws
+    ready-second =
+        let o : Only u (2 * k) s₂ s₃ = first-done .only in
+        let len : length s₃ ≡ length s = o .len ∙ walk-done .keeps .len in
+        record {
+          graph = q .graph;
+          table = q .table;
+          fits = λ i b. fit (g + 3 + 2 * i);
+          keeps = keeps-trans (ready-first .keeps) (record { len = o .len; same = o .under });
+          marks = λ i b. o .over (l .b + 8 * i + 2) (omega arith) ∙ walk-done .marks i b;
+          written = column-same l 4 s₂ s₃ wr (λ j b. o .over (l .b + 8 * j + 4) (omega arith)) ∙ walk-done .written;
+          places = walk-done .places;
+          once = once;
+          less = less;
+          above = omega arith;
+          under = omega arith;
+          inside = omega (arith, q .room);
+          small = omega (arith, q .short);
+        }
+
+    second-done : Half-done l m k u h₂ wr pairs 1 s s₃ ws ready-second (omega arith) apart s₄ (half-of C F S flag m apart (dealt 1 ws))
+    second-done = half-done l m k u h₂ wr pairs 1 s s₃ ws ready-second (omega arith) apart
+
+    -- the second half leaves the first
+    first-word : (a : ℕ) → a < h₂ → word s₄ a ≡ word s₃ a
+    first-word a b = second-done .only .under a b
+
+    first-entry : (j : ℕ) → j < word s₃ (u + 1) → Same-entry ends u j s₃ s₄
+    first-entry j b =
+        let p : (i : ℕ) × (i < m) × (word s₃ (u + 2 + 2 * j) ≡ word s (g + 2 + 2 * i)) = first-done .numbers j b in
+        let tb : ends + 2 * word s₃ (u + 2 + 2 * j) + 1 < u = rw (p .2) (q .table (p .0) (p .1)) in
+        let few : word s₃ (u + 1) ≤ m = first-done .count-le in
+        record {
+          number = first-word (u + 2 + 2 * j) (omega (arith, less));
+          copies = first-word (u + 3 + 2 * j) (omega (arith, less));
+          first = first-word (ends + 2 * word s₃ (u + 2 + 2 * j)) (omega arith);
+          second = first-word (ends + 2 * word s₃ (u + 2 + 2 * j) + 1) (omega arith);
+        }
+
+    first-count-is : word s₄ (u + 1) ≡ word s₃ (u + 1)
+    first-count-is = first-word (u + 1) (omega (arith, less))
+
+    first-graph : graph-at s₄ ends pairs u ≡ half-of C F S flag m apart (dealt 0 ws)
+    unfolding graph-at
+    first-graph =
+        ap (entries s₄ ends pairs u 0) first-count-is
+        ∙ entries-same ends pairs u 0 (word s₃ (u + 1)) s₃ s₄ (λ j lo hi. first-entry j (omega arith))
+        ∙ first-done .graph
+
+    pub stored :
+        rbmg-split-into-two N (graph-at s ends pairs g)
+        ≡ ran (record { first-half = graph-at s₄ ends pairs u; second-half = graph-at s₄ ends pairs h₂ })
+    unfolding graph-at
+    stored = splits-into ∙ rw (← first-graph, ← second-done .graph)
+
+  -- Module 4 of document 01, on words.
+  pub split-stored : Halves-stored s (splitM l u h₂ m N s) u (u + 4 * k) ends g n width
+  unfolding splitM
+  split-stored =
+      record {
+        halves = stored;
+        first-base = first-word 0 u (omega (arith, less 0)) ∙ first-done 0 .header;
+        second-base = second-done 0 .header;
+        first-count = rw (first-count-is 0) (first-done 0 .count-le);
+        second-count = second-done 0 .count-le;
+        first-numbers =
+            record {
+              from = λ j b.
+                  let c : j < word (s₃ 0) (u + 1) = rw (first-count-is 0) at b in
+                  let p : (i : ℕ) × (i < m) × (word (s₃ 0) (u + 2 + 2 * j) ≡ word s (g + 2 + 2 * i)) = first-done 0 .numbers j c in
+                  (p .0, p .1, first-entry 0 j c .number ∙ p .2);
+            };
+        second-numbers = record { from = second-done 0 .numbers };
+        above = refl;
+        keeps =
+            keeps-trans (ready-second 0 .keeps)
+            (record { len = second-done 0 .only .len; same = λ i b. second-done 0 .only .under i (omega arith) });
+      }
+
+-- ── for the code's proof ──
+
+pub width-small : (s : List ℕ) (u ends g n width : ℕ) → Splits s u ends g n width → width + 1 ≤ 2097152
+width-small s u ends g n width q =
+    let one : 1 * (width + 1) ≤ n * (width + 1) = mul-le-mul-right (width + 1) (q .some) in
+    omega (arith, q .size)
+
+pub split-asks :
+    (s : List ℕ) (u ends g n width m : ℕ) → Splits s u ends g n width → m < 4294967296 →
+    Fits (laid u (n * (width + 1)) ends g width)
+    × (u < 4294967296)
+    × (u + 2 * (n * (width + 1)) < 4294967296)
+    × (m < 4294967296)
+    × (2 * n < 4294967296)
+split-asks s u ends g n width m q b =
+    let one : 1 * (width + 1) ≤ n * (width + 1) = mul-le-mul-right (width + 1) (q .some) in (
+      record {
+        graph = omega (arith, q .graph, q .room, q .short);
+        table = omega (arith, q .base, q .room, q .short);
+        columns = omega (arith, q .room, q .short);
+        rows = omega (arith, q .room, q .short);
+        width = omega (arith, q .size);
+      },
+      omega (arith, q .room, q .short),
+      omega (arith, q .room, q .short),
+      b,
+      omega (arith, q .few),
+    )
+
+pub split-so :
+    (l : Rows) (h₁ h₂ m parties wr : ℕ) (s t₁ t₂ t₃ t₄ : List ℕ) → t₁ ≡ fillM l m parties s →
+    t₂ ≡ walkM l parties (3 * m + parties) (begun t₁) .words →
+    wr ≡ walkM l parties (3 * m + parties) (begun t₁) .walk .written → t₃ ≡ halfM l h₁ 0 m wr t₂ → t₄ ≡ halfM l h₂ 1 m wr t₃ →
+    t₄ ≡ splitM l h₁ h₂ m parties s
+unfolding splitM
+split-so l h₁ h₂ m parties wr s t₁ t₂ t₃ t₄ e₁ e₂ e₃ e₄ e₅ = rw (e₅, e₄, e₃, e₂, e₁)

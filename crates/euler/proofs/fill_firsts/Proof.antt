@@ -1,0 +1,56 @@
+use mathlib.Core.List.{List}
+use Rattle.euler.specs.Model.{rowFirstM}
+use Rattle.euler.proofs.ModelLaws.{firsts-more}
+use Rattle.euler.specs.Model.{firstsM}
+use lib.ListN.{length}
+use Prim.Native.Nat.{ℕ, _-_, _≤_}
+use native.Mathlib.Omega.{arith}
+use mathlib.Core.Path.{_≡_, refl, sym, _∙_, ap}
+use borrow.Author.Needs.{needs}
+use Rattle.euler.proofs.fill_firsts.Statement.{statement}
+use Rattle.euler.proofs.fill_firsts.Tie as tie
+
+abbrev Inv-loop : tie.InvT-loop
+Inv-loop s₀ l m k₀ s k = (k ≤ m) × (length s ≡ length s₀) × (s ≡ firstsM l m k s₀)
+
+abbrev μ-loop : tie.MeasureT-loop
+μ-loop s₀ l m k₀ s k = m - k
+
+-- src/lib.rt:101:5
+loop-holds : tie.Need-loop-holds Inv-loop μ-loop
+unfolding firstsM
+loop-holds c = (search needs, refl, refl)
+
+-- src/lib.rt:101:5
+loop-again : tie.Need-loop-again Inv-loop μ-loop
+loop-again c =
+    let inv = c .before .before .before .before .before .loop .inv in (
+      search needs,
+      search needs,
+      c .before .before .row-first .ensures
+          ∙ ap (λ (t : List ℕ). rowFirstM (c .before .before .before .before .before .before .before .args .l) t (c .before .before .before .before .before .before .before .args .m - 1 - c .before .before .before .before .before .loop .k)) (inv .2)
+          ∙ sym (firsts-more (c .before .before .before .before .before .before .before .args .l) (c .before .before .before .before .before .before .before .args .m) (c .before .before .before .before .before .loop .k) (c .before .before .before .before .before .before .before .args .s .now)),
+    )
+
+-- src/lib.rt:96:1
+returns : tie.Need-returns Inv-loop μ-loop
+returns c =
+    let inv = c .before .loop .inv in
+    let e : c .before .loop .k ≡ c .before .before .before .args .m = omega arith in
+    rw e at (inv .2)
+
+pub fill-firsts-spec : {M : Type 1} → statement M
+fill-firsts-spec =
+    tie.close
+    (tie.spec
+    Inv-loop
+    μ-loop
+    loop-holds
+    (λ c. search needs)
+    (λ c. search needs)
+    (λ c κs. search needs)
+    (λ c. search needs)
+    (λ c. search needs)
+    loop-again
+    (λ c. search needs)
+    returns)

@@ -1,0 +1,24 @@
+use mathlib.Core.Path.{refl}
+use borrow.Author.Needs.{needs}
+use Rattle.euler.proofs.push.Statement.{statement}
+use Rattle.euler.proofs.push.Tie as tie
+
+-- src/lib.rt:252:1
+returns : tie.Need-returns
+returns c = (cc, refl)
+
+pub push-spec : {M : Type 1} → statement M
+push-spec =
+    tie.close
+    (tie.spec
+    (λ c. search needs)
+    (λ c. search needs)
+    (λ c. search needs)
+    (λ c κs. search needs)
+    (λ c. search needs)
+    (λ c. search needs)
+    (λ c. search needs)
+    (λ c κs. search needs)
+    (λ c. search needs)
+    (λ c. search needs)
+    returns)

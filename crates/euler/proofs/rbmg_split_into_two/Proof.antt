@@ -1,0 +1,58 @@
+use native.Mathlib.Omega.{arith}
+use Prim.Native.Nat.{ℕ, _+_, _*_}
+use mathlib.Core.List.{List}
+use mathlib.Core.Path.{sym, _∙_, ap, subst}
+use Rattle.euler.specs.Room.{Halves-stored}
+use Rattle.euler.specs.Model.{laid, splitM}
+use Rattle.euler.proofs.SplitWords.{width-small, split-asks, split-stored}
+use borrow.Author.Needs.{needs}
+use Rattle.euler.proofs.rbmg_split_into_two.Statement.{statement}
+use Rattle.euler.proofs.rbmg_split_into_two.Tie as tie
+
+-- src/lib.rt:338:18
+add-k : tie.Need-add-k
+add-k c =
+    let a = c .before .args in
+    omega (arith, width-small (a .s .now) (a .used .now) (a .ends) (a .g) (a .n) (a .width) (c .before .pre))
+
+-- src/lib.rt:349:5
+split-words-requires : tie.Need-split-words-requires
+split-words-requires c κs =
+    let a = c .before .before .before .before .before .args in
+    split-asks (a .s .now) (a .used .now) (a .ends) (a .g) (a .n) (a .width) (c .before .get .result) (c .before .before .before .before .before .pre) (c .before .get .ensures .1)
+
+-- src/lib.rt:334:1
+returns : tie.Need-returns
+returns c =
+    let a = c .before .before .before .before .before .before .before .before .args in
+    let s = a .s .now in
+    let k = a .n * (a .width + 1) in
+    subst (λ (t : List ℕ). Halves-stored s t (a .used .now) (a .used .now + 4 * k) (a .ends) (a .g) (a .n) (a .width))
+    (sym
+    (c .before .before .split-words .ensures
+    ∙ ap (λ (m : ℕ). splitM (laid (a .used .now) k (a .ends) (a .g) (a .width)) (a .used .now) (a .used .now + 2 * k) m (2 * a .n) s)
+    (c .before .before .before .before .get .ensures .0)))
+    (split-stored s (a .used .now) (a .ends) (a .g) (a .n) (a .width) (c .before .before .before .before .before .before .before .before .pre) (λ i. omega (arith, c .before .before .before .before .before .before .before .slice-known .given i)))
+
+pub rbmg-split-into-two-spec : {M : Type 1} → statement M
+rbmg-split-into-two-spec =
+    tie.close
+    (tie.spec
+    add-k
+    (λ c. search needs)
+    (λ c. search needs)
+    (λ c. search needs)
+    (λ c. search needs)
+    (λ c. search needs)
+    (λ c. search needs)
+    (λ c. search needs)
+    (λ c. search needs)
+    (λ c κs. search needs)
+    (λ c. search needs)
+    (λ c. search needs)
+    (λ c. search needs)
+    split-words-requires
+    (λ c. search needs)
+    (λ c. search needs)
+    (λ c. search needs)
+    returns)

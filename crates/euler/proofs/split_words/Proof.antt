@@ -1,0 +1,23 @@
+use Rattle.euler.proofs.SplitWords.{split-so}
+use borrow.Author.Needs.{needs}
+use Rattle.euler.proofs.split_words.Statement.{statement}
+use Rattle.euler.proofs.split_words.Tie as tie
+
+-- src/lib.rt:323:1
+returns : tie.Need-returns
+returns c =
+    let a = c .before .before .before .before .before .before .before .before .before .before .before .before .before .before .before .before .before .args in
+    split-so (a .l) (a .first) (a .second) (a .m) (a .parties) (c .before .before .before .before .before .before .before .before .before .before .euler-cycles .result) (a .s .now) (c .before .before .before .before .before .before .before .before .before .before .before .before .before .before .fill-rows .last .0)
+    (c .before .before .before .before .before .before .before .before .before .before .euler-cycles .last .0) (c .before .before .before .before .before .before .half .last .0) (c .before .before .half2 .last .0) (c .before .before .before .before .before .before .before .before .before .before .before .before .before .before .fill-rows .ensures)
+    (c .before .before .before .before .before .before .before .before .before .before .euler-cycles .ensures .0) (c .before .before .before .before .before .before .before .before .before .before .euler-cycles .ensures .1) (c .before .before .before .before .before .before .half .ensures) (c .before .before .half2 .ensures)
+
+pub split-words-spec : {M : Type 1} → statement M
+split-words-spec =
+    tie.close
+    (tie.spec
+    (λ c κs. search needs)
+    (λ c κs. search needs)
+    (λ c κs. search needs)
+    (λ c κs. search needs)
+    (λ c. search needs)
+    returns)

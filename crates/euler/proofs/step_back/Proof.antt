@@ -1,0 +1,37 @@
+use Rattle.euler.specs.Model.{backM}
+use native.Mathlib.Omega.{arith}
+use borrow.Author.Needs.{needs}
+use Rattle.euler.proofs.step_back.Statement.{statement}
+use Rattle.euler.proofs.step_back.Tie as tie
+
+-- src/lib.rt:190:18
+add-t9 : tie.Need-add-t9
+add-t9 c = omega (arith, c .before .before .before .before .before .before .before .before .before .before .before .before .before .before .before .before .before .before .before .pre .1)
+
+-- src/lib.rt:178:1
+returns : tie.Need-returns
+unfolding backM
+returns c = cc
+
+pub step-back-spec : {M : Type 1} → statement M
+step-back-spec =
+    tie.close
+    (tie.spec
+    (λ c. search needs)
+    (λ c. search needs)
+    (λ c. search needs)
+    (λ c. search needs)
+    (λ c κs. search needs)
+    (λ c. search needs)
+    (λ c. search needs)
+    (λ c. search needs)
+    (λ c. search needs)
+    (λ c κs. search needs)
+    (λ c. search needs)
+    (λ c. search needs)
+    (λ c. search needs)
+    (λ c κs. search needs)
+    (λ c. search needs)
+    add-t9
+    (λ c. search needs)
+    returns)
