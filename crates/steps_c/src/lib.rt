@@ -2,6 +2,7 @@
 ghost use mathlib.Core.Path.{_≡_};
 ghost use Prim.Native.Nat.{_%_};
 ghost use Rattle.steps_c.specs.Compared.{«Two-colored», «refusal-number»};
+ghost use Rattle.euler.specs.Room.{Splits, «Halves-stored»};
 use appointments::Checked;
 use two_color::TwoColoring;
 
@@ -44,4 +45,23 @@ pub extern "C" fn bimtsure_two_color(p: u16, list: &[u16], scratch: &mut [u32]) 
         },
         TwoColoring::NotBipartite => TwoColorAnswer { number: 9, left: 0 },
     }
+}
+
+// One split of a graph in words, whose ends stand in a table at `ends`: the halves stand at the mark `used` and 2·n·(width + 1)
+// words above it. Gives the new mark. The caller lends a regular graph of even degree, as the split itself asks.
+#[no_mangle]
+pub extern "C" fn bimtsure_split(
+    scratch: &mut [u32],
+    used: usize,
+    ends: usize,
+    g: usize,
+    n: usize,
+    width: usize,
+) -> usize
+    requires { ⌜ Splits (now scratch) used ends g n width ⌝ }
+    ensures { λ r. ⌜ Halves-stored (now (scratch .entry)) (now (scratch .exit)) used r ends g n width ⌝ }
+{
+    let mut mark = used;
+    euler::rbmg_split_into_two(scratch, &mut mark, ends, g, n, width);
+    mark
 }
