@@ -1,11 +1,15 @@
-//! Makes the two texts that are compiled but not stored: `two_color` cut out of coloring.rs, and bipartite_coloring.rs with
-//! the second search of document 01 (second-search.diff).
+//! Makes the texts that are compiled but not stored: `two_color` cut out of coloring.rs, bipartite_coloring.rs with the second
+//! search of document 01 (second-search.diff), and bipartite_coloring.rs with split-hook.rs behind it. Finds the archives of our
+//! exported calls.
 
 use std::path::{Path, PathBuf};
 use std::process::Command;
 use std::{env, fs};
 
 const SOURCES: &str = "../docs/src/rustworkx-core/src";
+/// Where `rt staticlib` writes.
+const ARCHIVES: &str = "../target/staticlib";
+const LINKED: [&str; 2] = ["steps_c", "bimtsure_c"];
 
 /// The use lines of coloring.rs that `two_color` needs, by how they begin.
 const NEEDED_USES: [&str; 4] =
@@ -15,7 +19,8 @@ fn main() {
     let out = PathBuf::from(env::var_os("OUT_DIR").expect("cargo sets OUT_DIR"));
     let coloring = Path::new(SOURCES).join("coloring.rs");
     let bipartite = Path::new(SOURCES).join("bipartite_coloring.rs");
-    for input in [&coloring, &bipartite, &PathBuf::from("second-search.diff"), &PathBuf::from("build.rs")] {
+    let own = ["second-search.diff", "split-hook.rs", "build.rs"].map(PathBuf::from);
+    for input in [&coloring, &bipartite].into_iter().chain(&own) {
         println!("cargo:rerun-if-changed={}", input.display());
     }
 
@@ -30,6 +35,23 @@ fn main() {
         .status()
         .expect("patch can be run");
     assert!(status.success(), "second-search.diff no longer fits bipartite_coloring.rs");
+
+    let text = fs::read_to_string(&bipartite).expect("docs/src holds bipartite_coloring.rs");
+    let hook = fs::read_to_string("split-hook.rs").expect("split-hook.rs stands beside this file");
+    fs::write(out.join("split_opened.rs"), text + &hook).expect("the build folder can be written");
+
+    link_archives();
+}
+
+/// Our crates stand at fixed paths from here, so that cargo finds what `rt` has proved and written.
+fn link_archives() {
+    let folder = env::current_dir().expect("cargo runs this in the package's folder").join(ARCHIVES);
+    for name in LINKED {
+        let archive = folder.join(format!("lib{name}.a"));
+        assert!(archive.exists(), "{} is missing: host/setup has rt write it", archive.display());
+        println!("cargo:rerun-if-changed={}", archive.display());
+    }
+    println!("cargo:rustc-link-search=native={}", folder.display());
 }
 
 /// The licence note, the needed use lines, and `two_color` with its comment; every line as it stands in the file.

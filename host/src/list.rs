@@ -49,8 +49,13 @@ impl List {
         loads.into_iter().max().unwrap_or(0)
     }
 
-    /// Checks 1 to 6, in this order: D, or the first refusal.
-    pub fn check(&self) -> Result<usize, Refusal> {
+    /// How often the list names the party.
+    pub fn load(&self, party: usize) -> usize {
+        self.appointments().flat_map(|(first, second)| [first, second]).filter(|&end| usize::from(end) == party).count()
+    }
+
+    /// Checks 1 to 5, in this order: the first refusal, if there is one.
+    pub fn check_ends(&self) -> Result<(), Refusal> {
         let refuse = |number, place| Err(Refusal { number, place });
         if self.parties > MOST_PARTIES {
             return refuse(1, 0);
@@ -68,9 +73,15 @@ impl List {
         if let Some(place) = first_with(&|end| usize::from(end) >= self.parties) {
             return refuse(5, place);
         }
+        Ok(())
+    }
+
+    /// Checks 1 to 6, in this order: D, or the first refusal.
+    pub fn check(&self) -> Result<usize, Refusal> {
+        self.check_ends()?;
         let largest = self.largest_load();
         if largest * self.parties > MOST_CELLS {
-            return refuse(6, 0);
+            return Err(Refusal { number: 6, place: 0 });
         }
         Ok(largest)
     }

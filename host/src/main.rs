@@ -1,12 +1,17 @@
-//! Runs rustworkx-core's `bipartite_edge_color` on lists of appointments, makes random lists, and has the definitions
-//! computed on lists with the Rust's fresh answers.
+//! Runs rustworkx-core's `bipartite_edge_color` on lists of appointments, makes random lists, has the definitions computed on
+//! lists with the Rust's fresh answers, and compares our exported calls with the Rust's.
 
 mod definitions;
+mod desk;
+mod desk_calls;
+mod exported;
 mod format;
 mod list;
 mod lists;
 mod random;
 mod reference;
+mod split;
+mod two_color;
 
 // The Rust as published, which no formatter may touch.
 #[path = "../../docs/src/rustworkx-core/src/bipartite_coloring.rs"]
@@ -27,6 +32,12 @@ mod second_search {
     include!(concat!(env!("OUT_DIR"), "/second_search.rs"));
 }
 
+/// bipartite_coloring.rs with split-hook.rs appended, for its private split.
+#[allow(dead_code)]
+mod split_opened {
+    include!(concat!(env!("OUT_DIR"), "/split_opened.rs"));
+}
+
 use list::{MOST_APPOINTMENTS, MOST_PARTIES};
 use lists::Lists;
 use std::io::{self, BufRead, Write};
@@ -42,7 +53,13 @@ bimtsure-host lists COUNT SEED [MOST]
     print COUNT random lists of at most MOST appointments (if not given, 4096), which SEED decides
 bimtsure-host definitions [COUNT [SEED]]
     have the definitions computed on COUNT random lists (if not given, 240), which SEED (1) decides, and compare with
-    fresh answers of the Rust; from the repository's root";
+    fresh answers of the Rust; from the repository's root
+bimtsure-host two-color COUNT SEED
+    compare our `two_color` with the Rust's on COUNT random lists, which SEED decides: refusals, and sides in order
+bimtsure-host split COUNT SEED
+    compare our split with the Rust's `rbmg_split_into_two` on COUNT random regular graphs of even degree
+bimtsure-host desk COUNT SEED
+    compare our waiting, filed plan and viewer with desk.rs, in COUNT rounds of random and of damaged input";
 
 fn main() -> ExitCode {
     let words: Vec<String> = std::env::args().skip(1).collect();
@@ -54,6 +71,9 @@ fn main() -> ExitCode {
         ["definitions"] => definitions::check(240, 1),
         ["definitions", count] => number(count).and_then(|count| definitions::check(count, 1)),
         ["definitions", count, seed] => number(count).and_then(|count| definitions::check(count, number(seed)? as u64)),
+        ["two-color", count, seed] => compare(two_color::compare, count, seed),
+        ["split", count, seed] => compare(split::compare, count, seed),
+        ["desk", count, seed] => compare(desk_calls::compare, count, seed),
         _ => Err(USAGE.to_string()),
     };
     match done {
@@ -67,6 +87,10 @@ fn main() -> ExitCode {
 
 fn number(text: &str) -> Result<usize, String> {
     text.parse().map_err(|_| format!("{text} is no number\n{USAGE}"))
+}
+
+fn compare(run: fn(usize, u64) -> Result<(), String>, count: &str, seed: &str) -> Result<(), String> {
+    run(number(count)?, number(seed)? as u64)
 }
 
 fn answer(options: &[&str]) -> Result<(), String> {

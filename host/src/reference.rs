@@ -2,7 +2,7 @@
 
 use crate::dictmap::DictMap;
 use crate::list::List;
-use crate::{bipartite_coloring, second_search};
+use crate::{bipartite_coloring, coloring, second_search};
 use petgraph::graph::{EdgeIndex, NodeIndex, UnGraph};
 use std::panic;
 use std::sync::atomic::{AtomicBool, Ordering};
@@ -28,6 +28,14 @@ fn graph_of(list: &List) -> UnGraph<(), ()> {
         graph.add_edge(NodeIndex::new(first.into()), NodeIndex::new(second.into()), ());
     }
     graph
+}
+
+/// What `two_color` gives, as `bipartite_edge_color` parts it: colour 0 is left, 1 is right, each in order of first colouring.
+/// None is `GraphNotBipartite`.
+pub fn sides(list: &List) -> Option<(Vec<usize>, Vec<usize>)> {
+    let colors = coloring::two_color(&graph_of(list))?;
+    let side = |which: u8| colors.iter().filter(|&(_, &color)| color == which).map(|(node, _)| node.index()).collect();
+    Some((side(0), side(1)))
 }
 
 /// bipartite_coloring.rs as it stands in docs/src.

@@ -19,7 +19,18 @@ add-k c =
 split-words-requires : tie.Need-split-words-requires
 split-words-requires c κs =
     let a = c .before .before .before .before .before .args in
-    split-asks (a .s .now) (a .used .now) (a .ends) (a .g) (a .n) (a .width) (c .before .get .result) (c .before .before .before .before .before .pre) (c .before .get .ensures .1)
+    let f =
+    split-asks
+    (a .s .now)
+    (a .used .now)
+    (a .ends)
+    (a .g)
+    (a .n)
+    (a .width)
+    (c .before .get .result)
+    (c .before .before .before .before .before .pre)
+    (c .before .get .ensures .1) in
+    (f .0, omega (arith, f .1, f .2), omega (arith, f .1, f .2), f .3, f .4)
 
 -- src/lib.rt:334:1
 returns : tie.Need-returns

@@ -1,0 +1,107 @@
+-- The numbers of the desk's answers fit 32 bits. Assumes nothing.
+use Prim.Native.Nat.{ℕ, _*_, _%_, _<_, _≤_}
+use mathlib.Core.Path.{_≡_, refl}
+use mathlib.Core.Bool.{Bool, not, _||_}
+use mathlib.Core.List.{List}
+use native.Mathlib.Omega.{arith}
+use borrow.Author.Tests.{ltb-false}
+use lib.Dec.{eqb, ltb, leb}
+use lib.ListN.{length}
+use Rattle.appointments.specs.Appointments.{Appt, appts}
+use Rattle.appointments.specs.Checks.{at, Check, first-from, has-blank, has-unlisted, bar, checks-1-to-5}
+use Rattle.appointments.proofs.Answering.{d-small}
+use Rattle.appointments.proofs.Causes.{bar-cause, bar-at-cause, never-refused}
+use Rattle.appointments.proofs.ChecksLaws.{good-goes-on}
+use Rattle.appointments.proofs.FirstFrom.{found-is-first}
+use Rattle.desk.specs.Answers.{Answer, accepted, refused, answer}
+use Rattle.desk.specs.Waiting.{waiting, waiting-checks, waiting-answer}
+use Rattle.desk.specs.Filed.{filed-length, writing-checks, writing-answer, Header, header, reading-checks, reading-answer}
+use Rattle.desk.specs.Viewer.{viewer-checks, viewer-answer}
+use Rattle.desk.proofs.WaitingLaws.{accepted-askable, waiting-and-load}
+use Rattle.desk.proofs.FiledLaws.{accepted-writable, accepted-readable}
+use Rattle.bimtsure_c.proofs.Telling.{header-of}
+
+-- a number and a place below 2^32
+abbrev pub Both-fit : ℕ → ℕ → Type 0
+Both-fit n i = (n < 4294967296) × (i < 4294967296)
+
+-- a refusal is that of the checks
+refused-checked : {F : Type 0} (c : Check) (f : F) (n i : ℕ) → answer c f ≡ refused n i → c ≡ Check.refused n i
+refused-checked Check.passed f n i e = cc
+refused-checked (Check.refused k j) f n i e = cc
+
+-- one check with a small number and place 0
+bar-fits : (t : Bool) (k : ℕ) (next : Check) (n i : ℕ) → k < 4294967296 → (next ≡ Check.refused n i → Both-fit n i) → bar t k next ≡ Check.refused n i → Both-fit n i
+bar-fits t k next n i h later = bar-cause Both-fit t k next n i (λ q. (h, omega arith)) (λ q. later)
+
+-- the first position of a short list
+first-fits : (test : Appt → Bool) (xs : List Appt) (j : ℕ) → length xs ≤ 4096 → first-from 0 test xs ≡ at j → j < 4294967296
+first-fits test xs j h e = omega (arith, found-is-first test xs j e .inside)
+
+-- ── waiting ──
+
+module _ (P : ℕ) (list : List ℕ) (party : ℕ) where
+  pub waiting-fits : (n : ℕ) → waiting-answer P list party ≡ accepted n → n < 4294967296
+  waiting-fits n e =
+      let good = accepted-askable P list party n e .0 .good in
+      omega (arith, waiting-and-load P list party n e, d-small P list (good-goes-on P list Check.passed good))
+
+  checks-fit : (next : Check) (n i : ℕ) → (next ≡ Check.refused n i → Both-fit n i) → checks-1-to-5 P list next ≡ Check.refused n i → Both-fit n i
+  unfolding checks-1-to-5
+  checks-fit next n i later =
+      bar-fits (ltb 1024 P) 1 _ n i (omega arith)
+      (bar-fits (eqb (length list % 2) 1) 2 _ n i (omega arith)
+      (bar-cause Both-fit (ltb 4096 (length (appts list))) 3 _ n i (λ q. (omega arith, omega arith)) λ t.
+      let few : length (appts list) ≤ 4096 = ltb-false 4096 (length (appts list)) t in
+      bar-at-cause Both-fit (first-from 0 has-blank (appts list)) 4 _ n i (λ j q. (omega arith, first-fits has-blank (appts list) j few q)) λ q.
+      bar-at-cause Both-fit (first-from 0 (has-unlisted P) (appts list)) 5 _ n i (λ j q. (omega arith, first-fits (has-unlisted P) (appts list) j few q)) λ q.
+      later))
+
+  pub waiting-refusal-fits : (n i : ℕ) → waiting-answer P list party ≡ refused n i → Both-fit n i
+  unfolding waiting-answer
+  waiting-refusal-fits n i e =
+      checks-fit (bar (leb P party) 5 Check.passed) n i (bar-fits (leb P party) 5 Check.passed n i (omega arith) (never-refused n i))
+      (refused-checked (waiting-checks P list party) (waiting P (appts list) party) n i e)
+
+-- ── the filed plan ──
+
+module _ (P : ℕ) (list slots output : List ℕ) where
+  pub writing-fits : (n : ℕ) → writing-answer P list slots output ≡ accepted n → n < 4294967296
+  writing-fits n e = let w = accepted-writable P list slots output n e in omega (arith, w .0 .few, w .1)
+
+  pub writing-refusal-fits : (n i : ℕ) → writing-answer P list slots output ≡ refused n i → Both-fit n i
+  unfolding writing-answer
+  writing-refusal-fits n i e =
+      bar-fits (ltb 1024 P) 1 _ n i (omega arith)
+      (bar-fits (eqb (length list % 2) 1) 2 _ n i (omega arith)
+      (bar-fits (ltb 4096 (length (appts list))) 3 _ n i (omega arith)
+      (bar-fits (ltb (length slots) (length (appts list))) 7 _ n i (omega arith)
+      (bar-fits (ltb (length output) (filed-length (length (appts list)))) 13 _ n i (omega arith) (never-refused n i)))))
+      (refused-checked (writing-checks P list slots output) (filed-length (length (appts list))) n i e)
+
+module _ (bytes list slots : List ℕ) where
+  pub reading-fits : (P A : ℕ) → reading-answer bytes list slots ≡ accepted (header-of P A) → Both-fit P A
+  reading-fits P A e =
+      let r = accepted-readable bytes list slots (header-of P A) e in
+      let p : header bytes .parties ≡ P = cc in
+      let k : header bytes .appointments ≡ A = cc in
+      (omega (arith, r .0 .parties), omega (arith, r .0 .few))
+
+  pub reading-refusal-fits : (n i : ℕ) → reading-answer bytes list slots ≡ refused n i → Both-fit n i
+  unfolding reading-answer
+  reading-refusal-fits n i e =
+      let A : ℕ = header bytes .appointments in
+      bar-fits (ltb (length bytes) 4 || not (eqb (length bytes) (filed-length A))) 12 _ n i (omega arith)
+      (bar-fits (ltb 1024 (header bytes .parties)) 1 _ n i (omega arith)
+      (bar-fits (ltb 4096 A) 3 _ n i (omega arith)
+      (bar-fits (ltb (length list) (2 * A) || ltb (length slots) A) 13 _ n i (omega arith) (never-refused n i))))
+      (refused-checked (reading-checks bytes list slots) (header bytes) n i e)
+
+-- ── the viewer ──
+
+pub viewer-refusal-fits : (list slots : List ℕ) (n i : ℕ) → viewer-answer list slots ≡ refused n i → Both-fit n i
+unfolding viewer-answer
+viewer-refusal-fits list slots n i e =
+    bar-fits (eqb (length list % 2) 1) 2 _ n i (omega arith)
+    (bar-fits (ltb (length slots) (length (appts list))) 7 _ n i (omega arith) (never-refused n i))
+    (refused-checked (viewer-checks list slots) tt n i e)

@@ -1,0 +1,90 @@
+-- From the enum that a call of the desk tells to the definitions' answer, and from that to its numbers. Assumes nothing.
+use Prim.Native.Nat.{ℕ}
+use mathlib.Core.Path.{_≡_, refl}
+use Rattle.desk.specs.Answers.{Answer, accepted, refused, number-of, place-of, figure-of}
+use Rattle.desk.specs.Filed.{Header, parties-of, appointments-of}
+use Rattle.desk.specs.Viewer.{Step, found, end}
+use Rattle.desk.specs.Told.{asked-of, filed-of, read-of, opened-of, shown-of}
+use Rattle.desk.specs.declared.asking.Asked.the-variants as asked
+use Rattle.desk.specs.declared.filing.Filed.the-variants as filed
+use Rattle.desk.specs.declared.filing.Read.the-variants as read
+use Rattle.desk.specs.declared.viewing.Opened.the-variants as opened
+use Rattle.desk.specs.declared.viewing.Shown.{Shown}
+use Rattle.bimtsure_c.specs.Viewed.{if-open, found-of, position-of, slot-of, shown-found, shown-position, shown-slot, shown-next}
+
+-- ── the answer behind what was told ──
+
+pub asked-waits : (a : Answer ℕ) (n : ℕ) → asked-of a ≡ asked.Waits n → a ≡ accepted n
+asked-waits (accepted m) n e = cc
+asked-waits (refused k i) n e = cc
+
+pub asked-refused : (a : Answer ℕ) (n i : ℕ) → asked-of a ≡ asked.Refused n i → a ≡ refused n i
+asked-refused (accepted m) n i e = cc
+asked-refused (refused k j) n i e = cc
+
+pub filed-written : (a : Answer ℕ) (n : ℕ) → filed-of a ≡ filed.Written n → a ≡ accepted n
+filed-written (accepted m) n e = cc
+filed-written (refused k i) n e = cc
+
+pub filed-refused : (a : Answer ℕ) (n i : ℕ) → filed-of a ≡ filed.Refused n i → a ≡ refused n i
+filed-refused (accepted m) n i e = cc
+filed-refused (refused k j) n i e = cc
+
+abbrev pub header-of : ℕ → ℕ → Header
+header-of P A = record { parties = P; appointments = A }
+
+pub read-plan : (a : Answer Header) (P A : ℕ) → read-of a ≡ read.Plan P A → a ≡ accepted (header-of P A)
+read-plan (accepted h) P A e =
+    let p : h .parties ≡ P = cc in
+    let k : h .appointments ≡ A = cc in
+    rw (p, k)
+read-plan (refused k i) P A e = cc
+
+pub read-refused : (a : Answer Header) (n i : ℕ) → read-of a ≡ read.Refused n i → a ≡ refused n i
+read-refused (accepted h) n i e = cc
+read-refused (refused k j) n i e = cc
+
+pub opened-open : (a : Answer Unit) → opened-of a ≡ opened.Open → a ≡ accepted tt
+opened-open (accepted u) e = refl
+opened-open (refused k i) e = cc
+
+pub opened-refused : (a : Answer Unit) (n i : ℕ) → opened-of a ≡ opened.Refused n i → a ≡ refused n i
+opened-refused (accepted u) n i e = cc
+opened-refused (refused k j) n i e = cc
+
+-- ── its numbers ──
+
+pub accepted-says : (a : Answer ℕ) (n : ℕ) → a ≡ accepted n → (0 ≡ number-of a) × ((0 ≡ place-of a) × (n ≡ figure-of a))
+accepted-says a n e = rw e (refl, (refl, refl))
+
+pub refused-says : (a : Answer ℕ) (n i : ℕ) → a ≡ refused n i → (n ≡ number-of a) × ((i ≡ place-of a) × (0 ≡ figure-of a))
+refused-says a n i e = rw e (refl, (refl, refl))
+
+pub read-says : (a : Answer Header) (P A : ℕ) → a ≡ accepted (header-of P A) → (0 ≡ number-of a) × (0 ≡ place-of a) × (P ≡ parties-of a) × (A ≡ appointments-of a)
+read-says a P A e = rw e (refl, refl, refl, refl)
+
+pub read-refused-says : (a : Answer Header) (n i : ℕ) → a ≡ refused n i → (n ≡ number-of a) × (i ≡ place-of a) × (0 ≡ parties-of a) × (0 ≡ appointments-of a)
+read-refused-says a n i e = rw e (refl, refl, refl, refl)
+
+-- The numbers of the viewer's answer: those of its opening, and of a step where it is open.
+abbrev pub View-says : Answer Unit → Step → ℕ → ℕ → ℕ → ℕ → ℕ → ℕ → Type 0
+View-says a s stands number shown position slot next =
+    (number ≡ number-of a)
+    × ((shown ≡ if-open a (found-of s)) × ((position ≡ if-open a (position-of s)) × ((slot ≡ if-open a (slot-of s)) × (next ≡ if-open a stands))))
+
+pub closed-says : (a : Answer Unit) (s : Step) (stands n i : ℕ) → a ≡ refused n i → View-says a s stands n 0 0 0 0
+closed-says a s stands n i e = rw e (refl, (refl, (refl, (refl, refl))))
+
+-- the numbers of what a step told
+abbrev pub Seen-says : Shown → ℕ → ℕ → ℕ → ℕ → ℕ → Type 0
+Seen-says told number shown position slot next =
+    (number ≡ 0) × (shown ≡ shown-found told) × (position ≡ shown-position told) × (slot ≡ shown-slot told) × (next ≡ shown-next told)
+
+-- are those of the step, where the viewer is open
+seen-step : (s : Step) (stands number shown position slot next : ℕ) → Seen-says (shown-of s stands) number shown position slot next → View-says (accepted tt) s stands number shown position slot next
+seen-step (found s) stands number shown position slot next k = (k .0, (k .1, (k .2, (k .3, k .4))))
+seen-step end stands number shown position slot next k = (k .0, (k .1, (k .2, (k .3, k .4))))
+
+pub open-says : (a : Answer Unit) (s : Step) (told : Shown) (stands number shown position slot next : ℕ) → a ≡ accepted tt → told ≡ shown-of s stands → Seen-says told number shown position slot next → View-says a s stands number shown position slot next
+open-says a s told stands number shown position slot next e q k =
+    rw e (seen-step s stands number shown position slot next (rw q at k))

@@ -1,0 +1,63 @@
+/* The exported calls of the crate bimtsure_c (target/staticlib/libbimtsure_c.a, written by `rt staticlib bimtsure_c`).
+ *
+ * A lent slice passes as its address and its number of entries; an address of no entries may be anything but NULL, as long as it
+ * is aligned. Slices that a call writes must not overlap the others. Nothing is kept after a call.
+ *
+ * Each answer has a number, 0 for acceptance, and where document 01 names one a place; a refusal's figures are 0, and it leaves
+ * all lent memory as it was.
+ */
+#ifndef BIMTSURE_H
+#define BIMTSURE_H
+
+#include <stddef.h>
+#include <stdint.h>
+
+#ifdef __cplusplus
+extern "C" {
+#endif
+
+/* Waiting of a party: D minus its load. Refuses by 1 to 5; 5 with place 0 also if the party is not below P. */
+struct bimtsure_waiting_answer {
+    uint32_t number;
+    uint32_t place;
+    uint32_t waiting;
+};
+struct bimtsure_waiting_answer bimtsure_waiting(uint16_t p, const uint16_t *list, size_t list_len, uint16_t party);
+
+/* Writes a filed plan and gives its length in bytes. Refuses by 1, 2, 3, 7 and 13. */
+struct bimtsure_filed {
+    uint32_t number;
+    uint32_t place;
+    uint32_t length;
+};
+struct bimtsure_filed bimtsure_file_plan(uint16_t p, const uint16_t *list, size_t list_len, const uint16_t *slots,
+                                         size_t slots_len, uint8_t *output, size_t output_len);
+
+/* Reads a filed plan into a list and its slots, and gives P and A. Refuses by 12, 1, 3 and 13. */
+struct bimtsure_read {
+    uint32_t number;
+    uint32_t place;
+    uint32_t parties;
+    uint32_t appointments;
+};
+struct bimtsure_read bimtsure_read_plan(const uint8_t *bytes, size_t bytes_len, uint16_t *list, size_t list_len,
+                                        uint16_t *slots, size_t slots_len);
+
+/* Opens a viewer over a list and its slots (refuses by 2 and 7) and takes one step of it, from a position to the next
+ * appointment of a party: found is 1, with the appointment's position and slot; or 0 at the end. The next step starts at `next`,
+ * which is A at the end. Begin at 0. Positions are as wide as a length, since opening bounds no list. */
+struct bimtsure_seen {
+    uint32_t number;
+    uint32_t found;
+    size_t position;
+    uint32_t slot;
+    size_t next;
+};
+struct bimtsure_seen bimtsure_view(const uint16_t *list, size_t list_len, const uint16_t *slots, size_t slots_len,
+                                   uint16_t party, size_t from);
+
+#ifdef __cplusplus
+}
+#endif
+
+#endif
