@@ -3,3 +3,12 @@ pub mod Diagonal
 pub mod Searching
 pub mod Halving
 pub mod MatchingLaws
+pub mod Counts
+pub mod CopyLaws
+pub mod DiagonalWords
+pub mod GraphWords
+pub mod Narrow
+pub mod HalvingWords
+pub mod SearchWords
+pub mod FindWords
+pub mod SmallSearch

@@ -25,6 +25,17 @@ two-pow e = pow-succ' 2 e
 exponent-lt : (e i : ℕ) → 2 ^ e < 2 ^ i → e < i
 exponent-lt e i h = elim (decLe i e) [ yes k ↦ absurd (omega (arith, pow-mono {i = i} {j = e} k)) | no k ↦ omega arith ]
 
+-- a power has one exponent
+pub pow-same : (e i : ℕ) → 2 ^ e ≡ 2 ^ i → e ≡ i
+pow-same e i h =
+    elim (decLe e i) [
+      | yes k ↦ elim (decLe i e) [ yes l ↦ omega arith | no l ↦ absurd (omega (arith, pow-less e i (omega arith))) ]
+      | no k ↦ absurd (omega (arith, pow-less i e (omega arith)))
+    ]
+  where
+    pow-less : (a b : ℕ) → suc a ≤ b → 2 ^ a < 2 ^ b
+    pow-less a b l = omega (arith, pow-mono {i = suc a} {j = b} l, two-pow a, pow-pos a)
+
 pub power-above-law : (m : ℕ) → Least-power m (power-above m)
 unfolding power-above
 power-above-law zero = record { reaches = omega arith; least = λ i h. omega arith }

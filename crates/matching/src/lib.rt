@@ -1,1 +1,305 @@
-// `rbmg_find_perfect_matching` over scratch words follows; this crate has its definition and laws.
+// `rbmg_find_perfect_matching` over scratch words, with the second search: module 5 of document 01.
+//
+// A search pushes its graph at the mark, splits it again and again above it, and copies the half that goes on down to its base.
+ghost use mathlib.Core.Path.{_≡_};
+ghost use Prim.Native.Nat.{ℕ, _+_, _*_, _-_, _/_, _^_, _<_, _≤_};
+ghost use lib.ListN.{length};
+ghost use Rattle.words.specs.Words.{word, «put-word»};
+ghost use Rattle.multigraph.specs.Stored.{«graph-at»};
+ghost use Rattle.multigraph.specs.Places.{size, «Adds-edge»};
+ghost use Rattle.matching.specs.Matching.{«power-above», «flagged-pairs»};
+ghost use Rattle.matching.specs.Choosing.{«flagged-by», «flagged-entry», fewer, Chooses, Copies, «Copying», «Can-copy»};
+ghost use Rattle.matching.specs.Searched.{«Adds-diagonal», «Builds-graph», «Can-halve», Halved, «Can-halve-all», «Halved-all»};
+ghost use Rattle.matching.specs.Searched.{«Can-search», «Search-done», «Searches-done», «Reads-matching», «Can-find», «Matching-found»};
+use multigraph::EdgeIndex;
+use words::get;
+use words::put;
+
+// Where the table of a regular graph lies: the ends, two words for each pair and then for left i with right i; the map of
+// places; the numbers of the diagonal; and how many pairs there are. A number is flagged if it is not below `pairs`.
+pub struct Table {
+    pub ends: usize,
+    pub places: usize,
+    pub diag: usize,
+    pub pairs: usize,
+}
+
+// The least power of two not below `m`.
+pub fn power_above(m: usize) -> usize
+    requires { ⌜ m < 4294967296 ⌝ }
+    ensures { λ r. ⌜ r ≡ 2 ^ power-above m ⌝ }
+{
+    let mut t: usize = 1;
+    while t < m {
+        t = 2 * t;
+    }
+    t
+}
+
+// What entry `i` of a graph's own words counts: nothing if it isn't flagged, else 1, or its copies.
+fn flagged_at(g: &[u32], pairs: usize, by_copies: bool, i: usize) -> usize
+    requires { ⌜ i < 4294967296 ⌝ }
+    ensures { λ r. ⌜ (r ≡ flagged-entry «by_copies» (now (g .entry)) pairs 0 i) × (r < 4294967296) ⌝ }
+{
+    let e = get(g, 2 + 2 * i);
+    if e < pairs {
+        return 0;
+    }
+    if by_copies {
+        return get(g, 3 + 2 * i);
+    }
+    1
+}
+
+// How many pairs of a graph are flagged, or how many copies these have. The slice holds the graph's own words.
+fn flagged(g: &[u32], pairs: usize, by_copies: bool) -> usize
+    ensures { λ r. ⌜ ((ends : ℕ) → r ≡ flagged-by «by_copies» (graph-at (now (g .entry)) ends pairs 0)) ⌝ }
+{
+    let m = get(g, 1);
+    let mut c: usize = 0;
+    let mut i = 0;
+    while i < m {
+        c += flagged_at(g, pairs, by_copies, i);
+        i += 1;
+    }
+    c
+}
+
+// The chooser: of two halves the one with fewer flagged, the first if equal.
+pub fn fewer_flagged<'a>(
+    first: &'a [u32],
+    second: &'a [u32],
+    pairs: usize,
+    by_copies: bool,
+) -> &'a [u32]
+    ensures { λ r. ⌜ ((ends : ℕ) → r ≡ fewer «by_copies» (graph-at (now (first .entry)) ends pairs 0) (graph-at (now (second .entry)) ends pairs 0) (first .entry) (second .entry)) ⌝ }
+{
+    let x = flagged(first, pairs, by_copies);
+    let y = flagged(second, pairs, by_copies);
+    if x <= y {
+        return first;
+    }
+    second
+}
+
+// The base of the half that goes on, where the two lie side by side.
+fn chosen(s: &[u32], first: usize, room: usize, pairs: usize, by_copies: bool) -> usize
+    requires { ⌜ 0 < room ⌝ }
+    requires { ⌜ first + room + room ≤ length (now s) ⌝ }
+    ensures { λ r. ⌜ Chooses first room pairs «by_copies» (now (s .entry)) r × (r < 4294967296) ⌝ }
+{
+    let middle = first + room;
+    let end = middle + room;
+    let r = fewer_flagged(&s[first..middle], &s[middle..end], pairs, by_copies);
+    let x = r[0];
+    x as usize
+}
+
+// Copies entry `i`, its copies times `alpha`.
+fn copy_entry(s: &mut [u32], from: usize, to: usize, alpha: usize, i: usize)
+    requires { ⌜ from < 4294967296 ⌝ }
+    requires { ⌜ to < 4294967296 ⌝ }
+    requires { ⌜ alpha < 4294967296 ⌝ }
+    requires { ⌜ i < 4294967296 ⌝ }
+    ensures { λ r. ⌜ now (s .exit) ≡ put-word (put-word (now (s .entry)) (to + 2 + 2 * i) (word (now (s .entry)) (from + 2 + 2 * i))) (to + 3 + 2 * i) (alpha * word (now (s .entry)) (from + 3 + 2 * i)) ⌝ }
+{
+    let e = get(s, from + 2 + 2 * i);
+    let c = get(s, from + 3 + 2 * i);
+    put(s, to + 2 + 2 * i, e);
+    put(s, to + 3 + 2 * i, alpha * c);
+}
+
+// Copies `m` entries.
+fn copy_entries(s: &mut [u32], from: usize, to: usize, alpha: usize, m: usize)
+    requires { ⌜ from < 4294967296 ⌝ }
+    requires { ⌜ to < 4294967296 ⌝ }
+    requires { ⌜ alpha < 4294967296 ⌝ }
+    requires { ⌜ m < 4294967296 ⌝ }
+    ensures { λ r. ⌜ (m ≡ size (now (s .entry)) from → Can-copy from to alpha (now (s .entry)) → Copying from to alpha m (now (s .entry)) (now (s .exit))) ⌝ }
+{
+    let mut i = 0;
+    while i < m {
+        copy_entry(s, from, to, alpha, i);
+        i += 1;
+    }
+}
+
+// Copies the graph at `from` to `to`, every pair's copies times `alpha`.
+fn copy_times(s: &mut [u32], from: usize, to: usize, alpha: usize)
+    requires { ⌜ from < 4294967296 ⌝ }
+    requires { ⌜ to < 4294967296 ⌝ }
+    requires { ⌜ alpha < 4294967296 ⌝ }
+    ensures { λ r. ⌜ Copies from to alpha (now (s .entry)) (now (s .exit)) ⌝ }
+{
+    let m = get(s, from + 1);
+    copy_entries(s, from, to, alpha, m);
+    put(s, to, to);
+    put(s, to + 1, m);
+}
+
+// `beta` copies of left `i` with right `i`: the pair that has these ends, or a new one with the number of their row.
+fn add_pair(s: &mut [u32], t: Table, h: usize, beta: usize, i: usize)
+    requires { ⌜ t .places < 4294967296 ⌝ }
+    requires { ⌜ t .diag < 4294967296 ⌝ }
+    requires { ⌜ t .pairs + i < 4294967296 ⌝ }
+    requires { ⌜ h < 4294967296 ⌝ }
+    requires { ⌜ beta < 4294967296 ⌝ }
+    ensures { λ r. ⌜ Adds-edge (t .places) h (word (now (s .entry)) (t .diag + i)) (t .pairs + i) beta (now (s .entry)) (now (s .exit)) ⌝ }
+{
+    let e = get(s, t.diag + i);
+    let key = EdgeIndex(e as u32);
+    let number = EdgeIndex((t.pairs + i) as u32);
+    multigraph::add_edge(s, t.places, h, key, number, beta);
+}
+
+// `beta` copies of each left party with the right party of the same place, in order.
+fn add_diagonal(s: &mut [u32], t: Table, h: usize, n: usize, beta: usize)
+    requires { ⌜ t .places < 4294967296 ⌝ }
+    requires { ⌜ t .diag < 4294967296 ⌝ }
+    requires { ⌜ t .pairs + n < 4294967296 ⌝ }
+    requires { ⌜ h < 4294967296 ⌝ }
+    requires { ⌜ beta < 4294967296 ⌝ }
+    ensures { λ r. ⌜ Adds-diagonal t h n beta (now (s .entry)) (now (s .exit)) ⌝ }
+{
+    multigraph::map_places(s, t.places, h, t.diag, n);
+    let mut i = 0;
+    while i < n {
+        add_pair(s, t, h, beta, i);
+        i += 1;
+    }
+}
+
+// The graph that a search splits, built at `h` from the graph at `g`.
+fn search_graph(s: &mut [u32], t: Table, g: usize, h: usize, n: usize, alpha: usize, beta: usize)
+    requires { ⌜ t .places < 4294967296 ⌝ }
+    requires { ⌜ t .diag < 4294967296 ⌝ }
+    requires { ⌜ t .pairs + n < 4294967296 ⌝ }
+    requires { ⌜ g < 4294967296 ⌝ }
+    requires { ⌜ h < 4294967296 ⌝ }
+    requires { ⌜ alpha < 4294967296 ⌝ }
+    requires { ⌜ beta < 4294967296 ⌝ }
+    ensures { λ r. ⌜ Builds-graph t g h n alpha beta (now (s .entry)) (now (s .exit)) ⌝ }
+{
+    copy_times(s, g, h, alpha);
+    add_diagonal(s, t, h, n, beta);
+}
+
+// One halving of the graph at `h`: both halves are pushed, and the one that goes on is copied down to `h`.
+fn halve_once(
+    s: &mut [u32],
+    used: &mut usize,
+    t: Table,
+    h: usize,
+    n: usize,
+    width: usize,
+    by_copies: bool,
+)
+    requires { ⌜ Can-halve t h n width (now used) (now s) ⌝ }
+    ensures { λ r. ⌜ Halved t h n «by_copies» (now (used .entry)) (now (used .exit)) (now (s .entry)) (now (s .exit)) ⌝ }
+{
+    let mark = *used;
+    let room = 2 * (n * (width + 1));
+    euler::rbmg_split_into_two(s, used, t.ends, h, n, width);
+    let from = chosen(s, mark, room, t.pairs, by_copies);
+    copy_times(s, from, h, 1);
+    *used = mark;
+}
+
+// From degree `degree`, a power of two, down to degree 1.
+fn halve_all(
+    s: &mut [u32],
+    used: &mut usize,
+    t: Table,
+    h: usize,
+    n: usize,
+    width: usize,
+    degree: usize,
+    by_copies: bool,
+)
+    requires { ⌜ Can-halve-all t h n width degree (now used) (now s) ⌝ }
+    ensures { λ r. ⌜ Halved-all t h n width degree «by_copies» (now (used .entry)) (now (used .exit)) (now (s .entry)) (now (s .exit)) ⌝ }
+{
+    let mut x = degree;
+    while x > 1 {
+        halve_once(s, used, t, h, n, width, by_copies);
+        x = x / 2;
+    }
+}
+
+// How many pairs of the graph at `h`, which has so much room, are flagged.
+fn flagged_in(s: &[u32], h: usize, room: usize, pairs: usize) -> usize
+    requires { ⌜ h + room ≤ length (now s) ⌝ }
+    ensures { λ r. ⌜ ((ends : ℕ) → 2 + 2 * size (now (s .entry)) h ≤ room → r ≡ flagged-pairs (graph-at (now (s .entry)) ends pairs h)) ⌝ }
+{
+    let end = h + room;
+    flagged(&s[h..end], pairs, false)
+}
+
+// One search of the graph at `g`: what it leaves stands at the mark. Gives how many flagged pairs are among it.
+fn search(
+    s: &mut [u32],
+    used: &mut usize,
+    t: Table,
+    g: usize,
+    n: usize,
+    k: usize,
+    by_copies: bool,
+) -> usize
+    requires { ⌜ Can-search t g n k (now used) (now s) ⌝ }
+    ensures { λ r. ⌜ Search-done t g n k «by_copies» (now (used .entry)) (now (used .exit)) r (now (s .entry)) (now (s .exit)) ⌝ }
+{
+    let h = *used;
+    let degree = power_above(k * n);
+    let alpha = degree / k;
+    search_graph(s, t, g, h, n, alpha, degree - k * alpha);
+    let room = 2 * (n * (k + 2));
+    *used = h + room;
+    halve_all(s, used, t, h, n, k + 1, degree, by_copies);
+    *used = h;
+    flagged_in(s, h, room, t.pairs)
+}
+
+// The search that counts flagged pairs; and if one survives, the search that counts their copies.
+fn searches(s: &mut [u32], used: &mut usize, t: Table, g: usize, n: usize, k: usize)
+    requires { ⌜ Can-search t g n k (now used) (now s) ⌝ }
+    ensures { λ r. ⌜ Searches-done t g n k (now (used .entry)) (now (used .exit)) (now (s .entry)) (now (s .exit)) ⌝ }
+{
+    let flagged = search(s, used, t, g, n, k, false);
+    if flagged == 0 {
+        return;
+    }
+    search(s, used, t, g, n, k, true);
+}
+
+// Writes the numbers of the `n` pairs of the graph at `h` to `out`.
+pub fn read_matching(s: &mut [u32], h: usize, n: usize, out: usize)
+    requires { ⌜ h < 4294967296 ⌝ }
+    requires { ⌜ n < 4294967296 ⌝ }
+    requires { ⌜ out < 4294967296 ⌝ }
+    ensures { λ r. ⌜ Reads-matching h n out (now (s .entry)) (now (s .exit)) ⌝ }
+{
+    let mut i = 0;
+    while i < n {
+        let e = get(s, h + 2 + 2 * i);
+        put(s, out + i, e);
+        i += 1;
+    }
+}
+
+// The perfect matching of the graph at `g`, regular of degree `k` on `n` parties a side: its pair numbers, in order, at `out`.
+pub fn rbmg_find_perfect_matching(
+    s: &mut [u32],
+    used: &mut usize,
+    t: Table,
+    g: usize,
+    n: usize,
+    k: usize,
+    out: usize,
+)
+    requires { ⌜ Can-find t g n k out (now used) (now s) ⌝ }
+    ensures { λ r. ⌜ Matching-found t g n k out (now (used .entry)) (now (used .exit)) (now (s .entry)) (now (s .exit)) ⌝ }
+{
+    let h = *used;
+    searches(s, used, t, g, n, k);
+    read_matching(s, h, n, out);
+}

@@ -1,0 +1,182 @@
+-- Flagged pairs and flagged copies of a graph that lies in words, counted entry by entry; and the least power of two, doubled
+-- up to. Assumes nothing.
+use Prim.Native.Nat.{ℕ, zero, suc, _+_, _*_, _-_, _^_, _≤_, _<_}
+use mathlib.Core.Path.{_≡_, refl, _∙_, ap}
+use mathlib.Core.Bool.{Bool, true, false}
+use mathlib.Core.List.{List, [], _∷_, _++_}
+use native.Mathlib.Omega.{arith}
+use native.Mathlib.Nat.{one-mul, zero-mul, add-zero, mul-le-mul-left, mul-le-mul-right}
+use native.Mathlib.Numerals.{add-one}
+use native.Mathlib.Decide.{decLt}
+use borrow.Author.Tests.{lt-leb, le-leb}
+use lib.Dec.{leb}
+use lib.ListN.{length, take, drop, length-take, length-drop}
+use lib.Seq.{getD-take, getD-drop}
+use Rattle.words.specs.Basics.{pick, total, sum-below}
+use Rattle.words.specs.Words.{word}
+use Rattle.words.proofs.Sums.{total-append, sum-below-cong}
+use Rattle.multigraph.specs.Multigraph.{Pair, Graph}
+use Rattle.multigraph.specs.Stored.{entry, graph-at}
+use Rattle.multigraph.specs.Places.{size, number, copies-of}
+use Rattle.multigraph.specs.Steps.{span}
+use Rattle.multigraph.proofs.Spans.{graph-span, span-snoc}
+use Rattle.matching.specs.Matching.{power-above, flagged-pairs, flagged-copies}
+use Rattle.matching.specs.Choosing.{flagged-by, flagged-entry, fewer, Chooses}
+use Rattle.matching.proofs.Powers.{power-above-law, two-pow}
+
+-- ── entry by entry ──
+
+total-span : (f : Pair → ℕ) (h : ℕ → Pair) (k : ℕ) → total f (span h 0 k) ≡ sum-below (λ i. f (h i)) k
+unfolding total span sum-below
+total-span f h zero = refl
+total-span f h (suc k) =
+    let snoc : span h 0 (suc k) ≡ span h 0 k ++ h k ∷ [] = rw add-one at (span-snoc h k) in
+    omega (arith, ap (total f) snoc, total-append f (span h 0 k) (h k ∷ []), total-span f h k)
+
+pub flagged-sum :
+    (by : Bool) (s : List ℕ) (ends pairs g : ℕ) →
+    flagged-by by (graph-at s ends pairs g) ≡ sum-below (flagged-entry by s pairs g) (size s g)
+unfolding flagged-pairs flagged-copies
+flagged-sum false s ends pairs g =
+    rw (graph-span s ends pairs g) (total-span (λ p. p .bad) (entry s ends pairs g) (size s g))
+flagged-sum true s ends pairs g =
+    rw (graph-span s ends pairs g)
+    (total-span (λ p. p .bad * p .copies) (entry s ends pairs g) (size s g)
+    ∙ sum-below-cong (size s g) (λ i h. go (leb pairs (number s g i)) (copies-of s g i)))
+  where
+    go : (t : Bool) (c : ℕ) → pick t 1 0 * c ≡ pick t c 0
+    go true c = one-mul c
+    go false c = zero-mul c
+
+-- one more entry
+pub flagged-more :
+    (by : Bool) (s : List ℕ) (pairs g i : ℕ) →
+    sum-below (flagged-entry by s pairs g) (i + 1) ≡ sum-below (flagged-entry by s pairs g) i + flagged-entry by s pairs g i
+unfolding sum-below
+flagged-more by s pairs g i = rw add-one
+
+pub flagged-none : (by : Bool) (s : List ℕ) (pairs g : ℕ) → sum-below (flagged-entry by s pairs g) 0 ≡ 0
+unfolding sum-below
+flagged-none by s pairs g = refl
+
+-- what one entry counts
+module _ (by : Bool) (s : List ℕ) (pairs g i e : ℕ) (is : e ≡ number s g i) where
+  pub entry-unflagged : e < pairs → 0 ≡ flagged-entry by s pairs g i
+  entry-unflagged h = rw (← is, lt-leb pairs e h)
+
+  pub entry-flagged : pairs ≤ e → pick by (copies-of s g i) 1 ≡ flagged-entry by s pairs g i
+  entry-flagged h = rw (← is, le-leb pairs e h)
+
+-- ── a part of the words ──
+
+-- the words from a on, so many of them
+abbrev pub part : List ℕ → ℕ → ℕ → List ℕ
+part s a w = take w (drop a s)
+
+pub part-word : (s : List ℕ) (a w i : ℕ) → i < w → word (part s a w) i ≡ word s (a + i)
+part-word s a w i h = rw (getD-take, getD-drop)
+
+-- A graph in a part of the words has as many flagged as where it lies.
+pub part-flagged :
+    (by : Bool) (s : List ℕ) (ends pairs a w : ℕ) → 2 + 2 * size s a ≤ w →
+    flagged-by by (graph-at (part s a w) ends pairs 0) ≡ flagged-by by (graph-at s ends pairs a)
+part-flagged by s ends pairs a w h =
+    rw (flagged-sum by (part s a w) ends pairs 0, flagged-sum by s ends pairs a, sized)
+    (sum-below-cong (size s a) same)
+  where
+    sized : word (part s a w) 1 ≡ size s a
+    sized = part-word s a w 1 (omega arith)
+
+    same : (i : ℕ) → i < size s a → flagged-entry by (part s a w) pairs 0 i ≡ flagged-entry by s pairs a i
+    same i k =
+        let e : word (part s a w) (2 + 2 * i) ≡ number s a i = part-word s a w (2 + 2 * i) (omega arith) ∙ ap (word s) (omega arith) in
+        let c : word (part s a w) (3 + 2 * i) ≡ copies-of s a i = part-word s a w (3 + 2 * i) (omega arith) ∙ ap (word s) (omega arith) in
+        rw (e, c)
+
+-- ── the half that goes on ──
+
+-- what is read of the chosen one
+pub fewer-map {ℓ κ} :
+    {A : Type ℓ} {B : Type κ} (f : A → B) (by : Bool) (g h : Graph) (a b : A) →
+    f (fewer by g h a b) ≡ fewer by g h (f a) (f b)
+fewer-map f by g h a b = go (leb (flagged-by by g) (flagged-by by h))
+  where
+    go : (t : Bool) → f (pick t a b) ≡ pick t (f a) (f b)
+    go true = refl
+    go false = refl
+
+-- what both have, the chosen one has
+pub fewer-is {ℓ} :
+    {A : Type ℓ} (P : A → Type 0) (by : Bool) (g h : Graph) (a b : A) → P a → P b → P (fewer by g h a b)
+fewer-is P by g h a b p q = go (leb (flagged-by by g) (flagged-by by h))
+  where
+    go : (t : Bool) → P (pick t a b)
+    go true = p
+    go false = q
+
+-- Of two parts side by side, each with the words of a half: the first word of the chosen one is its header.
+pub chooses :
+    (first room pairs : ℕ) (by : Bool) (s l : List ℕ) → 0 < room →
+    ((ends : ℕ) →
+    l ≡ fewer by (graph-at (part s first room) ends pairs 0) (graph-at (part s (first + room) room) ends pairs 0)
+    (part s first room) (part s (first + room) room)) →
+    Chooses first room pairs by s (word l 0)
+chooses first room pairs by s l pos is ends a b =
+    ap (λ (x : List ℕ). word x 0) (is ends)
+    ∙ fewer-map (λ (x : List ℕ). word x 0) by (graph-at (part s first room) ends pairs 0)
+    (graph-at (part s (first + room) room) ends pairs 0) (part s first room) (part s (first + room) room)
+    ∙ rw (
+      part-flagged by s ends pairs first room a,
+      part-flagged by s ends pairs (first + room) room b,
+      part-word s first room 0 pos,
+      part-word s (first + room) room 0 pos,
+      add-zero,
+      add-zero,
+    )
+
+pub part-length : (s : List ℕ) (a w : ℕ) → a + w ≤ length s → length (part s a w) ≡ w
+part-length s a w h = simp (length-take, length-drop) (omega arith)
+
+-- ── the least power of two ──
+
+-- doubled e times, and not past the least power
+pub record Doubling (m t : ℕ) : Type 0 where
+  pub times : ℕ
+  pub power : t ≡ 2 ^ times
+  pub least : times ≤ power-above m
+  pub positive : 0 < t
+
+pub doubling-none : (m : ℕ) → Doubling m 1
+doubling-none m = record { times = 0; power = refl; least = omega arith; positive = omega arith }
+
+pub doubling-more : (m t : ℕ) → t < m → Doubling m t → Doubling m (2 * t)
+doubling-more m t h d =
+    record {
+      times = suc (d .times);
+      power = rw (two-pow (d .times), ← d .power);
+      least = go (d .times) (power-above m) refl refl;
+      positive = omega (arith, d .positive);
+    }
+  where
+    go : (x e : ℕ) → d .times ≡ x → power-above m ≡ e → suc x ≤ e
+    go x e p q =
+        elim (decLt x e) [
+          | yes k ↦ k
+          | no k ↦
+              let same : power-above m ≡ d .times = omega (arith, d .least) in
+              let reach : m ≤ 2 ^ d .times = rw same at (power-above-law m .reaches) in
+              absurd (omega (arith, d .power))
+        ]
+
+pub doubling-done : (m t : ℕ) → m ≤ t → Doubling m t → t ≡ 2 ^ power-above m
+doubling-done m t h d =
+    let reach : m ≤ 2 ^ d .times = rw (d .power) at h in
+    let same : d .times ≡ power-above m = omega (arith, d .least, power-above-law m .least (d .times) reach) in
+    rw same at (d .power)
+
+-- the product of two words
+pub product-fits : (a b : ℕ) → a < 4294967296 → b < 4294967296 → a * b < 18446744073709551616
+product-fits a b h k =
+    let x : a ≤ 4294967295 = omega arith in
+    let y : b ≤ 4294967295 = omega arith in
+    omega (arith, mul-le-mul-left a y, mul-le-mul-right 4294967295 x)

@@ -1,0 +1,303 @@
+-- Both searches over words, and the matching's numbers written out: `rbmg-find-perfect-matching`. Assumes nothing.
+use Prim.Native.Nat.{ℕ, _+_, _*_, _-_, _≤_, _<_}
+use mathlib.Core.Path.{_≡_, refl, sym, _∙_, ap}
+use mathlib.Core.Bool.{true, false}
+use mathlib.Core.List.{List}
+use mathlib.Core.Logic.{_⊎_, inl, inr, ⊎-elim}
+use native.Mathlib.Omega.{arith}
+use native.Mathlib.Decide.{ℕ-discrete, decLe}
+use borrow.Author.Tests.{eq-eqb, ne-eqb, le-leb}
+use lib.Dec.{leb}
+use lib.ListN.{length}
+use Rattle.words.specs.Basics.{pick, ran}
+use Rattle.words.specs.Words.{word, put-word}
+use Rattle.words.specs.Frames.{Stays}
+use Rattle.words.proofs.Sums.{total-zero-all}
+use Rattle.words.proofs.Frames.{here, away, length-put, stays-trans}
+use Rattle.multigraph.specs.Multigraph.{Pair, Graph}
+use Rattle.multigraph.specs.Regular.{Regular}
+use Rattle.multigraph.specs.Stored.{entry, graph-at}
+use Rattle.multigraph.specs.Places.{size, number, copies-of}
+use Rattle.multigraph.proofs.Matchings.{single-copies}
+use Rattle.multigraph.proofs.Sizes.{matching-pairs}
+use Rattle.multigraph.proofs.Spans.{graph-span, matching-span, matched, span-same, all-span}
+use Rattle.multigraph.proofs.Kept.{Ends-kept, alike-kept, alike-back, graph-kept, numbered-kept}
+use Rattle.matching.specs.Matching.{power-above, search-graph, halve, flagged-pairs, flagged-copies, rbmg-find-perfect-matching}
+use Rattle.matching.specs.Perfect.{Matching-of}
+use Rattle.matching.specs.Searched.{lefts, rights, On-diagonal, Tabled, Can-search, Search-done, Searches-done, Can-read, Matching-read, Reads-matching, Can-find, Matching-found}
+use Rattle.matching.specs.declared.Table.{Table}
+use Rattle.matching.proofs.MatchingLaws.{matching-law}
+use Rattle.matching.proofs.Narrow.{length-graph}
+use Rattle.matching.proofs.GraphWords.{Sides-kept, sides-kept}
+use Rattle.matching.proofs.SearchWords.{length-column}
+
+-- ── after a search another one can follow ──
+
+module _ (t : Table) (g n k mark : ℕ) (s u : List ℕ) (can : Can-search t g n k mark s)
+    (st : Stays mark (t .places) (t .pairs + n) s u) where
+  low : (i : ℕ) → i < t .places → word u i ≡ word s i
+  low i a = st .under i (omega (arith, can .after-places, can .below)) a
+
+  high : (i : ℕ) → g ≤ i → i < mark → word u i ≡ word s i
+  high i a b = st .over i b (omega (arith, can .after-places))
+
+  kept : Ends-kept (t .ends) (t .pairs + n) s u
+  kept =
+      record {
+        firsts = λ e a. low (t .ends + 2 * e) (omega (arith, can .tabled .after-ends));
+        seconds = λ e a. low (t .ends + 2 * e + 1) (omega (arith, can .tabled .after-ends));
+      }
+
+  size-same : size u g ≡ size s g
+  size-same = high (g + 1) (omega arith) (omega (arith, can .below))
+
+  number-same : (i : ℕ) → i < size s g → number u g i ≡ number s g i
+  number-same i a = high (g + 2 + 2 * i) (omega arith) (omega (arith, can .below))
+
+  pub graph-same : graph-at u (t .ends) (t .pairs) g ≡ graph-at s (t .ends) (t .pairs) g
+  graph-same =
+      graph-kept kept (t .pairs) g size-same number-same
+      (λ i a. high (g + 3 + 2 * i) (omega arith) (omega (arith, can .below))) (λ i a. omega (arith, can .numbers i a))
+
+  pub sides-same : Sides-kept t n s u
+  sides-same = sides-kept t n s u (can .tabled .after-ends) low
+
+  tabled-same : Tabled t n u
+  tabled-same =
+      record {
+        distinct =
+            record {
+              distinct =
+                  λ e f a b x. can .tabled .distinct .distinct e f a b (alike-back kept e f (omega arith) (omega arith) x);
+            };
+        diagonal = diagonal;
+        after-diag = can .tabled .after-diag;
+        after-ends = can .tabled .after-ends;
+      }
+    where
+      key : (i : ℕ) → i < n → word u (t .diag + i) ≡ word s (t .diag + i)
+      key i a = low (t .diag + i) (omega (arith, can .tabled .after-diag))
+
+      diagonal : (i : ℕ) → i < n → On-diagonal t i u
+      diagonal i a =
+          ⊎-elim
+          (λ x.
+          inl (
+            rw (key i a) (x .0),
+            rw (key i a) (alike-kept kept (word s (t .diag + i)) (t .pairs + i) (omega (arith, x .0)) (omega arith) (x .1)),
+          ))
+          (λ x.
+          inr (rw (key i a) (x .0), λ e b y. x .1 e b (alike-back kept e (t .pairs + i) (omega arith) (omega arith) y)))
+          (can .tabled .diagonal i a)
+
+  pub can-search-again : Can-search t g n k mark u
+  can-search-again =
+      record {
+        side = can .side;
+        regular = rw graph-same (can .regular);
+        positive = rw graph-same (can .positive);
+        partition = rw (sides-same .left, sides-same .right) (can .partition);
+        several = can .several;
+        some = can .some;
+        few = can .few;
+        most = can .most;
+        numbers = λ i a. rw (number-same i (omega (arith, size-same))) (can .numbers i (omega (arith, size-same)));
+        tabled = tabled-same;
+        after-places = can .after-places;
+        below = omega (arith, can .below, size-same);
+        room = omega (arith, can .room, st .len);
+        short = omega (arith, can .short, st .len);
+      }
+
+-- ── the first search, or the second ──
+
+first-found :
+    (N : ℕ) (left right : List ℕ) (k : ℕ) (g m : Graph) →
+    halve N flagged-pairs (power-above (k * length left)) (search-graph left right k g) ≡ ran m → flagged-pairs m ≡ 0 →
+    rbmg-find-perfect-matching N left right k g ≡ ran m
+unfolding rbmg-find-perfect-matching
+first-found N left right k g m h z = rw (h, eq-eqb (flagged-pairs m) 0 z)
+
+second-found :
+    (N : ℕ) (left right : List ℕ) (k : ℕ) (g x m : Graph) →
+    halve N flagged-pairs (power-above (k * length left)) (search-graph left right k g) ≡ ran x →
+    (flagged-pairs x ≡ 0 → ⊥) →
+    halve N flagged-copies (power-above (k * length left)) (search-graph left right k g) ≡ ran m →
+    rbmg-find-perfect-matching N left right k g ≡ ran m
+unfolding rbmg-find-perfect-matching
+second-found N left right k g x m h some again = rw (h, ne-eqb (flagged-pairs x) 0 some, again)
+
+pub one-search :
+    (t : Table) (g n k mark new flagged : ℕ) (s u : List ℕ) → Search-done t g n k false mark new flagged s u → flagged ≡ 0 →
+    Searches-done t g n k mark new s u
+one-search t g n k mark new flagged s u d z =
+    record {
+      found =
+          first-found (2 * n) (lefts t n s) (rights t n s) k (graph-at s (t .ends) (t .pairs) g)
+          (graph-at u (t .ends) (t .pairs) mark)
+          (rw (length-column s (t .ends + 2 * t .pairs) n) (d .left)) (sym (d .counted) ∙ z);
+      numbers = d .numbers;
+      marked = d .marked;
+      stays = d .stays;
+    }
+
+pub two-searches :
+    (t : Table) (g n k mark middle new flagged later : ℕ) (s u v : List ℕ) → Can-search t g n k mark s →
+    Search-done t g n k false mark middle flagged s u → (flagged ≡ 0 → ⊥) →
+    Search-done t g n k true middle new later u v → Searches-done t g n k mark new s v
+two-searches t g n k mark middle new flagged later s u v can d some e =
+    record {
+      found =
+          second-found (2 * n) (lefts t n s) (rights t n s) k (graph-at s (t .ends) (t .pairs) g)
+          (graph-at u (t .ends) (t .pairs) mark) (graph-at v (t .ends) (t .pairs) mark)
+          (rw (length-column s (t .ends + 2 * t .pairs) n) (d .left)) (λ z. some (d .counted ∙ z))
+          (rw (length-column s (t .ends + 2 * t .pairs) n) second);
+      numbers = rw (d .marked) at (e .numbers);
+      marked = e .marked ∙ d .marked;
+      stays = stays-trans (d .stays) (rw (d .marked) at (e .stays));
+    }
+  where
+    second :
+        halve (2 * n) flagged-copies (power-above (k * n))
+        (search-graph (lefts t n s) (rights t n s) k (graph-at s (t .ends) (t .pairs) g))
+        ≡ ran (graph-at v (t .ends) (t .pairs) mark)
+    second =
+        rw (
+          d .marked,
+          sides-same t g n k mark s u can (d .stays) .left,
+          sides-same t g n k mark s u can (d .stays) .right,
+          graph-same t g n k mark s u can (d .stays),
+        )
+        at (e .left)
+
+-- ── the numbers written out ──
+
+-- i numbers are written
+pub record Reading (h out i : ℕ) (s u : List ℕ) : Type 0 where
+  pub len : length u ≡ length s
+  pub numbers : (j : ℕ) → j < i → word u (out + j) ≡ number s h j
+  pub under : (j : ℕ) → j < out → word u j ≡ word s j
+  pub over : (j : ℕ) → out + i ≤ j → word u j ≡ word s j
+
+pub reading-none : (h out : ℕ) (s : List ℕ) → Reading h out 0 s s
+reading-none h out s =
+    record { len = refl; numbers = λ j a. absurd (omega arith); under = λ j a. refl; over = λ j a. refl }
+
+pub reading-more :
+    (ends rows h n out i : ℕ) (s u v : List ℕ) → Can-read ends rows h n out s → i < n → Reading h out i s u →
+    v ≡ put-word u (out + i) (word u (h + 2 + 2 * i)) → Reading h out (i + 1) s v
+reading-more ends rows h n out i s u v can a r e =
+    rw e
+    (record {
+      len = length-put u (out + i) x ∙ r .len;
+      numbers = λ j b. elim (ℕ-discrete j i) [ yes k ↦ rw k new | no k ↦ away u (out + i) (out + j) x (λ y. omega arith) ∙ r .numbers j (omega arith) ];
+      under = λ j b. away u (out + i) j x (λ y. omega arith) ∙ r .under j b;
+      over = λ j b. away u (out + i) j x (λ y. omega arith) ∙ r .over j (omega arith);
+    })
+  where
+    x : ℕ
+    x = word u (h + 2 + 2 * i)
+
+    its : x ≡ number s h i
+    its = r .over (h + 2 + 2 * i) (omega (arith, can .before-graph))
+
+    new : word (put-word u (out + i) x) (out + i) ≡ number s h i
+    new =
+        here u (out + i) x (omega (arith, r .len, can .before-graph, can .inside))
+        (omega (arith, its, can .numbers i a, can .after-ends, can .before-graph, can .inside, can .short))
+        ∙ its
+
+pub reading-done :
+    (ends pairs rows h n out : ℕ) (s u : List ℕ) → Can-read ends rows h n out s → Reading h out n s u →
+    Matching-read ends pairs h n out s u
+reading-done ends pairs rows h n out s u can r =
+    record {
+      matching =
+          rw (matching-span u ends pairs out n, graph-span s ends pairs h, can .sized)
+          (span-same (entry s ends pairs h) (matched u ends pairs out) 0 n (λ j a b. same j (omega arith)));
+      numbers = r .numbers;
+      changes =
+          record { len = r .len; under = r .under; between = λ i a b. r .over i a; over = λ i a. r .over i (omega (arith, can .before-graph)) };
+    }
+  where
+    kept : Ends-kept ends rows s u
+    kept =
+        record {
+          firsts = λ e a. r .under (ends + 2 * e) (omega (arith, can .after-ends));
+          seconds = λ e a. r .under (ends + 2 * e + 1) (omega (arith, can .after-ends));
+        }
+
+    same : (j : ℕ) → j < n → matched u ends pairs out j ≡ entry s ends pairs h j
+    same j a = rw (r .numbers j a, can .single j a) (numbered-kept kept pairs (number s h j) 1 (can .numbers j a))
+
+-- ── the whole ──
+
+module _ (t : Table) (g n k out mark new : ℕ) (s u : List ℕ) (can : Can-find t g n k out mark s)
+    (d : Searches-done t g n k mark new s u) where
+  abbrev M : Graph
+  M = graph-at u (t .ends) (t .pairs) mark
+
+  its : Matching-of (2 * n) (can .search .side) (graph-at s (t .ends) (t .pairs) g) M
+  its =
+      rw (d .found)
+      at (matching-law (2 * n) (can .search .side) (lefts t n s) (rights t n s) k (graph-at s (t .ends) (t .pairs) g)
+      (can .search .regular) (can .search .positive) (can .search .partition) (can .search .several)
+      (omega (arith, can .search .some)))
+
+  sized : size u mark ≡ n
+  sized =
+      let double : 2 * n ≡ n + n = omega arith in
+      let reg : Regular (n + n) (can .search .side) 1 M = rw double at (its .perfect .regular) in
+      sym (length-graph u (t .ends) (t .pairs) mark) ∙ matching-pairs n (can .search .side) M reg (its .perfect .positive)
+
+  single : (i : ℕ) → i < n → copies-of u mark i ≡ 1
+  single i a =
+      all-span (λ p. p .copies ≡ 1) (entry u (t .ends) (t .pairs) mark) 0 (size u mark)
+      (rw (graph-span u (t .ends) (t .pairs) mark)
+      at (single-copies (2 * n) (can .search .side) M (its .perfect .regular) (its .perfect .positive)))
+      i (omega arith) (omega (arith, sized))
+
+  -- no number is flagged
+  unflagged : (i : ℕ) → i < n → number u mark i < t .pairs
+  unfolding flagged-pairs
+  unflagged i a =
+      elim (decLe (t .pairs) (number u mark i)) [
+        | yes x ↦ absurd (omega (arith, rw (le-leb (t .pairs) (number u mark i) x) at none))
+        | no x ↦ omega arith
+      ]
+    where
+      none : _≡_ {A = ℕ} (pick (leb (t .pairs) (number u mark i)) 1 0) 0
+      none =
+          all-span (λ p. p .bad ≡ 0) (entry u (t .ends) (t .pairs) mark) 0 (size u mark)
+          (rw (graph-span u (t .ends) (t .pairs) mark) at (total-zero-all (λ (p : Pair). p .bad) M (its .unflagged))) i
+          (omega arith) (omega (arith, sized))
+
+  pub can-read : Can-read (t .ends) (t .pairs + n) mark n out u
+  can-read =
+      record {
+        sized = sized;
+        single = single;
+        numbers = λ i a. d .numbers i (omega (arith, sized));
+        after-ends = omega (arith, can .search .tabled .after-ends, can .after-places);
+        before-graph = can .below;
+        inside = omega (arith, can .search .room, d .stays .len);
+        short = omega (arith, can .search .short, d .stays .len);
+      }
+
+  pub matching-found : (v : List ℕ) → Reads-matching mark n out u v → Matching-found t g n k out mark new s v
+  matching-found v reads =
+      record {
+        found = d .found ∙ ap ran (sym (r .matching));
+        unflagged = λ i a. rw (r .numbers i a) (unflagged i a);
+        marked = d .marked;
+        spares =
+            record {
+              len = r .changes .len ∙ d .stays .len;
+              under = λ i a b. r .changes .under i (omega (arith, can .after-places)) ∙ d .stays .under i a b;
+              between = λ i a b c. r .changes .under i c ∙ d .stays .over i a b;
+              over = λ i a b. r .changes .between i b a ∙ d .stays .over i a (omega (arith, can .after-places));
+            };
+      }
+    where
+      r : Matching-read (t .ends) (t .pairs) mark n out u v
+      r = reads (t .ends) (t .pairs) (t .pairs + n) can-read

@@ -1,0 +1,260 @@
+-- One search over words: what its steps ask follows from what it asks, and what it leaves is the definition's. Assumes nothing.
+use Prim.Native.Nat.{ℕ, zero, suc, _+_, _*_, _-_, _/_, _^_, _≤_, _<_}
+use mathlib.Core.Path.{_≡_, refl, sym, _∙_, ap}
+use mathlib.Core.Bool.{Bool}
+use mathlib.Core.List.{List, []}
+use mathlib.Core.Logic.{_⊎_, ⊎-elim}
+use native.Mathlib.Omega.{arith}
+use native.Mathlib.Nat.{mul-comm, mul-one, mul-le-mul-left, mul-le-mul-right, one-mul}
+use native.Mathlib.Decide.{ℕ-discrete, decLt}
+use lib.ListN.{length}
+use Rattle.words.specs.Basics.{is, count, All}
+use Rattle.words.specs.Words.{word}
+use Rattle.words.proofs.Sums.{is-eq}
+use Rattle.words.proofs.Frames.{stays-trans, keeps-stays}
+use Rattle.multigraph.specs.Multigraph.{Graph}
+use Rattle.multigraph.specs.Regular.{Regular}
+use Rattle.multigraph.specs.Stored.{entry, graph-at}
+use Rattle.multigraph.specs.Places.{size, copies-of, Alike}
+use Rattle.multigraph.proofs.Sizes.{regular-pairs}
+use Rattle.multigraph.proofs.Spans.{graph-span, all-span}
+use Rattle.multigraph.proofs.Kept.{changes-stays}
+use Rattle.matching.specs.Matching.{power-above, add-times, add-diagonal, search-graph, flagged-pairs}
+use Rattle.matching.specs.Searched.{column, lefts, rights, Can-build, Graph-built, Searching, Can-halve-all, Halved-all, Can-search, Search-done}
+use Rattle.matching.specs.declared.Table.{Table}
+use Rattle.matching.proofs.Powers.{power-above-law, power-above-under, Shares, shares}
+use Rattle.matching.proofs.Searching.{search-law}
+use Rattle.matching.proofs.Narrow.{copies-le, length-graph, search-narrow}
+
+-- ── the sides in the table ──
+
+pub length-column : (s : List ℕ) (at n : ℕ) → length (column s at n) ≡ n
+unfolding column
+length-column s at zero = refl
+length-column s at (suc n) = ap suc (length-column s (at + 2) n)
+
+next-at : (s : List ℕ) (at i : ℕ) → word s (at + 2 + 2 * i) ≡ word s (at + 2 * suc i)
+next-at s at i = ap (word s) (omega arith)
+
+column-at :
+    (P : ℕ → Type 0) (s : List ℕ) (at n : ℕ) → All P (column s at n) → (i : ℕ) → i < n → P (word s (at + 2 * i))
+unfolding column
+column-at P s at zero h i a = absurd (omega arith)
+column-at P s at (suc n) h zero a =
+    let e : at + 2 * 0 ≡ at = omega arith in
+    rw e (h .0)
+column-at P s at (suc n) h (suc i) a = rw (← next-at s at i) (column-at P s (at + 2) n (h .1) i (omega arith))
+
+column-once : (s : List ℕ) (at n i : ℕ) → i < n → 0 < count (word s (at + 2 * i)) (column s at n)
+unfolding column count
+column-once s at zero i a = absurd (omega arith)
+column-once s at (suc n) zero a = omega (arith, is-eq {u = word s (at + 2 * 0)} {v = word s at} (ap (word s) (omega arith)))
+column-once s at (suc n) (suc i) a =
+    let ih : 0 < count (word s (at + 2 * suc i)) (column s (at + 2) n) = rw (← next-at s at i) (column-once s (at + 2) n i (omega arith)) in
+    omega arith
+
+column-twice :
+    (s : List ℕ) (at n i j : ℕ) → i < j → j < n → word s (at + 2 * i) ≡ word s (at + 2 * j) →
+    2 ≤ count (word s (at + 2 * j)) (column s at n)
+unfolding column count
+column-twice s at zero i j a b e = absurd (omega arith)
+column-twice s at (suc n) i zero a b e = absurd (omega arith)
+column-twice s at (suc n) zero (suc j) a b e =
+    let later : 0 < count (word s (at + 2 * suc j)) (column s (at + 2) n) = rw (← next-at s at j) (column-once s (at + 2) n j (omega arith)) in
+    omega (arith, is-eq {u = word s (at + 2 * suc j)} {v = word s at} (sym e ∙ ap (word s) (omega arith)))
+column-twice s at (suc n) (suc i) (suc j) a b e =
+    let same : word s (at + 2 + 2 * i) ≡ word s (at + 2 + 2 * j) = next-at s at i ∙ e ∙ sym (next-at s at j) in
+    let ih : 2 ≤ count (word s (at + 2 * suc j)) (column s (at + 2) n) =
+    rw (← next-at s at j) (column-twice s (at + 2) n i j (omega arith) (omega arith) same) in
+    omega arith
+
+-- ── how the degree is cut ──
+
+-- the degree that a search begins with
+pub record Cut (n k p : ℕ) : Type 0 where
+  pub share : Shares k p
+  pub times : k * (p / k) ≤ p
+  pub small : p < 4194304
+
+pub cut : (n k p : ℕ) → p ≡ 2 ^ power-above (k * n) → 1 < k → 0 < n → n * (k + 2) ≤ 2097152 → Cut n k p
+cut n k p is several some most =
+    let reach : k * n ≤ p = rw (← is) at (power-above-law (k * n) .reaches) in
+    let more : k * 1 ≤ k * n = mul-le-mul-left k some in
+    let under : p < 2 * (k * n) = rw (← is) at (power-above-under (k * n) (omega (arith, more, mul-one k))) in
+    let share : Shares k p = shares k p (omega arith) (omega (arith, more, mul-one k)) in
+    record { share = share; times = omega (arith, share .cut); small = omega (arith, mul-comm k n) }
+
+-- ── what the steps ask ──
+
+module _ (t : Table) (g n k mark : ℕ) (s : List ℕ) (can : Can-search t g n k mark s) where
+  abbrev G : Graph
+  G = graph-at s (t .ends) (t .pairs) g
+
+  few-pairs : size s g ≤ n * k
+  few-pairs =
+      let double : 2 * n ≡ n + n = omega arith in
+      let reg : Regular (n + n) (can .side) k G = rw double at (can .regular) in
+      omega (arith, regular-pairs n (can .side) k G reg (can .positive), length-graph s (t .ends) (t .pairs) g)
+
+  few-copies : (i : ℕ) → i < size s g → copies-of s g i ≤ k
+  few-copies i a =
+      all-span (λ p. p .copies ≤ k) (entry s (t .ends) (t .pairs) g) 0 (size s g)
+      (rw (graph-span s (t .ends) (t .pairs) g) at (copies-le (2 * n) (can .side) k G (can .regular))) i (omega arith) (omega arith)
+
+  -- no two rows of the diagonal have the same ends
+  lone : (i j : ℕ) → i < n → j < n → Alike s (t .ends) (t .pairs + i) (t .pairs + j) → i ≡ j
+  lone i j a b x =
+      ⊎-elim (λ y. same (left i ∙ sym (y .0) ∙ sym (left j))) (λ y. absurd (other (left j ∙ y .0 ∙ sym (right i)))) x
+    where
+      l : ℕ
+      l = t .ends + 2 * t .pairs
+
+      left : (x : ℕ) → word s (l + 2 * x) ≡ word s (t .ends + 2 * (t .pairs + x))
+      left x = ap (word s) (omega arith)
+
+      right : (x : ℕ) → word s (l + 1 + 2 * x) ≡ word s (t .ends + 2 * (t .pairs + x) + 1)
+      right x = ap (word s) (omega arith)
+
+      below : (x : ℕ) → x < n → word s (l + 2 * x) < 2 * n
+      below x c = column-at _ s l n (can .partition .left-side) x c .0
+
+      other : word s (l + 2 * j) ≡ word s (l + 1 + 2 * i) → ⊥
+      other e =
+          omega (
+            arith,
+            column-at _ s l n (can .partition .left-side) j b .1,
+            column-at _ s (l + 1) n (can .partition .right-side) i a .1,
+            ap (can .side) e,
+          )
+
+      same : word s (l + 2 * i) ≡ word s (l + 2 * j) → i ≡ j
+      same e =
+          elim (ℕ-discrete i j) [
+            | yes y ↦ y
+            | no y ↦
+                elim (decLt i j) [
+                  | yes z ↦
+                      absurd (omega (arith, column-twice s l n i j z b e, can .partition .once (word s (l + 2 * j)) (below j b)))
+                  | no z ↦
+                      absurd
+                      (omega (
+                        arith,
+                        column-twice s l n j i (omega arith) a (sym e),
+                        can .partition .once (word s (l + 2 * i)) (below i a),
+                      ))
+                ]
+          ]
+
+  -- every address fits a word
+  pub record Addresses : Type 0 where
+    pub places : t .places < 4294967296
+    pub diag : t .diag < 4294967296
+    pub rows : t .pairs + n < 4294967296
+    pub graph : g < 4294967296
+    pub top : mark < 4294967296
+
+  pub addresses : Addresses
+  addresses =
+      record {
+        places = omega (arith, can .after-places, can .below, can .room, can .short, can .some);
+        diag = omega (arith, can .tabled .after-diag, can .after-places, can .below, can .room, can .short, can .some);
+        rows = omega (arith, can .after-places, can .below, can .room, can .short, can .some);
+        graph = omega (arith, can .below, can .room, can .short, can .some);
+        top = omega (arith, can .room, can .short, can .some);
+      }
+
+  module _ (p : ℕ) (is : p ≡ 2 ^ power-above (k * n)) where
+    -- and so do α and β
+    pub shares-fit : (p / k < 4294967296) × (p - k * (p / k) < 4294967296)
+    shares-fit = (omega (arith, c .small, c .times, mul-le-mul-right (p / k) one, one-mul (p / k)), omega (arith, c .small))
+      where
+        c : Cut n k p
+        c = cut n k p is (can .several) (can .some) (can .most)
+
+        one : 1 ≤ k
+        one = omega (arith, can .several)
+
+    c : Cut n k p
+    c = cut n k p is (can .several) (can .some) (can .most)
+
+    pub can-build : Can-build p t g mark n (p / k) (p - k * (p / k)) s
+    can-build =
+        record {
+          tabled = can .tabled;
+          lone = lone;
+          apart = can .regular .apart;
+          numbers = can .numbers;
+          copies =
+              λ i a. omega (arith, mul-le-mul-left (p / k) (few-copies i a), mul-comm (p / k) k, c .times);
+          fits =
+              omega (
+                arith,
+                c .small,
+                mul-le-mul-left n (c .share .rest),
+                can .most,
+              );
+          after-places = can .after-places;
+          below = can .below;
+          inside = omega (arith, few-pairs, can .room, can .some);
+          short = can .short;
+        }
+
+    search-is :
+        search-graph (lefts t n s) (rights t n s) k G
+        ≡ add-diagonal (p - k * (p / k)) (add-times (p / k) [] G) (lefts t n s) (rights t n s)
+    unfolding search-graph
+    search-is = rw (length-column s (t .ends + 2 * t .pairs) n, ← is)
+
+    module _ (v : List ℕ) (b : Graph-built t g mark n (p / k) (p - k * (p / k)) s v) where
+      graph-is : graph-at v (t .ends) (t .pairs) mark ≡ search-graph (lefts t n s) (rights t n s) k G
+      graph-is = b .graph ∙ sym search-is
+
+      searching : Searching t mark n (k + 1) (can .side) p v
+      searching =
+          record {
+            regular = rw (graph-is, is) regular;
+            narrow =
+                λ x a. rw graph-is (search-narrow (2 * n) (can .side) (lefts t n s) (rights t n s) k G (can .regular) (can .positive) (can .partition) x a);
+            numbers = b .numbers;
+          }
+        where
+          regular : Regular (2 * n) (can .side) (2 ^ power-above (k * n)) (search-graph (lefts t n s) (rights t n s) k G)
+          regular =
+              rw (length-column s (t .ends + 2 * t .pairs) n)
+              at (search-law (2 * n) (can .side) (lefts t n s) (rights t n s) k G (can .regular) (can .positive) (can .partition)
+              (omega (arith, can .several)) (omega (arith, can .some)) .regular)
+
+      pub can-halve-all : Can-halve-all t mark n (k + 1) p (mark + 2 * (n * (k + 2))) v
+      can-halve-all =
+          record {
+            side = can .side;
+            exponent = power-above (k * n);
+            power = is;
+            laid =
+                record {
+                  table = omega (arith, can .tabled .after-ends, can .after-places, can .below);
+                  behind = omega arith;
+                  room = omega (arith, can .room, b .changes .len);
+                  short = omega (arith, can .short, b .changes .len);
+                  some = can .some;
+                  few = can .few;
+                  two = omega (arith, can .several);
+                  most = omega (arith, can .most);
+                };
+            graph = searching;
+            light = omega (arith, c .small);
+          }
+
+      pub search-done :
+          (by : Bool) (new flagged above : ℕ) (u : List ℕ) → Halved-all t mark n (k + 1) p by (mark + 2 * (n * (k + 2))) above v u →
+          ((ends : ℕ) → 2 + 2 * size u mark ≤ 2 * (n * (k + 2)) → flagged ≡ flagged-pairs (graph-at u ends (t .pairs) mark)) →
+          new ≡ mark → Search-done t g n k by mark new flagged s u
+      search-done by new flagged above u h counted same =
+          record {
+            left = rw graph-is at (h .left (power-above (k * n)) is);
+            counted = counted (t .ends) (omega (arith, h .under));
+            numbers = h .numbers;
+            marked = same;
+            stays =
+                stays-trans (changes-stays mark (omega arith) (b .changes)) (keeps-stays (t .places) (t .pairs + n) (h .keeps));
+          }

@@ -1,0 +1,40 @@
+-- `matching::copy_entry` meets its contract: two words read, two put. Assumes nothing.
+use Rattle.matching.proofs.Counts.{product-fits}
+use native.Mathlib.Omega.{arith}
+use borrow.Author.Needs.{needs}
+use Rattle.matching.proofs.copy_entry.Statement.{statement}
+use Rattle.matching.proofs.copy_entry.Tie as tie
+
+-- src/lib.rt:92:28
+mul-put-3 : tie.Need-mul-put-3
+mul-put-3 c =
+    record { fits = product-fits (c .before .before .before .before .before .before .before .before .before .before .args .alpha) (c .before .before .before .before .before .get2 .result) (omega arith) (c .before .before .before .before .before .get2 .ensures .1) }
+
+-- src/lib.rt:82:1
+returns : tie.Need-returns
+returns c =
+    rw (c .before .before .before .before .before .before .put .ensures, c .before .before .before .before .before .before .before .before .get2 .ensures .0, c .before .before .before .before .before .before .before .before .before .before .get .ensures .0) at (c .before .before .put2 .ensures)
+
+pub copy-entry-spec : {M : Type 1} → statement M
+copy-entry-spec =
+    tie.close
+    (tie.spec
+    (λ c. search needs)
+    (λ c. search needs)
+    (λ c. search needs)
+    (λ c κs. search needs)
+    (λ c. search needs)
+    (λ c. search needs)
+    (λ c. search needs)
+    (λ c κs. search needs)
+    (λ c. search needs)
+    (λ c. search needs)
+    (λ c. search needs)
+    (λ c κs. search needs)
+    (λ c. search needs)
+    (λ c. search needs)
+    (λ c. search needs)
+    mul-put-3
+    (λ c κs. search needs)
+    (λ c. search needs)
+    returns)

@@ -1,0 +1,38 @@
+-- `matching::power_above` meets its contract. Invariant: 1 doubled, and not past the least power; the measure is what is left up to `m`. Assumes nothing.
+use Prim.Native.Nat.{_-_}
+use native.Mathlib.Omega.{arith}
+use Rattle.matching.proofs.Counts.{Doubling, doubling-none, doubling-more, doubling-done}
+use Rattle.matching.proofs.power_above.Statement.{statement}
+use Rattle.matching.proofs.power_above.Tie as tie
+
+abbrev Inv-loop : tie.InvT-loop
+Inv-loop m t₀ t = Doubling m t
+
+abbrev μ-loop : tie.MeasureT-loop
+μ-loop m t₀ t = m - t
+
+-- src/lib.rt:21:5
+loop-holds : tie.Need-loop-holds Inv-loop μ-loop
+loop-holds c = doubling-none (c .args .m)
+
+-- src/lib.rt:22:13
+mul-t : tie.Need-mul-t Inv-loop μ-loop
+mul-t c = omega arith
+
+-- src/lib.rt:21:5
+loop-less : tie.Need-loop-less Inv-loop μ-loop
+loop-less c = omega (arith, c .before .loop .inv .positive)
+
+-- src/lib.rt:21:5
+loop-again : tie.Need-loop-again Inv-loop μ-loop
+loop-again c =
+    doubling-more (c .before .before .args .m) (c .before .loop .t) (c .loop-test .taken) (c .before .loop .inv)
+
+-- src/lib.rt:16:1
+returns : tie.Need-returns Inv-loop μ-loop
+returns c =
+    doubling-done (c .before .before .args .m) (c .before .loop .t) (omega arith) (c .before .loop .inv)
+
+pub power-above-spec : {M : Type 1} → statement M
+power-above-spec =
+    tie.close (tie.spec Inv-loop μ-loop loop-holds mul-t loop-less loop-again returns)
