@@ -41,15 +41,15 @@ colours-none N side g f =
     record { as-many = refl; perfect = tt; copies = λ w s. rw (no-pairs N side g f) (sym (weigh-none w)) }
 
 -- the first j matchings of a colouring and the others
-record Cut (N : ℕ) (side : ℕ → ℕ) (j k : ℕ) (g : Graph) (cs : List Graph) : Type 0 where
-  moved : length (take j cs) ≡ j
-  kept : length (drop j cs) ≡ k - j
-  perfect-moved : All (Perfect N side) (take j cs)
-  perfect-kept : All (Perfect N side) (drop j cs)
-  copies : (w : ℕ → ℕ → ℕ) → Symmetric w →
+pub record Cut (N : ℕ) (side : ℕ → ℕ) (j k : ℕ) (g : Graph) (cs : List Graph) : Type 0 where
+  pub moved : length (take j cs) ≡ j
+  pub kept : length (drop j cs) ≡ k - j
+  pub perfect-moved : All (Perfect N side) (take j cs)
+  pub perfect-kept : All (Perfect N side) (drop j cs)
+  pub copies : (w : ℕ → ℕ → ℕ) → Symmetric w →
       total (λ (m : Graph). weigh w m) (take j cs) + total (λ (m : Graph). weigh w m) (drop j cs) ≡ weigh w g
 
-cut-law :
+pub cut-law :
     (N : ℕ) (side : ℕ → ℕ) (j k : ℕ) (g : Graph) (cs : List Graph) → j ≤ k → Colours N side k g cs →
     Cut N side j k g cs
 cut-law N side j k g cs le c =

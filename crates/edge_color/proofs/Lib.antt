@@ -2,3 +2,8 @@ pub mod Moving
 pub mod PowerOfTwo
 pub mod SettingAside
 pub mod ColorLaws
+pub mod Placed
+pub mod PowerWords
+pub mod Laying
+pub mod AsideWords
+pub mod ColorWords

@@ -94,13 +94,13 @@ degree-added : (v : ℕ) (g : Graph) (l r m : ℕ) → degree v (add-edge g l r 
 degree-added v g l r m = weigh-add-edge (names v) (names-symmetric v) g l r m 0
 
 module _ (g : Graph) (l r m : ℕ) (apart : l ≡ r → ⊥) where
-  added-left : degree l (add-edge g l r m 0) ≡ degree l g + m
+  pub added-left : degree l (add-edge g l r m 0) ≡ degree l g + m
   added-left = degree-added l g l r m ∙ rw (is-same l, is-ne {u = l} {v = r} apart) (omega arith)
 
-  added-right : degree r (add-edge g l r m 0) ≡ degree r g + m
+  pub added-right : degree r (add-edge g l r m 0) ≡ degree r g + m
   added-right = degree-added r g l r m ∙ rw (is-same r, is-ne {u = r} {v = l} (λ e. apart (sym e))) (omega arith)
 
-  added-else : (v : ℕ) → (v ≡ l → ⊥) → (v ≡ r → ⊥) → degree v (add-edge g l r m 0) ≡ degree v g
+  pub added-else : (v : ℕ) → (v ≡ l → ⊥) → (v ≡ r → ⊥) → degree v (add-edge g l r m 0) ≡ degree v g
   added-else v a b = degree-added v g l r m ∙ rw (is-ne {u = v} {v = l} a, is-ne {u = v} {v = r} b) (omega arith)
 
 module _ (N : ℕ) (side : ℕ → ℕ) (D : ℕ) (start : Graph) where

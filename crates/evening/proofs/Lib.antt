@@ -3,3 +3,11 @@ pub mod Padding
 pub mod Shortfalls
 pub mod EvenSteps
 pub mod EvenOut
+pub mod PaddingWords
+pub mod PlainLaws
+pub mod RowsLaws
+pub mod RepsLaws
+pub mod BuildingLaws
+pub mod FillingWords
+pub mod EveningWords
+pub mod DiagonalLaws

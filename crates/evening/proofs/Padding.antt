@@ -9,8 +9,8 @@ use borrow.Author.Tests.{lt-ltb, le-ltb}
 use lib.Dec.{ltb}
 use lib.ListN.{length, length-append}
 use Rattle.words.specs.Basics.{pick, count, All}
-use Rattle.words.proofs.Sums.{is-eq, is-ne, count-append, zero-count, all-append, all-map, all-both}
-use Rattle.appointments.specs.Appointments.{Appt}
+use Rattle.words.proofs.Sums.{is-eq, is-ne, total-all-zero, count-append, zero-count, all-append, all-map, all-both}
+use Rattle.appointments.specs.Appointments.{Appt, names, load}
 use Rattle.appointments.proofs.Loads.{Listed}
 use Rattle.two_color.specs.TwoSides.{Two-sides}
 use Rattle.multigraph.specs.Regular.{Partition}
@@ -188,3 +188,18 @@ module _ (P : ℕ) (xs : List Appt) (side : ℕ → ℕ) (left right : List ℕ)
                   padded-side-old P left right side (x .second) (h .0 .1),
                 );
           }
+
+-- ── loads ──
+
+-- The list names no party from P on: where no party's load is above D, neither is a new one's.
+pub padded-loads :
+    (P D : ℕ) (xs : List Appt) → All (Listed P) xs → ((v : ℕ) → v < P → load v xs ≤ D) → (v : ℕ) → load v xs ≤ D
+unfolding load names
+padded-loads P D xs listed most v =
+    elim (decLe P v) [
+      | yes new ↦ omega (arith, total-all-zero (names v) xs (all-map (unnamed new) xs listed))
+      | no old ↦ most v (omega arith)
+    ]
+  where
+    unnamed : P ≤ v → (x : Appt) → Listed P x → names v x ≡ 0
+    unnamed new x h = omega (arith, is-ne {u = v} {v = x .first} (λ e. omega arith), is-ne {u = v} {v = x .second} (λ e. omega arith))

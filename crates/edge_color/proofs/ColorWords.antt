@@ -1,0 +1,527 @@
+-- `rbmg_edge_color` over words: each call has what it asks, and the parts are the colouring. Assumes nothing.
+use Prim.Native.Nat.{ℕ, zero, suc, _+_, _*_, _-_, _/_, _%_, _^_, _≤_, _<_}
+use mathlib.Core.Path.{_≡_, refl, sym, _∙_, ap, subst}
+use mathlib.Core.List.{List, [], _∷_, _++_}
+use native.Mathlib.Omega.{arith}
+use native.Mathlib.Nat.{mul-le-mul-left, mul-one, mul-zero}
+use native.Mathlib.Decide.{decLt}
+use lib.ListN.{length, take, drop}
+use Rattle.words.specs.Basics.{Run, ran, Ran, and-then, All}
+use Rattle.words.specs.Words.{word}
+use Rattle.multigraph.specs.Multigraph.{Graph, add-matching}
+use Rattle.multigraph.specs.Regular.{Regular, Positive, Partition}
+use Rattle.multigraph.specs.Stored.{graph-at, matching-at, matchings-at}
+use Rattle.multigraph.specs.Places.{size, number, Matching-fits, Matching-added, Adds-matching, Changes}
+use Rattle.multigraph.proofs.Kept.{Ends-kept}
+use Rattle.euler.specs.Split.{Halves, rbmg-split-into-two}
+use Rattle.euler.specs.Room.{Splits, Halves-stored}
+use Rattle.matching.specs.Matching.{power-above}
+use Rattle.matching.specs.Perfect.{Full, Perfect}
+use Rattle.matching.specs.Searched.{lefts, rights, Tabled, Spares, Can-read, Reads-matching, Matching-read}
+use Rattle.matching.specs.declared.Table.{Table}
+use Rattle.matching.proofs.Powers.{power-above-law, power-above-under}
+use Rattle.matching.proofs.GraphWords.{Sides-kept, sides-kept}
+use Rattle.edge_color.specs.EdgeColor.{Set-aside, set-aside, add-matchings, rbmg-edge-color-when-power-of-two, rbmg-edge-color}
+use Rattle.edge_color.specs.Coloured.{Colours}
+use Rattle.edge_color.specs.Room.{Colorable, Power-fits, Power-colored, Color-fits, Aside-stored, Colored}
+use Rattle.edge_color.proofs.Moving.{full, add-matchings-law}
+use Rattle.edge_color.proofs.SettingAside.{Aside-of, set-aside-law}
+use Rattle.edge_color.proofs.ColorLaws.{Cut, cut-law, color-law}
+use Rattle.edge_color.proofs.Placed.{entries-few, entries-one, Graph-kept, matchings-append, matchings-kept, matchings-take, matchings-drop, add-matchings-words, can-read, read-over}
+use Rattle.edge_color.proofs.PowerWords.{splits, Half, Both-halves, both-halves, half-kept, half-colorable}
+use Rattle.edge_color.proofs.Laying.{spares-refl, spares-trans, spares-wide, keeps-spares, stays-spares, changes-spares, graph-spares, tabled-kept, copies-few}
+use Rattle.edge_color.proofs.AsideWords.{Small, small}
+
+-- ── degree 0 and 1 ──
+
+pub color-none :
+    (t : Table) (s : List ℕ) (used g n d out : ℕ) → Color-fits t s used g n d out → d ≡ 0 → Colored t s s used used g n d out
+unfolding rbmg-edge-color matchings-at
+color-none t s used g n d out f none =
+    let w : n * d ≡ 0 = ap (λ (k : ℕ). n * k) none ∙ mul-zero n in
+    record {
+      colors = λ fuel le. rw none (go fuel);
+      bounds = λ j h. absurd (omega arith);
+      back = refl;
+      spares = spares-refl _ _ _ _ _ s;
+    }
+  where
+    go : (fuel : ℕ) → rbmg-edge-color fuel (2 * n) (lefts t n s) (rights t n s) 0 (graph-at s (t .ends) (t .pairs) g) ≡ ran []
+    go zero = refl
+    go (suc fuel) = refl
+
+pub color-read :
+    (t : Table) (s u : List ℕ) (used g n d out : ℕ) → Color-fits t s used g n d out → d ≡ 1 → Reads-matching g n out s u →
+    Colored t s u used used g n d out
+unfolding rbmg-edge-color matchings-at
+color-read t s u used g n d out f one reads =
+    record {
+      colors = λ fuel le. rw one (go fuel (omega arith));
+      bounds = λ j h. rw (done .numbers j (omega (arith, w))) (f .graph .numbers j (omega (arith, count, w)));
+      back = refl;
+      spares =
+          record {
+            len = done .changes .len;
+            under = λ i h k. done .changes .under i (omega (arith, f .after-places));
+            between = λ i h k l. done .changes .under i l;
+            over = λ i h k. read-over out n g s u (done .changes) i (omega (arith, w));
+          };
+    }
+  where
+    w : n * d ≡ n
+    w = ap (λ (k : ℕ). n * k) one ∙ mul-one n
+
+    r : Regular (2 * n) (f .side) 1 (graph-at s (t .ends) (t .pairs) g)
+    r = subst (λ (k : ℕ). Regular (2 * n) (f .side) k (graph-at s (t .ends) (t .pairs) g)) one (f .graph .regular)
+
+    count : size s g ≡ n
+    count = entries-one s (t .ends) (t .pairs) g n (f .side) r (f .graph .positive)
+
+    done : Matching-read (t .ends) (t .pairs) g n out s u
+    done =
+        let c = f .graph in
+        reads (t .ends) (t .pairs) (t .pairs)
+        (can-read (f .side) s (t .ends) (t .pairs) g out n r (c .positive) count (c .numbers) (c .after-table)
+        (omega (arith, c .after-out, w)) (omega (arith, c .below, count, f .room)) (c .short))
+
+    go : (fuel : ℕ) → 1 ≤ fuel →
+        rbmg-edge-color fuel (2 * n) (lefts t n s) (rights t n s) 1 (graph-at s (t .ends) (t .pairs) g)
+        ≡ ran (matching-at u (t .ends) (t .pairs) out n ∷ [])
+    go zero le = absurd (omega arith)
+    go (suc fuel) le = ap (λ (m : Graph). ran (m ∷ [])) (sym (done .matching))
+
+-- ── the sizes ──
+
+-- Products of n with the degree d, its half h, and the power of two r above h.
+pub record Cuts (n d r : ℕ) : Type 0 where
+  pub whole : n * d ≡ n * (d / 2) + n * (d / 2) + n * (d % 2)
+  pub twice : n * (2 * (d / 2)) ≡ n * (d / 2) + n * (d / 2)
+  pub wide : n * (d + 1) ≡ n * (d / 2) + n * (d / 2) + n * (d % 2) + n
+  pub half-wide : n * (d / 2 + 1) ≡ n * (d / 2) + n
+  pub even-wide : n * (2 * (d / 2) + 1) ≡ n * (d / 2) + n * (d / 2) + n
+  pub power-wide : n * (r + 1) ≡ n * r + n
+  pub some : n ≤ n * (d / 2)
+  pub moved : n * (r - d / 2) + n * (d / 2) ≡ n * r
+  pub left : n * (d / 2 - (r - d / 2)) + n * r ≡ n * (d / 2) + n * (d / 2)
+  pub under : n * r + n ≤ n * (d / 2) + n * (d / 2)
+  pub reaches : d / 2 ≤ r
+  pub enough : r - d / 2 ≤ d / 2
+  pub whole-degree : r + (d / 2 - (r - d / 2)) + d % 2 ≡ d
+  pub less : d / 2 < d
+
+pub cuts : (n d r : ℕ) → 1 < d → r ≡ 2 ^ power-above (d / 2) → Cuts n d r
+cuts n d r more e =
+    let above : d / 2 ≤ r = omega (arith, power-above-law (d / 2) .reaches) in
+    let below : r + 1 ≤ 2 * (d / 2) = omega (arith, power-above-under (d / 2) (omega arith)) in
+    let pos : 1 ≤ d / 2 = omega arith in
+    let split : d ≡ d / 2 + d / 2 + d % 2 = omega arith in
+    let parts : n * (d / 2 + d / 2 + d % 2) ≡ n * (d / 2) + n * (d / 2) + n * (d % 2) = omega arith in
+    let whole : n * d ≡ n * (d / 2) + n * (d / 2) + n * (d % 2) = ap (λ (k : ℕ). n * k) split ∙ parts in
+    let sum : r - d / 2 + d / 2 ≡ r = omega arith in
+    let sums : n * (r - d / 2 + d / 2) ≡ n * (r - d / 2) + n * (d / 2) = omega arith in
+    let rest : d / 2 - (r - d / 2) + r ≡ 2 * (d / 2) = omega arith in
+    let rests : n * (d / 2 - (r - d / 2) + r) ≡ n * (d / 2 - (r - d / 2)) + n * r = omega arith in
+    let two : n * (2 * (d / 2)) ≡ n * (d / 2) + n * (d / 2) = omega arith in
+    record {
+      whole = whole;
+      twice = two;
+      wide = omega (arith, whole);
+      half-wide = omega arith;
+      even-wide = omega arith;
+      power-wide = omega arith;
+      some = omega (arith, mul-le-mul-left n pos, mul-one n);
+      moved = sym sums ∙ ap (λ (k : ℕ). n * k) sum;
+      left = sym rests ∙ ap (λ (k : ℕ). n * k) rest ∙ two;
+      under = omega (arith, mul-le-mul-left n below, two);
+      reaches = above;
+      enough = omega arith;
+      whole-degree = omega arith;
+      less = omega arith;
+    }
+
+-- room for the second half with the matchings that are moved to it
+second-room :
+    (used m k size h o w x n len : ℕ) → size ≤ h → w + h ≡ x → x + n ≤ h + h → k ≡ h + h + o + n → m ≤ used + 2 * k →
+    used + 40 * k ≤ len → 0 < n → m + 2 * k + 2 + 2 * (size + w) ≤ len
+second-room used m k size h o w x n len a b c d e f g = omega arith
+
+second-below :
+    (m k size h o x n mark back : ℕ) → size ≤ x → x + n ≤ h + h → k ≡ h + h + o + n → mark ≡ m + 4 * k → back ≡ mark → 0 < n →
+    m + 2 * k + 3 + 2 * size ≤ back
+second-below m k size h o x n mark back a b c d e f = omega arith
+
+-- ── the definition, one round ──
+
+color-step :
+    (fuel N : ℕ) (left right : List ℕ) (d : ℕ) (g : Graph) → 1 < d →
+    let k : ℕ = d / 2 in
+    let e : ℕ = power-above k in
+    rbmg-edge-color (suc fuel) N left right d g
+    ≡ and-then (set-aside N left right d g) λ s.
+    and-then (rbmg-split-into-two N (s .graph)) λ h.
+    and-then (rbmg-edge-color fuel N left right k (h .first-half)) λ cs.
+    and-then
+    (rbmg-edge-color-when-power-of-two N e (add-matchings (h .second-half) (take (2 ^ e - k) cs))) λ ds.
+    ran (ds ++ drop (2 ^ e - k) cs ++ s .aside)
+unfolding rbmg-edge-color
+color-step fuel N left right zero g more = absurd (omega arith)
+color-step fuel N left right (suc zero) g more = absurd (omega arith)
+color-step fuel N left right (suc (suc d)) g more = refl
+
+-- ── one round over words ──
+
+module _ (t : Table) (s : List ℕ) (used g n d out r : ℕ) (f : Color-fits t s used g n d out) (more : 1 < d) (er : r ≡ 2 ^ power-above (d / 2)) where
+  cut : Cuts n d r
+  cut = cuts n d r more er
+
+  module _ (s₁ : List ℕ) (m₁ rest : ℕ) (a : Aside-stored t s s₁ used m₁ g rest n d out) where
+    rest-full : Full (2 * n) (f .side) (2 * (d / 2)) (graph-at s₁ (t .ends) (t .pairs) rest)
+    rest-full =
+        let c = f .graph in
+        let law : Aside-of (2 * n) (f .side) d (graph-at s (t .ends) (t .pairs) g) (record {
+          aside = matchings-at s₁ (t .ends) (t .pairs) (out + n * (2 * (d / 2))) n (d % 2);
+          graph = graph-at s₁ (t .ends) (t .pairs) rest;
+        }) =
+        subst (λ (x : Run Set-aside). Ran (Aside-of (2 * n) (f .side) d (graph-at s (t .ends) (t .pairs) g)) x) (a .aside)
+        (set-aside-law (2 * n) (f .side) (lefts t n s) (rights t n s) d (graph-at s (t .ends) (t .pairs) g)
+        (full (c .regular) (c .positive)) (f .partition) more (omega (arith, c .some))) in
+        law .full
+
+    rest-colorable : Colorable (f .side) (t .pairs) s₁ m₁ (t .ends) rest n (2 * (d / 2)) out
+    rest-colorable =
+        let c = f .graph in
+        let z = cut in
+        record {
+          regular = rest-full .regular;
+          positive = rest-full .positive;
+          numbers = a .numbers;
+          some = c .some;
+          few = c .few;
+          sized = omega (arith, f .sized);
+          after-table = c .after-table;
+          after-out = omega (arith, a .after-out);
+          below = a .below;
+          short = omega (arith, a .spares .len, c .short);
+        }
+
+    pub color-splits : Splits s₁ m₁ (t .ends) rest n d
+    color-splits =
+        splits (f .side) (t .pairs) s₁ m₁ (t .ends) rest n (2 * (d / 2)) (d / 2) out d rest-colorable refl (omega arith) (omega arith)
+        (omega (arith, f .sized)) (omega (arith, a .to, a .spares .len, f .room))
+
+    module _ (s₂ : List ℕ) (m₂ : ℕ) (st : Halves-stored s₁ s₂ m₁ m₂ (t .ends) rest n d) where
+      halves : Both-halves (f .side) (t .pairs) s₂ m₁ (t .ends) n (d / 2) d
+      halves = both-halves (f .side) (t .pairs) s₁ s₂ m₁ m₂ (t .ends) rest n (2 * (d / 2)) (d / 2) out d rest-colorable refl st
+
+      low : t .places ≤ used
+      low = omega (arith, f .after-places, f .graph .after-out, f .graph .below)
+
+      table-low : (i : ℕ) → i < t .places → word s₂ i ≡ word s i
+      table-low i h =
+          let l = low in
+          st .keeps .same i (omega (arith, a .from)) ∙ a .spares .under i (omega arith) h
+
+      sides : Sides-kept t n s s₂
+      sides = sides-kept t n s s₂ (f .tabled .after-ends) table-low
+
+      pub color-first : Color-fits t s₂ m₂ m₁ n (d / 2) (out + n * (d / 2))
+      color-first =
+          let c = f .graph in
+          let z = cut in
+          record {
+            side = f .side;
+            tabled = tabled-kept t n s s₂ (f .tabled) table-low;
+            partition =
+                rw (sides .left, sides .right) (f .partition);
+            graph =
+                half-colorable (f .side) (t .pairs) s₂ m₂ (t .ends) m₁ n (d / 2) (out + n * (d / 2)) (halves .first) (c .some) (c .few)
+                (omega (arith, f .sized)) (omega (arith, c .after-table)) (omega (arith, c .after-out, c .below, a .from))
+                (omega (arith, st .above, c .some)) (omega (arith, st .keeps .len, a .spares .len, c .short));
+            header = st .first-base;
+            after-places = omega (arith, f .after-places);
+            sized = omega (arith, f .sized);
+            room = omega (arith, st .above, a .to, st .keeps .len, a .spares .len, f .room);
+          }
+
+      module _ (s₃ : List ℕ) (m₃ : ℕ) (b : Colored t s₂ s₃ m₂ m₃ m₁ n (d / 2) (out + n * (d / 2))) where
+        cs : List Graph
+        cs = matchings-at s₃ (t .ends) (t .pairs) (out + n * (d / 2)) n (d / 2)
+
+        first-colored : (fuel : ℕ) → d / 2 ≤ fuel →
+            rbmg-edge-color fuel (2 * n) (lefts t n s) (rights t n s) (d / 2) (graph-at s₂ (t .ends) (t .pairs) m₁) ≡ ran cs
+        unfolding cs
+        first-colored fuel le =
+            rw (sides .left, sides .right) at (b .colors fuel le)
+
+        first-colours : Colours (2 * n) (f .side) (d / 2) (graph-at s₂ (t .ends) (t .pairs) m₁) cs
+        first-colours =
+            let e = first-colored (d / 2) (omega arith) in
+            subst (λ (x : Run (List Graph)). Ran (Colours (2 * n) (f .side) (d / 2) (graph-at s₂ (t .ends) (t .pairs) m₁)) x) e
+            (color-law (d / 2) (2 * n) (f .side) (lefts t n s) (rights t n s) (d / 2) (graph-at s₂ (t .ends) (t .pairs) m₁)
+            (halves .first .regular) (halves .first .positive) (f .partition) (omega (arith, f .graph .some)) (omega arith))
+
+        second-kept : Graph-kept (t .ends) (t .pairs) s₂ s₃ (m₁ + 2 * (n * (d + 1)))
+        second-kept =
+            graph-spares (m₁ + 2 * (n * (d + 1))) (omega (arith, f .tabled .after-ends)) (omega (arith, low, st .above, a .from)) (b .spares)
+            (omega (arith, cut .whole, f .graph .after-out, f .graph .below, a .from))
+            (omega (arith, cut .wide, st .above, halves .second .count, f .graph .some)) (halves .second .numbers)
+
+        second-half : Half (f .side) (t .pairs) s₃ (t .ends) (m₁ + 2 * (n * (d + 1))) n (d / 2)
+        second-half =
+            half-kept (f .side) (t .pairs) s₂ s₃ (t .ends) (m₁ + 2 * (n * (d + 1))) n (d / 2) (halves .second) second-kept
+
+        table₃ : (i : ℕ) → i < t .places → word s₃ i ≡ word s i
+        table₃ i h =
+            let l = low in
+            b .spares .under i (omega (arith, st .above, a .from)) h ∙ table-low i h
+
+        len₃ : length s₃ ≡ length s
+        len₃ = b .spares .len ∙ st .keeps .len ∙ a .spares .len
+
+        pub color-adds :
+            Matching-fits (t .ends) (t .pairs) (d / 2) (t .places) (m₁ + 2 * (n * (d + 1))) (out + n * (d / 2)) (n * (r - d / 2)) s₃
+        color-adds =
+            let room : m₁ + 2 * (n * (d + 1)) + 2 + 2 * (size s₃ (m₁ + 2 * (n * (d + 1))) + n * (r - d / 2)) ≤ length s =
+            second-room used m₁ (n * (d + 1)) (size s₃ (m₁ + 2 * (n * (d + 1)))) (n * (d / 2)) (n * (d % 2)) (n * (r - d / 2)) (n * r) n
+            (length s) (second-half .count) (cut .moved) (cut .under) (cut .wide) (a .to) (f .room) (f .graph .some) in
+            let y = second-half in
+            record {
+              distinct = tabled-kept t n s s₃ (f .tabled) table₃ .distinct;
+              apart = y .regular .apart;
+              after-ends = omega (arith, f .tabled .after-ends);
+              after-places = omega (arith, f .after-places);
+              before-graph = omega (arith, cut .moved, cut .under, cut .whole, f .graph .after-out, f .graph .below, a .from);
+              stored =
+                  record {
+                    header = second-kept .header ∙ st .second-base;
+                    numbers = y .numbers;
+                    copies = copies-few (2 * n) (f .side) (d / 2) s₃ (t .ends) (t .pairs) (m₁ + 2 * (n * (d + 1))) (y .regular);
+                    inside = omega (arith, room, len₃);
+                    small = omega (arith, room, f .graph .short);
+                    light = omega (arith, small t s used g n d out f .degree);
+                  };
+              below = λ i h. b .bounds i (omega (arith, cut .moved, cut .under));
+              fits = omega (arith, small t s used g n d out f .degree, cut .moved, cut .under, cut .wide, f .sized);
+            }
+
+        module _ (s₄ : List ℕ) (ad : Adds-matching (t .places) (m₁ + 2 * (n * (d + 1))) (out + n * (d / 2)) (n * (r - d / 2)) s₃ s₄) where
+          added : Matching-added (t .ends) (t .pairs) (d / 2) (t .places) (m₁ + 2 * (n * (d + 1))) (out + n * (d / 2)) (n * (r - d / 2)) s₃ s₄
+          added = ad (t .ends) (t .pairs) (d / 2) color-adds
+
+          raised :
+              graph-at s₄ (t .ends) (t .pairs) (m₁ + 2 * (n * (d + 1)))
+              ≡ add-matchings (graph-at s₂ (t .ends) (t .pairs) (m₁ + 2 * (n * (d + 1)))) (take (r - d / 2) cs)
+          unfolding cs
+          raised =
+              rw (
+                matchings-take s₃ (t .ends) (t .pairs) (out + n * (d / 2)) n (r - d / 2) (d / 2) (cut .enough),
+                add-matchings-words (graph-at s₂ (t .ends) (t .pairs) (m₁ + 2 * (n * (d + 1)))) s₃ (t .ends) (t .pairs) (out + n * (d / 2)) n (r - d / 2),
+                ← second-kept .same (t .pairs),
+              )
+              (added .graph)
+
+          raised-full : Full (2 * n) (f .side) r (graph-at s₄ (t .ends) (t .pairs) (m₁ + 2 * (n * (d + 1))))
+          raised-full =
+              let z = cut in
+              let k : Cut (2 * n) (f .side) (r - d / 2) (d / 2) (graph-at s₂ (t .ends) (t .pairs) m₁) cs =
+              cut-law (2 * n) (f .side) (r - d / 2) (d / 2) (graph-at s₂ (t .ends) (t .pairs) m₁) cs (z .enough) first-colours in
+              let degrees : d / 2 + length (take (r - d / 2) cs) ≡ r = omega (arith, k .moved, z .reaches) in
+              rw raised
+              (subst (λ (x : ℕ). Full (2 * n) (f .side) x (add-matchings (graph-at s₂ (t .ends) (t .pairs) (m₁ + 2 * (n * (d + 1)))) (take (r - d / 2) cs))) degrees
+              (add-matchings-law (2 * n) (f .side) (d / 2) (graph-at s₂ (t .ends) (t .pairs) (m₁ + 2 * (n * (d + 1)))) (take (r - d / 2) cs)
+              (full (halves .second .regular) (halves .second .positive)) (k .perfect-moved)))
+
+          pub color-power : Power-fits s₄ m₃ (t .ends) (m₁ + 2 * (n * (d + 1))) n r out
+          color-power =
+              let c = f .graph in
+              let z = cut in
+              let x = raised-full in
+              let l = len₃ in
+              let count : size s₄ (m₁ + 2 * (n * (d + 1))) ≤ n * r =
+              entries-few s₄ (t .ends) (t .pairs) (m₁ + 2 * (n * (d + 1))) n (f .side) r (x .regular) (x .positive) in
+              record {
+                side = f .side;
+                pairs = t .pairs;
+                exponent = power-above (d / 2);
+                power = er;
+                graph =
+                    record {
+                      regular = x .regular;
+                      positive = x .positive;
+                      numbers = added .stored .numbers;
+                      some = c .some;
+                      few = c .few;
+                      sized = omega (arith, f .sized);
+                      after-table = c .after-table;
+                      after-out = omega (arith, c .after-out, c .below, a .from);
+                      below =
+                          second-below m₁ (n * (d + 1)) (size s₄ (m₁ + 2 * (n * (d + 1)))) (n * (d / 2)) (n * (d % 2)) (n * r) n m₂ m₃ count
+                          (z .under) (z .wide) (st .above) (b .back) (c .some);
+                      short = omega (arith, added .changes .len, c .short);
+                    };
+                room = omega (arith, b .back, st .above, a .to, added .changes .len, f .room);
+              }
+
+          module _ (s₅ : List ℕ) (m₅ : ℕ) (p : Power-colored s₄ s₅ m₃ m₅ (t .ends) (m₁ + 2 * (n * (d + 1))) n r out) where
+            -- words of the result behind the second half's matchings stay since they were written
+            kept-left : (i : ℕ) → out + n * r ≤ i → i < used → word s₅ i ≡ word s₃ i
+            kept-left i h k =
+                p .stays .over i (omega (arith, b .back, st .above, a .from)) h
+                ∙ added .changes .between i (omega (arith, f .after-places)) (omega (arith, a .from))
+
+            kept-aside : (i : ℕ) → out + n * (2 * (d / 2)) ≤ i → i < used → word s₅ i ≡ word s₁ i
+            kept-aside i h k =
+                let z = cut in
+                kept-left i (omega arith) k
+                ∙ b .spares .over i (omega (arith, st .above, a .from)) (omega arith)
+                ∙ st .keeps .same i (omega (arith, a .from))
+
+            table₅₃ : Ends-kept (t .ends) (t .pairs) s₃ s₅
+            table₅₃ =
+                let l = low in
+                let same : (i : ℕ) → i < t .places → word s₅ i ≡ word s₃ i =
+                λ i h.
+                p .stays .under i (omega (arith, b .back, st .above, a .from)) (omega (arith, f .after-places)) ∙ added .changes .under i h in
+                record {
+                  firsts = λ e k. same (t .ends + 2 * e) (omega (arith, f .tabled .after-ends));
+                  seconds = λ e k. same (t .ends + 2 * e + 1) (omega (arith, f .tabled .after-ends));
+                }
+
+            table₅₁ : Ends-kept (t .ends) (t .pairs) s₁ s₅
+            table₅₁ =
+                let l = low in
+                let same : (i : ℕ) → i < t .places → word s₃ i ≡ word s₁ i =
+                λ i h.
+                b .spares .under i (omega (arith, st .above, a .from)) h ∙ st .keeps .same i (omega (arith, a .from)) in
+                record {
+                  firsts = λ e k. table₅₃ .firsts e k ∙ same (t .ends + 2 * e) (omega (arith, f .tabled .after-ends));
+                  seconds = λ e k. table₅₃ .seconds e k ∙ same (t .ends + 2 * e + 1) (omega (arith, f .tabled .after-ends));
+                }
+
+            -- what is left of the first half's
+            left-kept :
+                matchings-at s₅ (t .ends) (t .pairs) (out + n * r) n (d / 2 - (r - d / 2)) ≡ drop (r - d / 2) cs
+            unfolding cs
+            left-kept =
+                let z = cut in
+                let c = f .graph in
+                let at : out + n * (d / 2) + n * (r - d / 2) ≡ out + n * r = omega arith in
+                rw (matchings-drop s₃ (t .ends) (t .pairs) (out + n * (d / 2)) n (r - d / 2) (d / 2) (z .enough), at)
+                (matchings-kept table₅₃ (t .pairs) (out + n * r) n (d / 2 - (r - d / 2))
+                (λ i h. kept-left (out + n * r + i) (omega arith) (omega (arith, c .after-out, c .below)))
+                (λ i h.
+                let q : out + n * (d / 2) + (n * (r - d / 2) + i) ≡ out + n * r + i = omega arith in
+                rw q at (b .bounds (n * (r - d / 2) + i) (omega arith))))
+
+            aside-kept :
+                matchings-at s₅ (t .ends) (t .pairs) (out + n * (2 * (d / 2))) n (d % 2)
+                ≡ matchings-at s₁ (t .ends) (t .pairs) (out + n * (2 * (d / 2))) n (d % 2)
+            aside-kept =
+                let z = cut in
+                let c = f .graph in
+                matchings-kept table₅₁ (t .pairs) (out + n * (2 * (d / 2))) n (d % 2)
+                (λ i h. kept-aside (out + n * (2 * (d / 2)) + i) (omega arith) (omega (arith, c .after-out, c .below)))
+                (a .bounds)
+
+            joined :
+                matchings-at s₅ (t .ends) (t .pairs) out n d
+                ≡ matchings-at s₅ (t .ends) (t .pairs) out n r ++ drop (r - d / 2) cs
+                ++ matchings-at s₁ (t .ends) (t .pairs) (out + n * (2 * (d / 2))) n (d % 2)
+            joined =
+                let z = cut in
+                let e : d ≡ r + (d / 2 - (r - d / 2)) + d % 2 = sym (z .whole-degree) in
+                let q : r + (d / 2 - (r - d / 2)) ≡ 2 * (d / 2) = omega arith in
+                rw (← left-kept, ← aside-kept)
+                (ap (matchings-at s₅ (t .ends) (t .pairs) out n) e
+                ∙ matchings-append s₅ (t .ends) (t .pairs) out n (r + (d / 2 - (r - d / 2))) (d % 2)
+                ∙ rw q
+                (ap (λ (l : List Graph). l ++ matchings-at s₅ (t .ends) (t .pairs) (out + n * (2 * (d / 2))) n (d % 2))
+                (ap (matchings-at s₅ (t .ends) (t .pairs) out n) (sym q) ∙ matchings-append s₅ (t .ends) (t .pairs) out n r (d / 2 - (r - d / 2)))))
+
+            colors-so :
+                (fuel : ℕ) → d ≤ fuel →
+                rbmg-edge-color fuel (2 * n) (lefts t n s) (rights t n s) d (graph-at s (t .ends) (t .pairs) g)
+                ≡ ran (matchings-at s₅ (t .ends) (t .pairs) out n d)
+            colors-so zero le = absurd (omega arith)
+            colors-so (suc fuel) le =
+                let e = power-above (d / 2) in
+                let first = first-colored fuel (omega arith) in
+                let second : rbmg-edge-color-when-power-of-two (2 * n) (power-above (d / 2))
+                (add-matchings (graph-at s₂ (t .ends) (t .pairs) (m₁ + 2 * (n * (d + 1)))) (take (r - d / 2) cs))
+                ≡ ran (matchings-at s₅ (t .ends) (t .pairs) out n r) = rw raised at (p .colors (t .pairs) (power-above (d / 2)) er) in
+                rw (
+                  color-step fuel (2 * n) (lefts t n s) (rights t n s) d (graph-at s (t .ends) (t .pairs) g) more,
+                  a .aside,
+                  st .halves (t .pairs),
+                  first,
+                  ← er,
+                  second,
+                  joined,
+                )
+
+            bounds-so : (j : ℕ) → j < n * d → word s₅ (out + j) < t .pairs
+            bounds-so j h =
+                let z = cut in
+                let c = f .graph in
+                elim (decLt j (n * r)) [
+                  | yes y ↦ p .bounds (t .pairs) (added .stored .numbers) j y
+                  | no y ↦
+                      elim (decLt j (n * (2 * (d / 2)))) [
+                        | yes x ↦
+                            let q : out + n * (d / 2) + (j - n * (d / 2)) ≡ out + j = omega arith in
+                            rw (kept-left (out + j) (omega arith) (omega (arith, c .after-out, c .below)))
+                            (rw q at (b .bounds (j - n * (d / 2)) (omega arith)))
+                        | no x ↦
+                            let q : out + n * (2 * (d / 2)) + (j - n * (2 * (d / 2))) ≡ out + j = omega arith in
+                            rw (kept-aside (out + j) (omega arith) (omega (arith, c .after-out, c .below)))
+                            (rw q at (a .bounds (j - n * (2 * (d / 2))) (omega arith)))
+                      ]
+                ]
+
+            spares-so : Spares used (t .places) (t .pairs + n) out (n * d) s s₅
+            spares-so =
+                let z = cut in
+                let c = f .graph in
+                spares-trans
+                (spares-wide used out (n * d) (omega arith) (f .after-places) (omega arith) (omega arith) (a .spares))
+                (spares-trans (keeps-spares used (t .places) (t .pairs + n) out (n * d) (a .from) (st .keeps))
+                (spares-trans
+                (spares-wide used out (n * d) (omega (arith, st .above, a .from)) (f .after-places) (omega arith) (omega arith) (b .spares))
+                (spares-trans
+                (changes-spares used (t .pairs + n) out (n * d) (omega (arith, a .from)) (omega arith) (f .after-places) (added .changes))
+                (stays-spares used (t .places) (t .pairs + n) out (n * d) (omega (arith, b .back, st .above, a .from)) (f .after-places)
+                (omega arith) (omega arith) (p .stays)))))
+
+            pub color-joined : Colored t s s₅ used used g n d out
+            color-joined = record { colors = colors-so; bounds = bounds-so; back = refl; spares = spares-so }
+
+-- ── sums that fit, and the degree that falls ──
+
+pub above-one : (d : ℕ) → (d ≡ 0 → ⊥) → (d ≡ 1 → ⊥) → 1 < d
+above-one d a b = omega arith
+
+pub record Sums (first n d r out places : ℕ) : Type 0 where
+  pub second : first + 2 * (n * (d + 1)) < 4294967296
+  pub into : out + n * (d / 2) < 4294967296
+  pub moved : n * (r - d / 2) < 4294967296
+  pub reaches : d / 2 ≤ r
+  pub map : places < 4294967296
+
+pub sums :
+    (t : Table) (s : List ℕ) (used g n d out r : ℕ) → Color-fits t s used g n d out → 1 < d → r ≡ 2 ^ power-above (d / 2) →
+    (first : ℕ) → first ≤ used + 2 * (n * (d + 1)) → Sums first n d r out (t .places)
+sums t s used g n d out r f more er first to =
+    let x = small t s used g n d out f in
+    let some : 0 < n = f .graph .some in
+    let one : 1 ≤ d + 1 = omega arith in
+    let some-wide : n * 1 ≤ n * (d + 1) = mul-le-mul-left n one in
+    record {
+      second = omega (arith, x .mark, x .wide, some-wide);
+      into = omega (arith, x .output, x .graph, x .mark, cuts n d r more er .whole);
+      moved = omega (arith, cuts n d r more er .moved, cuts n d r more er .under, cuts n d r more er .whole, x .output, x .graph, x .mark);
+      reaches = cuts n d r more er .reaches;
+      map = omega (arith, x .map, x .output, x .graph, x .mark);
+    }
+
+pub color-falls : (d t : ℕ) → 1 < d → d ≡ t → d / 2 < t
+color-falls d t more e = omega arith

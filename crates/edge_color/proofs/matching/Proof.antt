@@ -1,0 +1,22 @@
+-- `edge_color::matching` meets its contract. Assumes nothing.
+use native.Mathlib.Nat.{add-sub-cancel-left}
+use borrow.Author.Needs.{needs}
+use Rattle.edge_color.proofs.matching.Statement.{statement}
+use Rattle.edge_color.proofs.matching.Tie as tie
+
+-- src/lib.rt:85:1
+returns : tie.Need-returns
+returns c = rw add-sub-cancel-left
+
+pub matching-spec : {M : Type 1} → statement M
+matching-spec =
+    tie.close
+    (tie.spec
+    (λ c. search needs)
+    (λ c. search needs)
+    (λ c. search needs)
+    (λ c. search needs)
+    (λ c. search needs)
+    (λ c. search needs)
+    (λ c. search needs)
+    returns)
