@@ -57,7 +57,7 @@ decimal-some n =
 
 -- ── their value ──
 
-value-digit : (v b : ℕ) (rest : List ℕ) → Digit b → digits-value v (b ∷ rest) ≡ digits-value (10 * v + (b - 48)) rest
+pub value-digit : (v b : ℕ) (rest : List ℕ) → Digit b → digits-value v (b ∷ rest) ≡ digits-value (10 * v + (b - 48)) rest
 unfolding digits-value
 value-digit v b rest d = rw (digit-test b d)
 

@@ -1,5 +1,10 @@
+pub mod Parting
 pub mod Lengths
 pub mod ReadingLaws
 pub mod TextLaws
 pub mod Digits
 pub mod WrittenInput
+pub mod ParsingSteps
+pub mod LinesSteps
+pub mod PlacingSteps
+pub mod WaitingOf

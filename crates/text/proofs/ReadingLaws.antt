@@ -35,6 +35,25 @@ parts-spread separator (b ∷ bytes) = go (eqb b separator) (parts separator byt
     go false [] e = absurd (omega arith)
     go false (part ∷ more) e = omega arith
 
+-- ── a part more ──
+
+-- an end that isn't empty
+pub end-number : (l : List ℕ) → 0 < length l → end-of l ≡ number l
+unfolding end-of
+end-number [] h = absurd (omega arith)
+end-number (b ∷ l) h = refl
+
+-- a line with a line feed behind it
+pub line-step : (P n : ℕ) (line : List ℕ) (ps : List (List ℕ)) → 0 < length ps → read-lines P n (line ∷ ps) ≡ and-then-lines n (appointment-of line) (read-lines P (n + 1) ps)
+unfolding read-lines
+line-step P n line [] h = absurd (omega arith)
+line-step P n line (next ∷ more) h = refl
+
+-- the first line, with lines behind it
+pub first-step : (line : List ℕ) (ps : List (List ℕ)) → 0 < length ps → read-first (line ∷ ps) ≡ with-parties (number line) ps
+first-step line [] h = absurd (omega arith)
+first-step line (next ∷ more) h = refl
+
 -- ── a number, an end, a line ──
 
 -- a number is below 65,535, and its text isn't empty
@@ -78,7 +97,7 @@ pub record Line-read (bytes : List ℕ) (x : Appt) : Type 0 where
   pub second-end : x .second < 65536
   pub some-byte : 0 < length bytes
 
-line-is : (bytes : List ℕ) (x : Appt) → appointment-of bytes ≡ some x → Line-read bytes x
+pub line-is : (bytes : List ℕ) (x : Appt) → appointment-of bytes ≡ some x → Line-read bytes x
 unfolding appointment-of total
 line-is bytes x e = go (parts comma bytes) (parts-spread comma bytes) e
   where

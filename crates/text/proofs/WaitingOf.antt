@@ -1,0 +1,16 @@
+-- The desk's waiting of a party below P of a list that passes checks 1 to 5 is its figure, not a refusal. Assumes nothing.
+use Prim.Native.Nat.{ℕ, _<_}
+use mathlib.Core.Path.{_≡_, ap}
+use mathlib.Core.List.{List}
+use Rattle.appointments.specs.Appointments.{appts}
+use Rattle.appointments.specs.Checks.{passed}
+use Rattle.appointments.proofs.ChecksLaws.{passed-good}
+use Rattle.desk.specs.Waiting.{waiting, waiting-answer}
+use Rattle.desk.specs.Told.{asked-of}
+use Rattle.desk.specs.declared.asking.Asked.the-variants as asked
+use Rattle.desk.proofs.WaitingLaws.{askable-accepted}
+use Rattle.text.specs.Placed.{Good-parties}
+
+pub waits : (P : ℕ) (list : List ℕ) (party : ℕ) → Good-parties P list → party < P → asked-of (waiting-answer P list party) ≡ asked.Waits (waiting P (appts list) party)
+waits P list party g h =
+    ap asked-of (askable-accepted P list party (record { good = passed-good P list passed g .0; below = h }))

@@ -1,0 +1,42 @@
+-- What printing does to a lent buffer: bytes stored from a place on, and the place behind them. Assumes nothing.
+use Prim.Native.Nat.{ℕ, _+_, _*_, _≤_}
+use mathlib.Core.Path.{_≡_}
+use mathlib.Core.List.{List, [], _∷_, _++_}
+use lib.ListN.{length, getD, drop}
+use lib.Seq.{sets}
+use Rattle.appointments.specs.Appointments.{Appt}
+use Rattle.appointments.specs.Checks.{passed, checks-1-to-5}
+use Rattle.desk.specs.Waiting.{waiting}
+use Rattle.text.specs.Ascii.{ascii}
+use Rattle.text.specs.Printing.{decimal, line}
+
+-- the buffer has room for the bytes from a place on
+pub record Room (buffer : List ℕ) (at : ℕ) (bytes : List ℕ) : Type 0 where
+  pub fits : at + length bytes ≤ length buffer
+
+-- the bytes are stored one after the other from a place on, and the next place is the one behind them
+pub record Placed (buffer : List ℕ) (at : ℕ) (bytes after : List ℕ) (next : ℕ) : Type 0 where
+  pub end : next ≡ at + length bytes
+  pub stored : after ≡ sets buffer at bytes
+
+-- The bytes are the first ones of the buffer, whose later bytes stay, and they were counted.
+pub record Printed (bytes : List ℕ) (count : ℕ) (buffer after : List ℕ) : Type 0 where
+  pub counted : count ≡ length bytes
+  pub stored : after ≡ bytes ++ drop (length bytes) buffer
+
+-- a field and the byte behind it
+abbrev pub field : List ℕ → ℕ → List ℕ
+field bytes end = bytes ++ (end ∷ [])
+
+-- the list passes checks 1 to 5, so each party has a waiting
+abbrev pub Good-parties : ℕ → List ℕ → Type 0
+Good-parties P list = checks-1-to-5 P list passed ≡ passed
+
+-- the line of the appointment at a position of the list
+abbrev pub appointment-line : List ℕ → List ℕ → ℕ → List ℕ
+appointment-line list slots i =
+    line (decimal i ∷ decimal (getD list (2 * i) 0) ∷ decimal (getD list (2 * i + 1) 0) ∷ decimal (getD slots i 0) ∷ [])
+
+-- the line of a party
+abbrev pub party-line : ℕ → List Appt → ℕ → List ℕ
+party-line P xs v = line (ascii "party" ∷ decimal v ∷ decimal (waiting P xs v) ∷ [])
