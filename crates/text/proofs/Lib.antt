@@ -8,3 +8,4 @@ pub mod ParsingSteps
 pub mod LinesSteps
 pub mod PlacingSteps
 pub mod WaitingOf
+pub mod Rooms

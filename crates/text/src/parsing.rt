@@ -7,19 +7,19 @@ ghost use Rattle.text.specs.Reading.{parts, «digits-value», number, «
 ghost use Rattle.text.specs.Told.{«First-at», «value-of», «ends-of», «Next-line», «Read-as»};
 
 // The value of a text, or nothing if it is malformed.
-pub enum Value {
+enum Value {
     Is(usize),
     Missing,
 }
 
 // The two ends of a line, or nothing if it is malformed.
-pub enum Ends {
+enum Ends {
     Both(usize, usize),
     Missing,
 }
 
 // The two ends of the line from a place on, and where the next one starts.
-pub enum Line {
+enum Line {
     Of(usize, usize, usize),
     Malformed,
 }
