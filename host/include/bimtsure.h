@@ -4,7 +4,7 @@
  * is aligned. Slices that a call writes must not overlap the others. Nothing is kept after a call.
  *
  * Each answer has a number, 0 for acceptance, and where document 01 names one a place; a refusal's figures are 0, and it leaves
- * all lent memory as it was.
+ * all lent memory as it was (but for scratch after the planning call's 9).
  */
 #ifndef BIMTSURE_H
 #define BIMTSURE_H
@@ -15,6 +15,21 @@
 #ifdef __cplusplus
 extern "C" {
 #endif
+
+/* The planning call: gives each appointment of a list its slot. P parties; two ends for each of the A appointments, in `list`.
+ *
+ * Accepts with number 0, place 0 and D, the largest load: the first A entries of `slots` hold the plan, later ones stay. Or
+ * refuses by 1 to 9 with its place, and D 0; 9 where some closed round is of odd length. Slots then stay as they were.
+ *
+ * Scratch needs W = 128*P*(D+1) words, or else 8; what it holds before affects nothing. After acceptance and after 9 its first W
+ * words are 0 and the others stay; after 1 to 8 all of it stays. */
+struct bimtsure_answer {
+    uint32_t number;
+    uint32_t place;
+    uint32_t d;
+};
+struct bimtsure_answer bimtsure_plan(uint16_t p, const uint16_t *list, size_t list_len, uint16_t *slots, size_t slots_len,
+                                     uint32_t *scratch, size_t scratch_len);
 
 /* Waiting of a party: D minus its load. Refuses by 1 to 5; 5 with place 0 also if the party is not below P. */
 struct bimtsure_waiting_answer {

@@ -2,7 +2,7 @@
 //! `bipartite-edge-color` come to what the Rust answers just now, each by `refl`; and `rt check` decides.
 //!
 //! The crate stands below target/definitions/ beside copies of those modules of the definitions that it needs, without code
-//! and proofs, which computing doesn't ask for.
+//! and proofs, which computing doesn't ask for. Of the code only the structs and enums come along that these modules name.
 
 use crate::format::{write_list, write_outcome, write_refusal};
 use crate::list::{List, Refusal};
@@ -20,6 +20,8 @@ const MOST_APPOINTMENTS: usize = 60;
 const MOST_PARTIES: usize = 40;
 const ROWS_IN_A_MODULE: usize = 24;
 const PLACE: &str = "target/definitions";
+/// How the modules are called that `rt` makes of a crate's structs and enums.
+const DECLARED: &str = "declared.";
 
 /// The modules that the rows cite, as crate and module.
 const CITED: [(&str, &str); 4] =
@@ -131,7 +133,7 @@ impl Row {
         let parties = self.list.parties;
         let ends = numerals(self.list.ends.iter().map(|&end| usize::from(end)));
         let slots = self.list.count();
-        let scratch = 128 * parties * (self.list.largest_load() + 1);
+        let scratch = self.list.scratch_words();
         let (facts, proof) = match &self.expected {
             Expected::Refused(Refusal { number: refusal, place }) => {
                 (format!("checks {parties} list-{number} {slots} {scratch} ≡ refused {refusal} {place}"), "refl")
@@ -253,8 +255,13 @@ fn declarations(modules: impl Iterator<Item = String>) -> String {
 /// Copies the cited modules and all that they lean on: the modules of each crate.
 fn copy_definitions(place: &Path) -> io::Result<BTreeMap<String, BTreeSet<String>>> {
     let mut copied: BTreeMap<String, BTreeSet<String>> = BTreeMap::new();
+    let mut declared: BTreeSet<(String, String)> = BTreeSet::new();
     let mut waiting: Vec<(String, String)> = CITED.map(|(owner, module)| (owner.into(), module.into())).into();
     while let Some((owner, module)) = waiting.pop() {
+        if let Some(name) = module.strip_prefix(DECLARED) {
+            declared.insert((owner, name.to_string()));
+            continue;
+        }
         if !copied.entry(owner.clone()).or_default().insert(module.clone()) {
             continue;
         }
@@ -267,15 +274,36 @@ fn copy_definitions(place: &Path) -> io::Result<BTreeMap<String, BTreeSet<String
     for (owner, modules) in &copied {
         fs::write(crate_folder(place, owner)?.join("Lib.antt"), declarations(modules.iter().cloned()))?;
     }
+    for (owner, name) in &declared {
+        let source = Path::new("crates").join(owner).join("src/lib.rt");
+        let text = declaration(&fs::read_to_string(&source)?, name)
+            .ok_or_else(|| io::Error::other(format!("{} declares no {name}", source.display())))?;
+        let lib = place.join("crates").join(owner).join("src/lib.rt");
+        let before = fs::read_to_string(&lib)?;
+        fs::write(lib, before + &text)?;
+    }
     Ok(copied)
 }
 
-/// The crate and the module that a line `use Rattle.NAME.specs.MODULE..` names; a crate calls itself `NAME·specs`.
+/// The text of a struct or enum, from its first line to the brace that ends it.
+fn declaration(source: &str, name: &str) -> Option<String> {
+    let heads = [format!("pub struct {name} {{"), format!("pub enum {name} {{")];
+    let from = source.lines().position(|line| heads.iter().any(|head| line == head))?;
+    let body = source.lines().skip(from).take_while(|line| *line != "}");
+    Some(body.chain(["}"]).map(|line| format!("{line}\n")).collect())
+}
+
+/// The crate and the module that a line `use Rattle.NAME.specs.MODULE..` names; a crate calls itself `NAME·specs`. For a struct
+/// or enum of the code the module is `declared.NAME`.
 fn used_module(line: &str) -> Option<(String, String)> {
     let (owner, rest) = line.strip_prefix("use Rattle·")?.split_once(".specs.")?;
     let owner = owner.strip_suffix("·specs").unwrap_or(owner);
-    let end = rest.find(|c: char| !c.is_alphanumeric() && c != '_').unwrap_or(rest.len());
-    Some((owner.to_string(), rest[..end].to_string()))
+    let word = |text: &str| text.chars().take_while(|c| c.is_alphanumeric() || *c == '_').collect::<String>();
+    let module = match rest.strip_prefix(DECLARED) {
+        Some(name) => DECLARED.to_string() + &word(name),
+        None => word(rest),
+    };
+    Some((owner.to_string(), module))
 }
 
 /// The lines of crates.txt for the copied crates, with those of their dependencies that are copied too.

@@ -26,6 +26,15 @@ mod c {
 
     #[link(name = "bimtsure_c", kind = "static")]
     extern "C" {
+        pub fn bimtsure_plan(
+            p: u16,
+            list: *const u16,
+            list_len: usize,
+            slots: *mut u16,
+            slots_len: usize,
+            scratch: *mut u32,
+            scratch_len: usize,
+        ) -> Plan;
         pub fn bimtsure_waiting(p: u16, list: *const u16, list_len: usize, party: u16) -> Waiting;
         pub fn bimtsure_file_plan(
             p: u16,
@@ -61,6 +70,15 @@ mod c {
 pub struct TwoColorAnswer {
     pub number: u32,
     pub left: u32,
+}
+
+/// Number 0 and D, or the number of a refusal and its place.
+#[repr(C)]
+#[derive(Clone, Copy, Debug, PartialEq, Eq)]
+pub struct Plan {
+    pub number: u32,
+    pub place: u32,
+    pub d: u32,
 }
 
 #[repr(C)]
@@ -113,6 +131,22 @@ pub fn two_color(p: u16, list: &[u16], scratch: &mut [u32]) -> TwoColorAnswer {
 /// What the split asks (`Splits` in crates/euler/specs/Room.antt) must hold: regular of even degree, and room above the mark.
 pub unsafe fn split(scratch: &mut [u32], used: usize, ends: usize, g: usize, n: usize, width: usize) -> usize {
     c::bimtsure_split(scratch.as_mut_ptr(), scratch.len(), used, ends, g, n, width)
+}
+
+/// The planning call.
+pub fn plan(p: u16, list: &[u16], slots: &mut [u16], scratch: &mut [u32]) -> Plan {
+    // SAFETY: the call reads the list and writes slots and scratch, all within their lengths, and asks nothing.
+    unsafe {
+        c::bimtsure_plan(
+            p,
+            list.as_ptr(),
+            list.len(),
+            slots.as_mut_ptr(),
+            slots.len(),
+            scratch.as_mut_ptr(),
+            scratch.len(),
+        )
+    }
 }
 
 pub fn waiting(p: u16, list: &[u16], party: u16) -> Waiting {

@@ -1,4 +1,4 @@
-//! A list of appointments, its loads, and checks 1 to 6 of document 01, written from that document alone.
+//! A list of appointments, its loads, and checks 1 to 8 of document 01, written from that document alone.
 
 /// Marks a blank end.
 pub const BLANK: u16 = 65_535;
@@ -84,5 +84,42 @@ impl List {
             return Err(Refusal { number: 6, place: 0 });
         }
         Ok(largest)
+    }
+
+    /// W, the words of scratch that the list needs.
+    pub fn scratch_words(&self) -> usize {
+        128 * self.parties * (self.largest_load() + 1)
+    }
+
+    /// Checks 1 to 8, in this order, with a slot buffer of that many entries and scratch of that many words.
+    pub fn check_lent(&self, slots: usize, scratch: usize) -> Result<usize, Refusal> {
+        let largest = self.check()?;
+        if slots < self.count() {
+            return Err(Refusal { number: 7, place: 0 });
+        }
+        if scratch < self.scratch_words() {
+            return Err(Refusal { number: 8, place: 0 });
+        }
+        Ok(largest)
+    }
+}
+
+#[cfg(test)]
+mod tests {
+    use super::*;
+
+    /// Document 01's example has A = 2 and D = 2, so W is 128×3×3.
+    #[test]
+    fn too_short_buffers_are_refused_in_order() {
+        let list = List::new(3, &[(0, 1), (1, 2)]);
+        let refused = |number| Err(Refusal { number, place: 0 });
+        assert_eq!(list.scratch_words(), 1152);
+        assert_eq!(list.check_lent(2, 1152), Ok(2));
+        assert_eq!(list.check_lent(9, 9999), Ok(2));
+        assert_eq!(list.check_lent(1, 1152), refused(7));
+        assert_eq!(list.check_lent(2, 1151), refused(8));
+        assert_eq!(list.check_lent(1, 0), refused(7));
+        assert_eq!(List::new(1025, &[]).check_lent(0, 0), refused(1));
+        assert_eq!(List::new(0, &[]).check_lent(0, 0), Ok(0));
     }
 }

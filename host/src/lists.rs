@@ -28,6 +28,9 @@ const KINDS: [Kind; 13] = [
     empty,
 ];
 
+/// Those of them that have two sides and can have a large D.
+const BUSY_KINDS: [Kind; 8] = [even_handed, two_thirds_full, star, repeats, busy_few, pieces, sparse, lopsided];
+
 /// first end, second end, copies
 type Copies = (usize, usize, usize);
 
@@ -67,6 +70,33 @@ impl Lists {
             turn if turn < KINDS.len() => self.passing(KINDS[turn]),
             turn if turn == KINDS.len() => self.near_a_panic(),
             _ => refused(&mut self.random, self.most_appointments),
+        }
+    }
+
+    /// The next list of a mix for the planning call, in which most lists have two sides and a D of 3 or more: the Rust does
+    /// next to nothing on the others. Many have an odd D of 11 or more, which is where it can panic.
+    pub fn mixed(&mut self) -> List {
+        let turn = self.made % 64;
+        let most = self.most_appointments;
+        let list = match turn % 16 {
+            0 if turn == 0 && most == MOST_APPOINTMENTS => at_a_limit(&mut self.random),
+            1..=8 if most >= 3 => self.two_sided(|largest_load| largest_load >= 3),
+            9..=11 if most >= 11 => self.two_sided(|largest_load| largest_load >= 11 && largest_load % 2 == 1),
+            // 64 and the number of turns there have no common divisor, so every kind comes
+            _ => return self.any(),
+        };
+        self.made += 1;
+        list
+    }
+
+    /// A list with two sides whose D is as wanted.
+    fn two_sided(&mut self, wanted: fn(usize) -> bool) -> List {
+        loop {
+            let kind = BUSY_KINDS[self.random.below(BUSY_KINDS.len())];
+            let list = self.passing(kind);
+            if wanted(list.largest_load()) {
+                return list;
+            }
         }
     }
 
@@ -149,6 +179,18 @@ fn number(random: &mut Random, shape: Shape, most_parties: usize) -> List {
 fn even_handed(random: &mut Random, most: usize) -> Shape {
     let side = random.size(most.min(MOST_PARTIES / 2));
     let degree = random.between(1, most / side);
+    matchings(random, side, degree)
+}
+
+/// In random order, so many thirds of a list in which each of the parties, on two equal sides, has that load.
+pub fn even_handed_part(random: &mut Random, parties: usize, load: usize, thirds: usize) -> List {
+    let mut pairs = matchings(random, parties / 2, load).pairs;
+    random.shuffle(&mut pairs);
+    pairs.truncate((thirds * pairs.len()).div_ceil(3));
+    List::new(parties, &pairs)
+}
+
+fn matchings(random: &mut Random, side: usize, degree: usize) -> Shape {
     let mut pairs = Vec::new();
     for _ in 0..degree {
         let mut mates: Vec<usize> = (0..side).collect();
@@ -272,6 +314,55 @@ fn with_odd_round(random: &mut Random, most: usize) -> Shape {
 
 fn empty(random: &mut Random, _most: usize) -> Shape {
     Shape { count: random.size(MOST_PARTIES + 1) - 1, pairs: Vec::new() }
+}
+
+/// P or A at its limit or one past it.
+fn at_a_limit(random: &mut Random) -> List {
+    let past = usize::from(random.chance(8));
+    if random.chance(2) {
+        return with_most_parties(random, MOST_PARTIES + past);
+    }
+    let mut list = with_most_appointments(random);
+    match random.below(8) {
+        // one appointment comes elsewhere, so that D×P is past its limit too, or there is an odd round
+        0 => {
+            let at = random.below(list.ends.len());
+            list.ends[at] = random.below(list.parties) as u16;
+        }
+        1 => list.parties = random.between(1, MOST_PARTIES + 1),
+        _ => {}
+    }
+    list.ends.extend(vec![0; 2 * past]);
+    list
+}
+
+/// That many parties, with loads of up to 9: D×P leaves room for 8.
+fn with_most_parties(random: &mut Random, parties: usize) -> List {
+    let side = random.between(1, parties / 2);
+    let most_load = if random.chance(8) { 9 } else { 8 };
+    let degree = random.between(1, most_load);
+    let mut shape = matchings(random, side, degree);
+    if random.chance(2) {
+        random.shuffle(&mut shape.pairs);
+        shape.pairs.truncate(random.between(1, side * degree));
+    }
+    shape.pairs.truncate(MOST_APPOINTMENTS);
+    shape.count = parties;
+    number(random, shape, parties)
+}
+
+/// 4,096 appointments pass only where every party has load D and D×P is 8,192, so P is a power of two.
+fn with_most_appointments(random: &mut Random) -> List {
+    let side = 1 << random.below(10);
+    let mut shape = matchings(random, side, MOST_APPOINTMENTS / side);
+    if random.chance(2) {
+        // few different matchings, each many times over
+        let different = side * random.between(1, 3).min(shape.pairs.len() / side);
+        let again: Vec<(usize, usize)> =
+            shape.pairs[..different].iter().copied().cycle().take(MOST_APPOINTMENTS).collect();
+        shape.pairs = again;
+    }
+    number(random, shape, 2 * side)
 }
 
 /// A list that one of checks 1 to 6 refuses; often a later one too, so that their order shows.

@@ -1,16 +1,24 @@
 //! Runs rustworkx-core's `bipartite_edge_color` on lists of appointments, makes random lists, has the definitions computed on
-//! lists with the Rust's fresh answers, and compares our exported calls with the Rust's.
+//! lists with the Rust's fresh answers, compares our exported calls with the Rust's, and times the planning call beside it.
 
+mod answer;
+mod bench;
 mod definitions;
+mod demand3;
 mod desk;
 mod desk_calls;
 mod exported;
 mod format;
+mod known;
+mod lent;
 mod list;
 mod lists;
+mod plan;
+mod plan_counts;
 mod random;
 mod reference;
 mod split;
+mod stored;
 mod two_color;
 
 // The Rust as published, which no formatter may touch.
@@ -44,11 +52,12 @@ use std::io::{self, BufRead, Write};
 use std::process::ExitCode;
 
 const USAGE: &str = "\
-bimtsure-host answer [--second] [--panics]
+bimtsure-host answer [--second] [--panics] [--ours]
     read lists, one to a line as `P first-second first-second ..`, and print what the Rust answers to each:
     `planned D s0 s1 ..`, `refused 9`, `panic`, or `refused N PLACE` by checks 1 to 6
     --second    the Rust with document 01's second search
     --panics    print the message of each panic, to standard error
+    --ours      our planning call
 bimtsure-host lists COUNT SEED [MOST]
     print COUNT random lists of at most MOST appointments (if not given, 4096), which SEED decides
 bimtsure-host definitions [COUNT [SEED]]
@@ -59,7 +68,18 @@ bimtsure-host two-color COUNT SEED
 bimtsure-host split COUNT SEED
     compare our split with the Rust's `rbmg_split_into_two` on COUNT random regular graphs of even degree
 bimtsure-host desk COUNT SEED
-    compare our waiting, filed plan and viewer with desk.rs, in COUNT rounds of random and of damaged input";
+    compare our waiting, filed plan and viewer with desk.rs, in COUNT rounds of random and of damaged input
+bimtsure-host plan COUNT SEED
+    compare our planning call with the Rust on the lists that papers name and on COUNT random ones: answers, slots and scratch
+    afterwards, and demand 3; from 100000 lists on, fails if there were too few of some kind of list
+bimtsure-host bench
+    time our planning call beside the Rust on the same lists
+bimtsure-host stored COUNT SEED [MOST]
+    print the small lists that papers name and COUNT random ones of at most MOST appointments (if not given, 40), each with the
+    Rust's answer, as `P first-second .. = planned D s0 s1 ..` or `.. = refused N PLACE`; a remark follows a `#`";
+
+/// The most appointments of a list to be stored, if not given.
+const MOST_STORED: usize = 40;
 
 fn main() -> ExitCode {
     let words: Vec<String> = std::env::args().skip(1).collect();
@@ -74,6 +94,10 @@ fn main() -> ExitCode {
         ["two-color", count, seed] => compare(two_color::compare, count, seed),
         ["split", count, seed] => compare(split::compare, count, seed),
         ["desk", count, seed] => compare(desk_calls::compare, count, seed),
+        ["plan", count, seed] => compare(plan::compare, count, seed),
+        ["bench"] => bench::run(1),
+        ["stored", count, seed] => print_stored(count, seed, MOST_STORED),
+        ["stored", count, seed, most] => number(most).and_then(|most| print_stored(count, seed, most)),
         _ => Err(USAGE.to_string()),
     };
     match done {
@@ -94,7 +118,7 @@ fn compare(run: fn(usize, u64) -> Result<(), String>, count: &str, seed: &str) -
 }
 
 fn answer(options: &[&str]) -> Result<(), String> {
-    if options.iter().any(|option| !["--second", "--panics"].contains(option)) {
+    if options.iter().any(|option| !["--second", "--panics", "--ours"].contains(option)) {
         return Err(USAGE.to_string());
     }
     if !options.contains(&"--panics") {
@@ -106,12 +130,17 @@ fn answer(options: &[&str]) -> Result<(), String> {
         let line = line.map_err(|error| error.to_string())?;
         let list = format::read_list(&line).map_err(|error| format!("line {}: {error}", at + 1))?;
         let text = match list.check() {
+            _ if options.contains(&"--ours") => plan::answered_by_us(&list)?.text(),
             Ok(largest_load) => format::write_outcome(largest_load, &run(&list)),
             Err(refusal) => format::write_refusal(refusal),
         };
         writeln!(out, "{text}").map_err(|error| error.to_string())?;
     }
     out.flush().map_err(|error| error.to_string())
+}
+
+fn print_stored(count: &str, seed: &str, most: usize) -> Result<(), String> {
+    stored::print(number(count)?, number(seed)? as u64, most)
 }
 
 fn print_lists(count: &str, seed: &str, most: usize) -> Result<(), String> {

@@ -4,10 +4,12 @@ use crate::dictmap::DictMap;
 use crate::list::List;
 use crate::{bipartite_coloring, coloring, second_search};
 use petgraph::graph::{EdgeIndex, NodeIndex, UnGraph};
+use std::cell::Cell;
 use std::panic;
-use std::sync::atomic::{AtomicBool, Ordering};
 
-static IN_THE_RUST: AtomicBool = AtomicBool::new(false);
+thread_local! {
+    static IN_THE_RUST: Cell<bool> = const { Cell::new(false) };
+}
 
 #[derive(Clone, Debug, PartialEq, Eq)]
 pub enum Outcome {
@@ -19,7 +21,7 @@ pub enum Outcome {
 }
 
 /// The reference of document 01: an undirected graph with P nodes and the appointments added in list order.
-fn graph_of(list: &List) -> UnGraph<(), ()> {
+pub fn graph_of(list: &List) -> UnGraph<(), ()> {
     let mut graph = UnGraph::default();
     for _ in 0..list.parties {
         graph.add_node(());
@@ -38,6 +40,11 @@ pub fn sides(list: &List) -> Option<(Vec<usize>, Vec<usize>)> {
     Some((side(0), side(1)))
 }
 
+/// The slots of a coloring, in list order.
+pub fn slots_of(list: &List, colors: &DictMap<EdgeIndex, usize>) -> Vec<usize> {
+    (0..list.count()).map(|position| colors[&EdgeIndex::new(position)]).collect()
+}
+
 /// bipartite_coloring.rs as it stands in docs/src.
 pub fn published(list: &List) -> Outcome {
     let graph = graph_of(list);
@@ -51,13 +58,11 @@ pub fn with_second_search(list: &List) -> Outcome {
 }
 
 fn outcome(list: &List, color: impl FnOnce() -> Option<DictMap<EdgeIndex, usize>>) -> Outcome {
-    IN_THE_RUST.store(true, Ordering::Relaxed);
+    IN_THE_RUST.set(true);
     let result = panic::catch_unwind(panic::AssertUnwindSafe(color));
-    IN_THE_RUST.store(false, Ordering::Relaxed);
+    IN_THE_RUST.set(false);
     match result {
-        Ok(Some(colors)) => {
-            Outcome::Planned((0..list.count()).map(|position| colors[&EdgeIndex::new(position)]).collect())
-        }
+        Ok(Some(colors)) => Outcome::Planned(slots_of(list, &colors)),
         Ok(None) => Outcome::NotBipartite,
         Err(_) => Outcome::Panicked,
     }
@@ -67,7 +72,7 @@ fn outcome(list: &List, color: impl FnOnce() -> Option<DictMap<EdgeIndex, usize>
 pub fn silence_panics() {
     let usual = panic::take_hook();
     panic::set_hook(Box::new(move |info| {
-        if !IN_THE_RUST.load(Ordering::Relaxed) {
+        if !IN_THE_RUST.get() {
             usual(info);
         }
     }));

@@ -62,12 +62,12 @@ fn compare_one(list: &List, lent: &mut Lent, counts: &mut Counts) -> Result<(), 
         Sides::Refused(9) => counts.refused_by_9 += 1,
         Sides::Refused(_) => counts.refused_by_checks += 1,
     }
-    let Ok(largest_load) = checked else {
+    if checked.is_err() {
         // checks 1 to 6 come before 8, so any scratch will do
         let words = lent.random.below(1 << 12);
         return expect(&expected, &lent.ask(list, words)?);
-    };
-    let words = 128 * list.parties * (largest_load + 1);
+    }
+    let words = list.scratch_words();
     expect(&expected, &lent.ask(list, words)?)?;
     if words > 0 {
         counts.one_word_short += 1;

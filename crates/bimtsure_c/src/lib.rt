@@ -1,6 +1,11 @@
-// The desk's calls for C and Rust: numbers and slices in, a struct of numbers out. Each entry only turns the answer's enum into
-// numbers, and says that they are the definitions', for acceptance and for every refusal. host/include/bimtsure.h declares them.
+// The planning call and the desk's calls for C and Rust: numbers and slices in, a struct of numbers out. Each entry only turns
+// the answer's enum into numbers, and says that they are the definitions', for acceptance and for every refusal.
+// host/include/bimtsure.h declares them.
 ghost use mathlib.Core.Path.{_≡_};
+ghost use lib.ListN.{length};
+ghost use Rattle.planning.specs.Planning as Planning;
+ghost use Rattle.planning.specs.Demand3.{«Demand-3»};
+ghost use Rattle.bimtsure_c.specs.Planned.{«answer-by»};
 ghost use Rattle.desk.specs.Answers.{«number-of», «place-of», «figure-of»};
 ghost use Rattle.desk.specs.Waiting.{«waiting-answer»};
 ghost use Rattle.desk.specs.Filed.{«writing-answer», «writing-output», «reading-answer», «reading-list», «reading-slots», «parties-of», «appointments-of»};
@@ -11,6 +16,15 @@ use desk::filing::Filed;
 use desk::filing::Read;
 use desk::viewing::Opened;
 use desk::viewing::Shown;
+use planning::Answer;
+
+// Number, place, and D.
+#[repr(C)]
+pub struct BimtsureAnswer {
+    pub number: u32,
+    pub place: u32,
+    pub d: u32,
+}
 
 // Number, place, and the party's waiting; the figures of a refusal are 0, here and below.
 #[repr(C)]
@@ -46,6 +60,36 @@ pub struct BimtsureView {
     pub position: usize,
     pub slot: u32,
     pub next: usize,
+}
+
+// The planning call: a slot for each appointment of the list, or a refusal.
+#[no_mangle]
+pub extern "C" fn bimtsure_plan(
+    p: u16,
+    list: &[u16],
+    slots: &mut [u16],
+    scratch: &mut [u32],
+) -> BimtsureAnswer
+    ensures number { λ r. ⌜ r .number ≡ Planning.number-of (Planning.plan-answer p (now (list .entry)) (now (slots .entry)) (now (scratch .entry))) ⌝ }
+    ensures place { λ r. ⌜ r .place ≡ Planning.place-of (Planning.plan-answer p (now (list .entry)) (now (slots .entry)) (now (scratch .entry))) ⌝ }
+    ensures d { λ r. ⌜ r .d ≡ Planning.figure-of (Planning.plan-answer p (now (list .entry)) (now (slots .entry)) (now (scratch .entry))) ⌝ }
+    ensures slots { λ r. ⌜ now (slots .exit) ≡ Planning.plan-slots p (now (list .entry)) (now (slots .entry)) (now (scratch .entry)) ⌝ }
+    ensures scratch { λ r. ⌜ now (scratch .exit) ≡ Planning.plan-scratch p (now (list .entry)) (now (slots .entry)) (now (scratch .entry)) ⌝ }
+    ensures demand_3 { λ r. ⌜ Demand-3 p (now (list .entry)) (length (now (slots .entry))) (length (now (scratch .entry))) (answer-by (r .number) (r .place) (r .d)) (now (slots .exit)) ⌝ }
+{
+    let answer = planning::bipartite_edge_color(p, list, slots, scratch);
+    match answer {
+        Answer::Planned(d) => BimtsureAnswer {
+            number: 0,
+            place: 0,
+            d: d as u32,
+        },
+        Answer::Refused(number, place) => BimtsureAnswer {
+            number: number as u32,
+            place: place as u32,
+            d: 0,
+        },
+    }
 }
 
 // Waiting of a party.

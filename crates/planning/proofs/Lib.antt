@@ -1,4 +1,7 @@
 pub mod GivenPartitionLaws
+pub mod Preparing
+pub mod Giving
 pub mod Outcomes
 pub mod Demand3
 pub mod Frame
+pub mod WorkingOut

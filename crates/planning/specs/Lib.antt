@@ -5,3 +5,5 @@ pub mod FifteenLists
 pub mod Examples
 pub mod Computing
 pub mod LowestFree
+pub mod Told
+pub mod Steps

@@ -5,9 +5,11 @@
 // was read makes room for a link. A second pass, over the appointments, takes the first link of each appointment's pair.
 ghost use mathlib.Core.Path.{_≡_};
 ghost use Prim.Native.Nat.{ℕ, _+_, _*_, _<_, _≤_};
+ghost use lib.ListN.{length};
 ghost use Rattle.words.specs.Words.{word, «put-word»};
 ghost use Rattle.slots.specs.Stored.{«Gives-slots»};
 ghost use Rattle.slots.specs.Steps.{pushed, «matching-pushed», «all-pushed», «taken-words», «taken-slots», «given-words», «given-slots»};
+use edge_color::matching;
 use multigraph::EdgeIndex;
 use words::get;
 use words::put;
@@ -39,16 +41,29 @@ fn set_first_link(s: &mut [u32], top: usize, e: EdgeIndex, link: usize)
     put(s, top + i, link);
 }
 
-// The pair at place `t` of the matchings has slot `z`, too: a new first link, which leads to the pair's lower slots. The word
-// that held its number holds the next link from now on.
-fn push_slot(s: &mut [u32], out: usize, top: usize, z: usize, t: usize)
+// Pair `j` of matching `z`, read in the stretch of words that holds the matching.
+fn pair_in(s: &[u32], n: usize, out: usize, z: usize, j: usize) -> EdgeIndex
+    requires { ⌜ out + n * z + n ≤ length (now s) ⌝ }
+    requires { ⌜ j < n ⌝ }
+    ensures { λ r. ⌜ r .0 ≡ word (now (s .entry)) (out + (n * z + j)) ⌝ }
+{
+    let m = matching(s, out, n, z);
+    EdgeIndex(m[j])
+}
+
+// Pair `j` of matching `z` has slot `z`, too: a new first link, which leads to the pair's lower slots. The word that held its
+// number holds the next link from now on.
+fn push_slot(s: &mut [u32], n: usize, out: usize, top: usize, z: usize, j: usize)
     requires { ⌜ out < 4294967296 ⌝ }
     requires { ⌜ top < 4294967296 ⌝ }
     requires { ⌜ z < 4294967296 ⌝ }
-    requires { ⌜ t < 4294967296 ⌝ }
-    ensures { λ r. ⌜ now (s .exit) ≡ pushed out top z t (now (s .entry)) ⌝ }
+    requires { ⌜ n * z + n < 4294967296 ⌝ }
+    requires { ⌜ out + n * z + n ≤ length (now s) ⌝ }
+    requires { ⌜ j < n ⌝ }
+    ensures { λ r. ⌜ now (s .exit) ≡ pushed out top z (n * z + j) (now (s .entry)) ⌝ }
 {
-    let e = pair_at(s, out + t);
+    let t = n * z + j;
+    let e = pair_in(s, n, out, z, j);
     let next = first_link(s, top, e);
     put(s, out + t, next);
     set_first_link(s, top, e, z * 16384 + t);
@@ -60,12 +75,12 @@ fn push_matching(s: &mut [u32], n: usize, out: usize, top: usize, z: usize)
     requires { ⌜ top < 4294967296 ⌝ }
     requires { ⌜ z < 4294967296 ⌝ }
     requires { ⌜ n * z + n < 4294967296 ⌝ }
+    requires { ⌜ out + n * z + n ≤ length (now s) ⌝ }
     ensures { λ r. ⌜ now (s .exit) ≡ matching-pushed n out top z n (now (s .entry)) ⌝ }
 {
-    let t = n * z;
     let mut j = 0;
     while j < n {
-        push_slot(s, out, top, z, t + j);
+        push_slot(s, n, out, top, z, j);
         j += 1;
     }
 }
@@ -76,6 +91,7 @@ fn push_all(s: &mut [u32], n: usize, d: usize, out: usize, top: usize)
     requires { ⌜ top < 4294967296 ⌝ }
     requires { ⌜ d < 4294967296 ⌝ }
     requires { ⌜ n * d < 4294967296 ⌝ }
+    requires { ⌜ out + n * d ≤ length (now s) ⌝ }
     ensures { λ r. ⌜ now (s .exit) ≡ all-pushed n out top d (now (s .entry)) ⌝ }
 {
     let mut z = 0;
@@ -127,6 +143,7 @@ pub fn give_slots(
 )
     requires { ⌜ d < 4294967296 ⌝ }
     requires { ⌜ n * d < 4294967296 ⌝ }
+    requires { ⌜ out + n * d ≤ length (now s) ⌝ }
     requires { ⌜ out < 4294967296 ⌝ }
     requires { ⌜ apair + a < 4294967296 ⌝ }
     requires { ⌜ top < 4294967296 ⌝ }

@@ -11,11 +11,11 @@ use Rattle.slots.proofs.push_matching.Statement.{statement}
 use Rattle.slots.proofs.push_matching.Tie as tie
 
 abbrev Inv-loop : tie.InvT-loop
-Inv-loop s₀ n out top z t j₀ s j =
+Inv-loop s₀ n out top z j₀ s j =
     (j ≤ n) × (length s ≡ length s₀) × (s ≡ matching-pushed n out top z j s₀)
 
 abbrev μ-loop : tie.MeasureT-loop
-μ-loop s₀ n out top z t j₀ s j = n - j
+μ-loop s₀ n out top z j₀ s j = n - j
 
 loop-holds : tie.Need-loop-holds Inv-loop μ-loop
 unfolding matching-pushed
@@ -42,9 +42,7 @@ push-matching-spec =
     (tie.spec
     Inv-loop
     μ-loop
-    (λ c. search needs)
     loop-holds
-    (λ c. search needs)
     (λ c κs. search needs)
     (λ c. search needs)
     (λ c. search needs)

@@ -13,6 +13,7 @@ push-slot-spec =
     tie.close
     (tie.spec
     (λ c. search needs)
+    (λ c. search needs)
     (λ c κs. search needs)
     (λ c κs. search needs)
     (λ c. search needs)

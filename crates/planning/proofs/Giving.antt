@@ -1,0 +1,163 @@
+-- From the evened graph to the slots: the matchings of its colouring lie where the slots are given from, and what is given are the
+-- slots of `bipartite_edge_color`. Assumes nothing.
+use Prim.Native.Nat.{ℕ, _+_, _*_, _/_, _<_, _≤_, max}
+use mathlib.Core.Path.{_≡_, refl, sym, _∙_, ap}
+use mathlib.Core.List.{List, [], _∷_}
+use native.Mathlib.Omega.{arith}
+use native.Mathlib.Nat.{mul-le-mul-left}
+use lib.ListN.{length, getD}
+use Rattle.words.specs.Basics.{Run, ran}
+use Rattle.words.specs.Words.{word}
+use Rattle.words.proofs.Runs.{ran-is}
+use Rattle.appointments.specs.Appointments.{Appt, appt, appts, largest-load}
+use Rattle.appointments.proofs.Flat.{appts-count}
+use Rattle.two_color.specs.TwoSides.{Two-sides}
+use Rattle.two_color.proofs.TwoColorLaws.{sides-proper}
+use Rattle.multigraph.specs.Multigraph.{Graph}
+use Rattle.multigraph.specs.Stored.{graph-at, matchings-at}
+use Rattle.multigraph.specs.Places.{size}
+use Rattle.multigraph.proofs.Kept.{Ends-kept, alike-back}
+use Rattle.edge_color.specs.EdgeColor.{rbmg-edge-color}
+use Rattle.edge_color.specs.Room.{Color-fits, Colored}
+use Rattle.evening.specs.Evening.{add-appointments, padded, even-out}
+use Rattle.evening.proofs.BuildingLaws.{appt-at}
+use Rattle.slots.specs.Slots.{give-slots}
+use Rattle.slots.specs.Stored.{Slots-fit, Slots-stored, Gives-slots}
+use Rattle.planning.specs.GivenPartition.{bipartite-edge-color-given-partition}
+use Rattle.planning.specs.Planning.{plan, outcome, given-sides, bipartite-edge-color}
+use Rattle.planning.specs.Steps.{table, Prepared, Slots-planned}
+use Rattle.planning.proofs.GivenPartitionLaws.{Proper-plan, given-partition-law}
+use Rattle.planning.proofs.Preparing.{Sizes, sizes}
+
+-- the definition, step by step
+steps-run :
+    (P : ℕ) (xs : List Appt) (left right : List ℕ) (D n : ℕ) (g : Graph) (ms : List Graph) → D ≡ largest-load P xs →
+    n ≡ max (length left) (length right) →
+    even-out D (add-appointments [] xs) (padded P n left) (padded P n right) ≡ ran g →
+    rbmg-edge-color D (n + n) (padded P n left) (padded P n right) D g ≡ ran ms →
+    bipartite-edge-color-given-partition P xs left right ≡ give-slots xs ms
+unfolding bipartite-edge-color-given-partition
+steps-run P xs left right D n g ms largest longer evened colored = rw (← largest, ← longer, evened, colored)
+
+module _ {P D q n used : ℕ} {list s : List ℕ} (h : Prepared P D q n used list s) where
+  z : Sizes P D q list s
+  z = sizes (h .ready)
+
+  abbrev m : ℕ
+  m = size s (11 * q)
+
+  -- the graph can be coloured, its number of pairs having been read
+  pub can-color :
+      (pairs : ℕ) → pairs ≡ word s (11 * q + 1) →
+      Color-fits (record { ends = 3 * q; places = 7 * q; diag = 2 * P; pairs = pairs }) s used (11 * q) n D (10 * q)
+  can-color pairs e = rw e (h .fits)
+
+  matchings-le : n * D ≤ q
+  matchings-le = omega (arith, h .fits .graph .after-out)
+
+  q-small : q ≤ 9216
+  q-small = omega (arith, z .unit, z .product, z .parties)
+
+  d-le : D ≤ n * D
+  d-le = let k : D * 1 ≤ D * n = mul-le-mul-left D (h .fits .graph .some) in omega arith
+
+  -- what giving slots asks of the numbers, over words of the same length
+  pub small :
+      (t : List ℕ) → length t ≡ length s →
+      (D < 4294967296)
+      × ((n * D < 4294967296)
+      × ((10 * q + n * D ≤ length t)
+      × ((10 * q < 4294967296) × ((9 * q + length list / 2 < 4294967296) × (11 * q < 4294967296)))))
+  small t e = (
+    omega (arith, d-le, matchings-le, q-small),
+    (
+      omega (arith, matchings-le, q-small),
+      (
+        omega (arith, matchings-le, z .whole),
+        (omega (arith, q-small), (omega (arith, q-small, z .named, z .product), omega (arith, q-small))),
+      ),
+    ),
+  )
+
+  module _ {u : ℕ} {t : List ℕ} (x : Colored (table P q m) s t used u (11 * q) n D (10 * q)) where
+    abbrev ms : List Graph
+    ms = matchings-at t (3 * q) m (10 * q) n D
+
+    two : (side : ℕ → ℕ) × Two-sides P (appts list) side (h .left) (h .right)
+    two = sides-proper P (appts list) (z .listed) (h .found)
+
+    colored : rbmg-edge-color D (n + n) (padded P n (h .left)) (padded P n (h .right)) D (graph-at s (3 * q) m (11 * q)) ≡ ran ms
+    colored =
+        let two-n : 2 * n ≡ n + n = omega arith in
+        rw (two-n, h .lefts-are, h .rights-are) at (x .colors D (omega arith))
+
+    given-is : bipartite-edge-color-given-partition P (appts list) (h .left) (h .right) ≡ give-slots (appts list) ms
+    given-is =
+        steps-run P (appts list) (h .left) (h .right) D n (graph-at s (3 * q) m (11 * q)) ms (h .ready .largest) (h .longer)
+        (h .evened) colored
+
+    -- it gives a plan
+    planned :
+        (p : List ℕ) × (bipartite-edge-color-given-partition P (appts list) (h .left) (h .right) ≡ ran p)
+        × Proper-plan P (appts list) p
+    planned =
+        ran-is (Proper-plan P (appts list)) (bipartite-edge-color-given-partition P (appts list) (h .left) (h .right))
+        (given-partition-law P (appts list) (two .0) (h .left) (h .right) (z .listed) (two .1))
+
+    found : bipartite-edge-color P (appts list) ≡ plan (planned .0)
+    unfolding bipartite-edge-color
+    found = ap (given-sides P (appts list)) (h .found) ∙ ap outcome (planned .1)
+
+    -- of the words below the first mark only the map and the matchings have changed
+    low : (i : ℕ) → i < 7 * q → word t i ≡ word s i
+    low i k = x .spares .under i (omega (arith, h .fits .graph .below)) k
+
+    rows : Ends-kept (3 * q) m s t
+    rows =
+        record {
+          firsts = λ e k. low (3 * q + 2 * e) (omega (arith, h .fits .tabled .after-ends));
+          seconds = λ e k. low (3 * q + 2 * e + 1) (omega (arith, h .fits .tabled .after-ends));
+        }
+
+    pair-word : (i : ℕ) → i < length list / 2 → word t (9 * q + i) ≡ word s (9 * q + i)
+    pair-word i k =
+        x .spares .between (9 * q + i) (omega (arith, h .fits .graph .below, z .named, z .unit))
+        (omega (arith, h .fits .tabled .after-ends)) (omega (arith, z .named, z .unit))
+
+    module _ (slots : List ℕ) (room : length (appts list) ≤ length slots) where
+      as-many : length (appts list) ≡ length list / 2
+      as-many = appts-count list
+
+      slots-fit : Slots-fit (3 * q) m n D (10 * q) (9 * q) (11 * q) (appts list) (planned .0) t slots
+      slots-fit =
+          record {
+            distinct =
+                record { distinct = λ e f a b k. h .fits .tabled .distinct .distinct e f a b (alike-back rows e f a b k) };
+            numbers = x .bounds;
+            appointed = λ i k. rw (pair-word i (omega (arith, as-many))) (h .number-of i (omega (arith, as-many)));
+            own =
+                λ i k.
+                let inside : i < length list / 2 = omega (arith, as-many) in
+                let below : word s (9 * q + i) < m = h .number-of i inside in
+                rw (pair-word i inside, appt-at list i inside, rows .firsts (word s (9 * q + i)) below, rows .seconds (word s (9 * q + i)) below)
+                (h .ends-of i inside);
+            after-ends = h .fits .graph .after-table;
+            after-appointed = omega (arith, as-many, z .named, z .unit);
+            after-matchings = h .fits .graph .after-out;
+            inside = omega (arith, h .fits .graph .after-table, x .spares .len, z .whole);
+            few = omega (arith, matchings-le, q-small);
+            room = room;
+            runs = sym given-is ∙ planned .1;
+          }
+
+      pub slots-planned :
+          {v after : List ℕ} → Gives-slots (length list / 2) n D (10 * q) (9 * q) (11 * q) t slots v after →
+          Slots-planned P list slots after s v
+      slots-planned g =
+          let stored = g (3 * q) m (appts list) (planned .0) as-many slots-fit in
+          record {
+            slots-of = planned .0;
+            found = found;
+            held = stored .held;
+            len = stored .changes .len ∙ x .spares .len;
+          }

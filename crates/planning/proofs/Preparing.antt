@@ -1,0 +1,395 @@
+-- The steps that prepare a list for the colouring hand on what the next one asks: sides of equal length, the list's pairs, the
+-- evened graph, the diagonal. Assumes nothing.
+use Prim.Native.Nat.{ℕ, zero, suc, _+_, _*_, _-_, _/_, _%_, _<_, _≤_, max}
+use mathlib.Core.Path.{_≡_, refl, sym, _∙_, ap}
+use mathlib.Core.List.{List, [], _∷_, _++_}
+use mathlib.Core.Logic.{_⊎_, inl, inr, ⊎-elim}
+use native.Mathlib.Omega.{arith}
+use native.Mathlib.Nat.{mul-le-mul-left, mul-le-mul-right}
+use lib.ListN.{length}
+use Rattle.words.specs.Basics.{All, Run, ran, failed, Ran}
+use Rattle.words.specs.Words.{word}
+use Rattle.words.proofs.Sums.{sum-below-le, sum-below-const}
+use Rattle.appointments.specs.Appointments.{Appt, appts, load, largest-load}
+use Rattle.appointments.specs.Checks.{passed, checks}
+use Rattle.appointments.proofs.Loads.{Listed, load-le-largest, list-loads-sum}
+use Rattle.appointments.proofs.ChecksLaws.{Passes, passed-passes}
+use Rattle.two_color.specs.TwoColor.{sides, two-color}
+use Rattle.two_color.specs.TwoSides.{Two-sides}
+use Rattle.two_color.specs.Contract.{region}
+use Rattle.two_color.proofs.TwoColorLaws.{sides-proper}
+use Rattle.multigraph.specs.Regular.{Partition, Across, Regular, Positive, Same-ends}
+use Rattle.multigraph.specs.Stored.{graph-at}
+use Rattle.multigraph.specs.Places.{size, number, Alike, Distinct-ends}
+use Rattle.multigraph.proofs.Kept.{Ends-kept, same-ends-sym, alike-back}
+use Rattle.matching.specs.declared.Table.{Table}
+use Rattle.matching.specs.Searched.{column, lefts, rights, On-diagonal, Tabled}
+use Rattle.edge_color.specs.Room.{Colorable, Color-fits}
+use Rattle.edge_color.proofs.Placed.{Graph-kept, kept-above}
+use Rattle.evening.specs.Evening.{add-appointments, padded, even-out}
+use Rattle.evening.specs.Contract.{Changes-three, Has-ends, Paired, Can-pad, Sides-padded, Can-pair, Pairs-made, Can-even, Evened-out, Can-diagonal, Diagonal-set}
+use Rattle.evening.proofs.Pairs.{Crosses, sound-list, degree-load}
+use Rattle.evening.proofs.PaddingWords.{region-length, region-same}
+use Rattle.evening.proofs.Padding.{padded-side, padded-partition, padded-crosses, padded-loads}
+use Rattle.evening.proofs.EvenOut.{Evened, even-out-law}
+use Rattle.planning.specs.Steps.{ends-at, places-at, apair-at, out-at, graph-base, first-mark, table, Ready, Sided, Prepared}
+
+-- ── sizes ──
+
+-- What the checks give, with the products as numbers of their own: D·P, and the unit q.
+pub record Sizes (P D q : ℕ) (list s : List ℕ) : Type 0 where
+  pub parties : P ≤ 1024
+  pub product : D * P ≤ 8192
+  pub unit : q ≡ D * P + P
+  pub named : length list ≤ D * P
+  pub even : length list % 2 ≡ 0
+  pub listed : All (Listed P) (appts list)
+  pub loads : (v : ℕ) → v < P → load v (appts list) ≤ D
+  pub whole : length s ≡ 128 * q
+
+unit-is : (P D : ℕ) → P * (D + 1) ≡ D * P + P
+unit-is P D = omega arith
+
+pub sizes : {P D q : ℕ} {list s : List ℕ} → Ready P D q list s → Sizes P D q list s
+sizes {P} {D} {q} {list} {s} r = rw (r .largest) with-largest
+  where
+    ok : Passes P list (length (appts list)) (length s)
+    ok = passed-passes P list (length (appts list)) (length s) (r .checked)
+
+    named : length list ≤ largest-load P (appts list) * P
+    named =
+        let each = sum-below-le {f = λ v. load v (appts list)} {g = λ v. largest-load P (appts list)} P (load-le-largest P (appts list)) in
+        omega (arith, each, sum-below-const (largest-load P (appts list)) P, list-loads-sum P list (ok .good .even) (ok .good .listed))
+
+    unit : q ≡ largest-load P (appts list) * P + P
+    unit = rw (← r .largest) (r .unit ∙ unit-is P D)
+
+    with-largest : Sizes P (largest-load P (appts list)) q list s
+    with-largest =
+        record {
+          parties = ok .good .parties;
+          product = ok .product;
+          unit = unit;
+          named = named;
+          even = ok .good .even;
+          listed = ok .good .listed;
+          loads = load-le-largest P (appts list);
+          whole = r .whole;
+        }
+
+-- n parties a side, at most P
+pub record Side-sizes (D P n : ℕ) : Type 0 where
+  pub fewer : n ≤ P
+  pub product : n * D ≤ D * P
+  pub twice : D * (n + n) ≡ n * D + n * D
+  pub pairs : n * (D + 1) ≡ n * D + n
+
+pub side-sizes : (D P n : ℕ) → n ≤ P → Side-sizes D P n
+side-sizes D P n h =
+    record {
+      fewer = h;
+      product = let m : D * n ≤ D * P = mul-le-mul-left D h in omega arith;
+      twice = omega arith;
+      pairs = omega arith;
+    }
+
+-- ── the rows of the diagonal, as regions ──
+
+region-front : (s : List ℕ) (a n : ℕ) → region s a (suc n) ≡ word s a ∷ region s (a + 1) n
+unfolding region
+region-front s a zero = let e : a + 0 ≡ a = omega arith in rw e
+region-front s a (suc n) =
+    let e : a + suc n ≡ a + 1 + n = omega arith in
+    rw e (ap (λ (l : List ℕ). l ++ (word s (a + 1 + n) ∷ [])) (region-front s a n))
+
+-- every second word from one place on is each word from another
+column-region :
+    (s t : List ℕ) (at a n : ℕ) → ((i : ℕ) → i < n → word t (at + 2 * i) ≡ word s (a + i)) → column t at n ≡ region s a n
+unfolding column region
+column-region s t at a zero same = refl
+column-region s t at a (suc n) same =
+    let first : word t at ≡ word s a = ap (word t) (omega arith) ∙ same 0 (omega arith) ∙ ap (word s) (omega arith) in
+    let rest : column t (at + 2) n ≡ region s (a + 1) n =
+    column-region s t (at + 2) (a + 1) n
+    (λ i k.
+    let e : at + 2 + 2 * i ≡ at + 2 * (i + 1) = omega arith in
+    let f : a + 1 + i ≡ a + (i + 1) = omega arith in
+    rw (e, f) (same (i + 1) (omega arith))) in
+    rw (region-front s a n, first, rest)
+
+-- ── one step after the other ──
+
+module _ {P D q l used : ℕ} {list s₀ : List ℕ} (h : Sided P D q l used list s₀) where
+  z : Sizes P D q list s₀
+  z = sizes (h .ready)
+
+  two : (side : ℕ → ℕ) × Two-sides P (appts list) side (region s₀ 0 l) (region s₀ P (P - l))
+  two = sides-proper P (appts list) (z .listed) (h .found)
+
+  -- the sides of the padded graph
+  abbrev side' : ℕ → ℕ
+  side' = padded-side P (region s₀ 0 l) (region s₀ P (P - l)) (two .0)
+
+  d-le : D ≤ D * P
+  d-le = let m : D * 1 ≤ D * P = mul-le-mul-left D (h .some) in omega arith
+
+  pub can-pad : Can-pad P 0 l P (P - l) s₀
+  can-pad =
+      record {
+        few = omega (arith, z .parties, h .few);
+        before-right = omega (arith, h .few);
+        room = omega (arith, z .whole, z .unit, h .few);
+        small = omega (arith, z .parties, h .few);
+      }
+
+  module _ {n : ℕ} {s₁ : List ℕ} (x : Sides-padded P 0 l P (P - l) n s₀ s₁) where
+    n-le : n ≤ P
+    n-le = omega (arith, x .longer, h .few)
+
+    n-some : 0 < n
+    n-some = omega (arith, x .longer, h .few, h .some)
+
+    zn : Side-sizes D P n
+    zn = side-sizes D P n n-le
+
+    n-is : n ≡ max (length (region s₀ 0 l)) (length (region s₀ P (P - l)))
+    n-is = rw (region-length s₀ 0 l, region-length s₀ P (P - l)) (x .longer)
+
+    partition₀ : Partition (n + n) side' (padded P n (region s₀ 0 l)) (padded P n (region s₀ P (P - l)))
+    partition₀ = rw n-is (padded-partition P (appts list) (two .0) (region s₀ 0 l) (region s₀ P (P - l)) (two .1))
+
+    crosses : All (Crosses (n + n) side') (appts list)
+    crosses = rw n-is (padded-crosses P (appts list) (two .0) (region s₀ 0 l) (region s₀ P (P - l)) (two .1) (z .listed))
+
+    len₁ : length s₁ ≡ 128 * q
+    len₁ = x .changes .len ∙ z .whole
+
+    pub can-pair : Can-pair list P D (3 * q) (9 * q) (11 * q) used s₁
+    can-pair =
+        record {
+          short = omega (arith, z .named, z .product);
+          even = z .even;
+          listed = z .listed;
+          loads = z .loads;
+          after-ends = omega (arith, z .named, z .unit);
+          after-apair = omega (arith, z .named, z .unit);
+          after-graph = omega (arith, z .named, z .unit, h .some, h .mark);
+          room = omega (arith, len₁, z .unit, h .mark);
+          low = omega (arith, z .unit, z .product, z .parties, h .mark);
+        }
+
+    module _ {u₂ : ℕ} {s₂ : List ℕ} (y : Pairs-made list (3 * q) (9 * q) (11 * q) used s₁ u₂ s₂) where
+      len₂ : length s₂ ≡ 128 * q
+      len₂ = y .changes .len ∙ len₁
+
+      -- a side lies below the table of ends
+      side₂ : (a : ℕ) → a ≤ P → region s₂ a n ≡ region s₁ a n
+      side₂ a le = region-same s₁ s₂ a n (λ i k. y .changes .under (a + i) (omega (arith, z .unit, n-le, h .mark)) (omega (arith, z .unit, n-le, h .some)))
+
+      lefts₂ : region s₂ 0 n ≡ padded P n (region s₀ 0 l)
+      lefts₂ = side₂ 0 (omega arith) ∙ x .lefts
+
+      rights₂ : region s₂ P n ≡ padded P n (region s₀ P (P - l))
+      rights₂ = side₂ P (omega arith) ∙ x .rights
+
+      pub can-even : Can-even list D n 0 P (3 * q) (9 * q) (11 * q) u₂ s₂
+      can-even =
+          record {
+            short = omega (arith, z .named, z .product);
+            even = z .even;
+            paired = y .paired;
+            side = side';
+            partition = rw (lefts₂, rights₂) partition₀;
+            crosses = crosses;
+            loads = λ v k. padded-loads P D (appts list) (z .listed) (z .loads) v;
+            few = omega (arith, z .product, d-le);
+            after-left = omega (arith, z .unit, n-le);
+            after-right = omega (arith, z .unit, n-le);
+            after-ends = omega (arith, z .unit, zn .product, n-le);
+            after-apair = omega (arith, z .unit, z .named);
+            after-graph = omega (arith, z .unit, zn .product, n-le, y .mark, h .mark, h .some);
+            room = omega (arith, z .unit, zn .product, zn .twice, n-le, y .mark, h .mark, len₂);
+            low = omega (arith, z .unit, zn .product, zn .twice, n-le, y .mark, h .mark, z .product, z .parties);
+          }
+
+      module _ {u₃ : ℕ} {s₃ : List ℕ} (e : Evened-out list D n 0 P (3 * q) (9 * q) (11 * q) u₂ s₂ u₃ s₃) where
+        len₃ : length s₃ ≡ 128 * q
+        len₃ = e .changes .len ∙ len₂
+
+        mark₃ : u₃ ≡ 15 * q
+        mark₃ = e .mark ∙ y .mark ∙ h .mark
+
+        side₃ : (a : ℕ) → a ≤ P → region s₃ a n ≡ region s₂ a n
+        side₃ a le = region-same s₂ s₃ a n (λ i k. e .changes .under (a + i) (omega (arith, z .unit, n-le, y .mark, h .mark)) (omega (arith, z .unit, n-le, h .some)))
+
+        lefts₃ : region s₃ 0 n ≡ padded P n (region s₀ 0 l)
+        lefts₃ = side₃ 0 (omega arith) ∙ lefts₂
+
+        rights₃ : region s₃ P n ≡ padded P n (region s₀ P (P - l))
+        rights₃ = side₃ P (omega arith) ∙ rights₂
+
+        pub can-diagonal : Can-diagonal n 0 P (3 * q) (11 * q) (2 * P) u₃ s₃
+        can-diagonal =
+            record {
+              side = side';
+              partition = rw (lefts₃, rights₃) partition₀;
+              after-left = omega (arith, n-le);
+              after-right = omega (arith, n-le);
+              after-diag = omega (arith, n-le, z .unit);
+              after-ends = omega (arith, n-le, z .unit, zn .product, e .few, mark₃);
+              graph-small = omega (arith, z .unit, z .product, z .parties);
+              room = omega (arith, n-le, z .unit, mark₃, len₃);
+              low = omega (arith, n-le, z .unit, mark₃, z .product, z .parties);
+            }
+
+        -- the words of the list's pairs and of the evened graph
+        abbrev m : ℕ
+        m = size s₃ (11 * q)
+
+        evened₃ :
+            even-out D (add-appointments [] (appts list)) (padded P n (region s₀ 0 l)) (padded P n (region s₀ P (P - l)))
+            ≡ ran (graph-at s₃ (3 * q) m (11 * q))
+        evened₃ =
+            rw (y .paired .graph m (e .grown), lefts₂, rights₂) at (e .graph m (omega arith))
+
+        evens : Evened (n + n) side' D (add-appointments [] (appts list)) (graph-at s₃ (3 * q) m (11 * q))
+        evens =
+            rw evened₃ at
+            (even-out-law (n + n) side' D (add-appointments [] (appts list)) (padded P n (region s₀ 0 l))
+            (padded P n (region s₀ P (P - l))) partition₀ (sound-list (n + n) side' (appts list) crosses)
+            (λ v k. omega (arith, degree-load v (appts list), padded-loads P D (appts list) (z .listed) (z .loads) v)))
+
+        module _ {u₄ : ℕ} {s₄ : List ℕ} (w : Diagonal-set n 0 P (3 * q) (11 * q) (2 * P) u₃ s₃ u₄ s₄) where
+          len₄ : length s₄ ≡ 128 * q
+          len₄ = w .changes .len ∙ len₃
+
+          mark₄ : u₄ ≡ 15 * q
+          mark₄ = w .mark ∙ mark₃
+
+          -- what lies above the table of ends stays
+          high : (i : ℕ) → 9 * q ≤ i → i < 15 * q → word s₄ i ≡ word s₃ i
+          high i lo hi =
+              w .changes .after-second i (omega (arith, mark₃))
+              (omega (arith, e .few, zn .product, z .unit, n-le)) (omega (arith, mark₃))
+
+          rows : Ends-kept (3 * q) m s₃ s₄
+          rows =
+              record {
+                firsts = λ f k. w .changes .after-first (3 * q + 2 * f) (omega (arith, mark₃, e .few, zn .product, z .unit)) (omega (arith, n-le, z .unit)) (omega arith);
+                seconds = λ f k. w .changes .after-first (3 * q + 2 * f + 1) (omega (arith, mark₃, e .few, zn .product, z .unit)) (omega (arith, n-le, z .unit)) (omega arith);
+              }
+
+          own : (i : ℕ) → i < m → number s₃ (11 * q) i < m
+          own i k = omega (arith, e .plain .numbers i k)
+
+          kept : Graph-kept (3 * q) m s₃ s₄ (11 * q)
+          kept =
+              kept-above (11 * q) rows own
+              (λ i lo hi. high i (omega arith) (omega (arith, e .few, zn .product, z .unit, n-some, n-le)))
+
+          abbrev t : Table
+          t = table P q m
+
+          first-row : (i : ℕ) → i < n → word s₄ (3 * q + 2 * (m + i)) ≡ word s₃ (0 + i)
+          first-row i k = w .firsts i k
+
+          second-row : (i : ℕ) → i < n → word s₄ (3 * q + 2 * (m + i) + 1) ≡ word s₃ (P + i)
+          second-row i k = w .seconds i k
+
+          lefts₄ : lefts t n s₄ ≡ padded P n (region s₀ 0 l)
+          lefts₄ =
+              column-region s₃ s₄ (3 * q + 2 * m) 0 n
+              (λ i k. ap (word s₄) (omega arith) ∙ first-row i k)
+              ∙ lefts₃
+
+          rights₄ : rights t n s₄ ≡ padded P n (region s₀ P (P - l))
+          rights₄ =
+              column-region s₃ s₄ (3 * q + 2 * m + 1) P n
+              (λ i k. ap (word s₄) (omega arith) ∙ second-row i k)
+              ∙ rights₃
+
+          -- pair f has the ends of row i, in the words at the end as in those before
+          alike-row :
+              (f i : ℕ) → f < m → i < n → Has-ends s₃ (3 * q) f (word s₃ (0 + i)) (word s₃ (P + i)) → Alike s₄ (3 * q) f (m + i)
+          alike-row f i a k x =
+              rw (rows .firsts f a, rows .seconds f a, first-row i k, second-row i k) (same-ends-sym x)
+
+          row-alike :
+              (f i : ℕ) → f < m → i < n → Alike s₄ (3 * q) f (m + i) → Has-ends s₃ (3 * q) f (word s₃ (0 + i)) (word s₃ (P + i))
+          row-alike f i a k x =
+              same-ends-sym (rw (rows .firsts f a, rows .seconds f a, first-row i k, second-row i k) at x)
+
+          tabled : Tabled t n s₄
+          tabled =
+              record {
+                distinct =
+                    record { distinct = λ f g a b x. e .plain .distinct .distinct f g a b (alike-back rows f g a b x) };
+                diagonal =
+                    λ i k.
+                    ⊎-elim (λ x. inl (x .0, alike-row (word s₄ (2 * P + i)) i (x .0) k (x .1)))
+                    (λ x. inr (x .0, λ f a y. x .1 f a (row-alike f i a k y))) (w .numbers i k);
+                after-diag = omega (arith, n-le, z .unit);
+                after-ends = omega (arith, n-le, z .unit, e .few, zn .product);
+              }
+
+          colorable : Colorable side' m s₄ u₄ (3 * q) (11 * q) n D (10 * q)
+          colorable =
+              let two-n : 2 * n ≡ n + n = omega arith in
+              record {
+                regular = rw (two-n, kept .same m) (evens .regular);
+                positive = rw (kept .same m) (evens .positive);
+                numbers = λ i k. omega (arith, kept .sizes, kept .numbers i (omega (arith, kept .sizes)), own i (omega (arith, kept .sizes)));
+                some = n-some;
+                few = omega (arith, n-le, z .parties);
+                sized = omega (arith, zn .pairs, zn .product, n-le, z .product, z .parties);
+                after-table = omega (arith, e .few, zn .product, z .unit);
+                after-out = omega (arith, zn .product, z .unit);
+                below = omega (arith, kept .sizes, e .few, zn .product, z .unit, n-some, n-le, mark₄);
+                short = omega (arith, len₄, z .unit, z .product, z .parties);
+              }
+
+          fits : Color-fits t s₄ u₄ (11 * q) n D (10 * q)
+          fits =
+              let two-n : 2 * n ≡ n + n = omega arith in
+              record {
+                side = side';
+                tabled = tabled;
+                partition = rw (two-n, lefts₄, rights₄) partition₀;
+                graph = colorable;
+                header = kept .header ∙ e .plain .header;
+                after-places = omega (arith, e .few, zn .product, z .unit, n-le);
+                sized = omega (arith, zn .pairs, zn .product, n-le, z .product, z .parties);
+                room = omega (arith, zn .pairs, zn .product, n-le, z .unit, mark₄, len₄);
+              }
+
+          pair-word : (i : ℕ) → i < length list / 2 → word s₄ (9 * q + i) ≡ word s₃ (9 * q + i)
+          pair-word i k = high (9 * q + i) (omega arith) (omega (arith, z .named, z .unit))
+
+          pub prepared : Prepared P D q n u₄ list s₄
+          prepared =
+              record {
+                ready =
+                    record {
+                      checked = rw (len₄, ← z .whole) (h .ready .checked);
+                      largest = h .ready .largest;
+                      unit = h .ready .unit;
+                      whole = len₄;
+                    };
+                left = region s₀ 0 l;
+                right = region s₀ P (P - l);
+                found = h .found;
+                longer = n-is;
+                evened = rw (kept .sizes, kept .same m) evened₃;
+                lefts-are = rw (kept .sizes) lefts₄;
+                rights-are = rw (kept .sizes) rights₄;
+                fits = rw (kept .sizes) fits;
+                number-of = λ i k. rw (kept .sizes, pair-word i k) (e .number-of i k);
+                ends-of =
+                    λ i k.
+                    let below : word s₃ (9 * q + i) < m = e .number-of i k in
+                    rw (pair-word i k, rows .firsts (word s₃ (9 * q + i)) below, rows .seconds (word s₃ (9 * q + i)) below)
+                    (e .ends-of i k);
+              }
+
+          pub prepared-length : length s₄ ≡ length s₀
+          prepared-length = len₄ ∙ sym (z .whole)

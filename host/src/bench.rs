@@ -1,0 +1,152 @@
+//! Times our planning call beside the Rust on the same lists, in turn and in one run: other programs disturb both alike, and the
+//! best of many rounds is what is left of them. The Rust's graph is built before its time begins; ours includes the checks and
+//! the clearing of scratch.
+
+use crate::bipartite_coloring::bipartite_edge_color;
+use crate::exported::{self, Plan};
+use crate::format::write_list;
+use crate::list::List;
+use crate::lists;
+use crate::random::Random;
+use crate::reference;
+use std::collections::BTreeSet;
+use std::hint::black_box;
+use std::time::{Duration, Instant};
+
+/// P and D.
+const SIZES: [(usize, usize); 8] =
+    [(16, 8), (64, 16), (128, 64), (128, 63), (1024, 8), (1024, 7), (2, 4096), (32, 255)];
+/// With 128 parties, D for 512 to 4,096 appointments: powers of two, and odd ones near them.
+const GROWTH: [[usize; 4]; 2] = [[8, 16, 32, 64], [9, 17, 33, 63]];
+const GROWTH_PARTIES: usize = 128;
+
+/// Lists of each row, and for each at least this many rounds and this much time.
+const LISTS: usize = 3;
+const LEAST_ROUNDS: usize = 15;
+const LEAST_TIME: Duration = Duration::from_millis(250);
+
+/// Lists in random order in which every party has load D, or about two thirds of such; their own D can then be less.
+#[derive(Clone, Copy)]
+enum Kind {
+    EvenHanded,
+    TwoThirds,
+}
+
+/// Microseconds of the best round, on the mean of the lists.
+#[derive(Clone, Copy, Default)]
+struct Times {
+    rust: f64,
+    ours: f64,
+    /// a plain fill of W words
+    fill: f64,
+}
+
+pub fn run(seed: u64) -> Result<(), String> {
+    let mut random = Random::new(seed);
+    println!("Microseconds a call: the best of the rounds, on the mean of {LISTS} lists. `fill` is the time of a plain fill of");
+    println!("W words, which our call has to clear, and its share of our time.\n");
+    print_header();
+    let mut ratios = Vec::new();
+    for (parties, degree) in SIZES {
+        for kind in [Kind::EvenHanded, Kind::TwoThirds] {
+            let lists = kind.lists(&mut random, parties, degree);
+            let times = measure(&lists)?;
+            ratios.push(times.rust / times.ours);
+            println!("{}", row(degree, kind, &lists, times));
+        }
+    }
+    let mean = ratios.iter().sum::<f64>() / ratios.len() as f64;
+    let least = ratios.iter().copied().fold(f64::INFINITY, f64::min);
+    println!("\nratio: mean {mean:.2}, least {least:.2}\n");
+
+    println!("Growth with the number of appointments; behind each row how often the time of the row before, Rust and ours:\n");
+    print_header();
+    for degrees in GROWTH {
+        let mut before: Option<Times> = None;
+        for degree in degrees {
+            let lists = Kind::EvenHanded.lists(&mut random, GROWTH_PARTIES, degree);
+            let times = measure(&lists)?;
+            let growth = before.map_or(String::new(), |before| {
+                format!("  {:5.2} {:5.2}", times.rust / before.rust, times.ours / before.ours)
+            });
+            println!("{}{growth}", row(degree, Kind::EvenHanded, &lists, times));
+            before = Some(times);
+        }
+    }
+    println!("\nboth gave the same slots in every round");
+    Ok(())
+}
+
+fn print_header() {
+    println!(
+        "{:>5} {:>5} {:>12} {:>6} {:>10} {:>9} {:>9} {:>6} {:>7} {:>6}",
+        "P", "D", "lists", "A", "their D", "Rust", "ours", "ratio", "fill", "share"
+    );
+}
+
+fn row(degree: usize, kind: Kind, lists: &[List], Times { rust, ours, fill }: Times) -> String {
+    let (parties, count) = (lists[0].parties, lists[0].count());
+    let loads: BTreeSet<usize> = lists.iter().map(List::largest_load).collect();
+    let loads: Vec<String> = loads.iter().map(usize::to_string).collect();
+    let kind = match kind {
+        Kind::EvenHanded => "even-handed",
+        Kind::TwoThirds => "two thirds",
+    };
+    format!(
+        "{parties:>5} {degree:>5} {kind:>12} {count:>6} {:>10} {rust:>9.1} {ours:>9.1} {:>6.2} {fill:>7.1} {:>4.0} %",
+        loads.join(" "),
+        rust / ours,
+        100.0 * fill / ours
+    )
+}
+
+impl Kind {
+    fn lists(self, random: &mut Random, parties: usize, degree: usize) -> Vec<List> {
+        let thirds = match self {
+            Kind::EvenHanded => 3,
+            Kind::TwoThirds => 2,
+        };
+        (0..LISTS).map(|_| lists::even_handed_part(random, parties, degree, thirds)).collect()
+    }
+}
+
+fn measure(lists: &[List]) -> Result<Times, String> {
+    let mut sum = Times::default();
+    for list in lists {
+        let best = measure_one(list).map_err(|error| format!("{}\n{error}", write_list(list)))?;
+        sum = Times { rust: sum.rust + best.rust, ours: sum.ours + best.ours, fill: sum.fill + best.fill };
+    }
+    let mean = |sum: f64| sum / lists.len() as f64;
+    Ok(Times { rust: mean(sum.rust), ours: mean(sum.ours), fill: mean(sum.fill) })
+}
+
+fn measure_one(list: &List) -> Result<Times, String> {
+    let graph = reference::graph_of(list);
+    let p = u16::try_from(list.parties).expect("P is at most 1,024");
+    let mut slots = vec![0; list.count()];
+    let mut scratch = vec![0; list.scratch_words()];
+    let mut best = Times { rust: f64::INFINITY, ours: f64::INFINITY, fill: f64::INFINITY };
+    let begun = Instant::now();
+    let mut rounds = 0;
+    while rounds < LEAST_ROUNDS || begun.elapsed() < LEAST_TIME {
+        rounds += 1;
+        let (rust, colors) = timed(|| bipartite_edge_color(black_box(&graph)));
+        let (ours, answered) = timed(|| exported::plan(p, black_box(&list.ends), &mut slots, &mut scratch));
+        let (fill, ()) = timed(|| black_box(&mut scratch).fill(0));
+        best = Times { rust: best.rust.min(rust), ours: best.ours.min(ours), fill: best.fill.min(fill) };
+
+        let colors = colors.map_err(|error| error.to_string())?;
+        let same = reference::slots_of(list, &colors).into_iter().eq(slots.iter().map(|&slot| usize::from(slot)));
+        if answered != (Plan { number: 0, place: 0, d: list.largest_load() as u32 }) || !same {
+            return Err(format!("answered {answered:?}, or other slots than the Rust"));
+        }
+    }
+    Ok(best)
+}
+
+/// Microseconds.
+fn timed<T>(call: impl FnOnce() -> T) -> (f64, T) {
+    let begun = Instant::now();
+    let result = black_box(call());
+    (begun.elapsed().as_secs_f64() * 1e6, result)
+}
