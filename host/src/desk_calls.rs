@@ -3,7 +3,7 @@
 
 use crate::desk::{self, Viewer};
 use crate::exported::{self, Filed, Read, View, Waiting};
-use crate::format::write_list;
+use crate::format::{write_bytes, write_list};
 use crate::list::{List, Refusal, BLANK, MOST_APPOINTMENTS, MOST_PARTIES};
 use crate::lists::Lists;
 use crate::random::Random;
@@ -22,7 +22,7 @@ const CALLS: [&str; 4] = ["bimtsure_waiting", "bimtsure_file_plan", "bimtsure_re
 struct Counts([BTreeMap<u32, usize>; 4]);
 
 /// A list, its slots, and what the calls are asked besides.
-struct Case {
+pub struct Case {
     list: List,
     slots: Vec<u16>,
 }
@@ -97,13 +97,29 @@ fn file_plan(case: &Case, random: &mut Random, counts: &mut BTreeMap<u32, usize>
 
 fn read_plan(case: &Case, random: &mut Random, counts: &mut BTreeMap<u32, usize>) -> Result<(), String> {
     let bytes = case.bytes(random);
+    let reading = reading(&bytes, random).map_err(|error| format!("filed {}\n{error}", write_bytes(&bytes)))?;
+    count(counts, reading.answer.number);
+    Ok(())
+}
+
+/// What reading a filed plan answers, and the lent memory afterwards.
+#[derive(Debug, PartialEq)]
+pub struct Reading {
+    pub answer: Read,
+    pub list: Vec<u16>,
+    pub slots: Vec<u16>,
+}
+
+/// Has the bytes read into buffers of about the length that they need, full of noise. An error tells these lengths and the
+/// difference, and leaves the bytes to the caller.
+pub fn reading(bytes: &[u8], random: &mut Random) -> Result<Reading, String> {
     let announced = bytes.get(2..4).map_or(0, |two| usize::from(u16::from_le_bytes([two[0], two[1]])));
     let announced = announced.min(MOST_APPOINTMENTS + 1);
     let (list_room, slot_room) = (near(2 * announced, random), near(announced, random));
     let mut list: Vec<u16> = noise(list_room + BEHIND, random);
     let mut slots: Vec<u16> = noise(slot_room + BEHIND, random);
     let (mut wanted_list, mut wanted_slots) = (list.clone(), slots.clone());
-    let expected = match desk::read_plan(&bytes, &mut wanted_list[..list_room], &mut wanted_slots[..slot_room]) {
+    let expected = match desk::read_plan(bytes, &mut wanted_list[..list_room], &mut wanted_slots[..slot_room]) {
         Ok(header) => {
             let (parties, appointments) = (header.parties as u32, header.appointments as u32);
             Read { number: 0, place: 0, parties, appointments }
@@ -113,10 +129,10 @@ fn read_plan(case: &Case, random: &mut Random, counts: &mut BTreeMap<u32, usize>
             Read { number, place, parties: 0, appointments: 0 }
         }
     };
-    count(counts, expected.number);
-    let answered = exported::read_plan(&bytes, &mut list[..list_room], &mut slots[..slot_room]);
-    let asked = (&bytes, list_room, slot_room);
-    same(asked, (expected, wanted_list, wanted_slots), (answered, list, slots))
+    let answer = exported::read_plan(bytes, &mut list[..list_room], &mut slots[..slot_room]);
+    let expected = Reading { answer: expected, list: wanted_list, slots: wanted_slots };
+    let answered = Reading { answer, list, slots };
+    same((list_room, slot_room), &expected, &answered).map(|()| answered)
 }
 
 /// From the start on, by where each step says that the next begins, and past the end; then from any position at all.
@@ -154,7 +170,7 @@ fn view(case: &Case, random: &mut Random, counts: &mut BTreeMap<u32, usize>) -> 
 
 impl Case {
     /// The list as it is, or damaged in one or two ways, with slots for it, or too few or too many.
-    fn new(list: List, random: &mut Random) -> Case {
+    pub fn new(list: List, random: &mut Random) -> Case {
         let mut list = list;
         if random.chance(2) {
             for _ in 0..random.between(1, 2) {
@@ -180,7 +196,7 @@ impl Case {
     }
 
     /// The list filed, as it is or damaged, or no plan at all.
-    fn bytes(&self, random: &mut Random) -> Vec<u8> {
+    pub fn bytes(&self, random: &mut Random) -> Vec<u8> {
         let mut bytes = vec![0; 4 + 6 * self.list.count()];
         let slots: Vec<u16> = noise(self.list.count(), random);
         if desk::file_plan(&self.list, &slots, &mut bytes).is_err() {
@@ -236,7 +252,7 @@ fn near(size: usize, random: &mut Random) -> usize {
 }
 
 /// Entries of any value.
-fn noise<T: TryFrom<usize>>(entries: usize, random: &mut Random) -> Vec<T>
+pub fn noise<T: TryFrom<usize>>(entries: usize, random: &mut Random) -> Vec<T>
 where
     T::Error: Debug,
 {

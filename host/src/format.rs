@@ -1,4 +1,4 @@
-//! Lists and answers as lines of text.
+//! Lists, answers and bytes as lines of text.
 //!
 //! A list is one line, `P first-second first-second ..`. An empty end is blank, as is 65535; a last number without a hyphen
 //! is an end without a partner.
@@ -55,4 +55,9 @@ pub fn write_outcome(largest_load: usize, outcome: &Outcome) -> String {
 /// `refused N PLACE`, for checks 1 to 6.
 pub fn write_refusal(refusal: Refusal) -> String {
     format!("refused {} {}", refusal.number, refusal.place)
+}
+
+/// Two hexadecimal digits for each byte.
+pub fn write_bytes(bytes: &[u8]) -> String {
+    bytes.iter().map(|byte| format!("{byte:02x}")).collect()
 }

@@ -1,25 +1,33 @@
 //! Runs rustworkx-core's `bipartite_edge_color` on lists of appointments, makes random lists, has the definitions computed on
-//! lists with the Rust's fresh answers, compares our exported calls with the Rust's, and times the planning call beside it.
+//! lists with the Rust's fresh answers, compares our exported calls with the Rust's, times the planning call beside it, and
+//! throws bytes at the program.
 
 mod answer;
 mod bench;
+mod bytes;
 mod definitions;
 mod demand3;
 mod desk;
 mod desk_calls;
 mod exported;
+mod filed_inputs;
 mod format;
 mod known;
 mod lent;
 mod list;
 mod lists;
+mod main_changes;
+mod main_inputs;
+mod main_text;
 mod plan;
 mod plan_counts;
+mod program;
 mod random;
 mod reference;
 mod split;
 mod stored;
 mod two_color;
+mod watch;
 
 // The Rust as published, which no formatter may touch.
 #[path = "../../docs/src/rustworkx-core/src/bipartite_coloring.rs"]
@@ -72,6 +80,10 @@ bimtsure-host desk COUNT SEED
 bimtsure-host plan COUNT SEED
     compare our planning call with the Rust on the lists that papers name and on COUNT random ones: answers, slots and scratch
     afterwards, and demand 3; from 100000 lists on, fails if there were too few of some kind of list
+bimtsure-host bytes SECONDS SEED
+    throw bytes, which SEED decides, at the program and at reading a filed plan for so long: lists, damaged ones and noise; each
+    must end with the answer of main_text.rs or desk.rs, or its bytes are printed; from 60 seconds on, each kind of answer must
+    come; from the repository's root, after `rt check bimtsure`
 bimtsure-host bench
     time our planning call beside the Rust on the same lists
 bimtsure-host stored COUNT SEED [MOST]
@@ -95,6 +107,7 @@ fn main() -> ExitCode {
         ["split", count, seed] => compare(split::compare, count, seed),
         ["desk", count, seed] => compare(desk_calls::compare, count, seed),
         ["plan", count, seed] => compare(plan::compare, count, seed),
+        ["bytes", seconds, seed] => compare(bytes::throw, seconds, seed),
         ["bench"] => bench::run(1),
         ["stored", count, seed] => print_stored(count, seed, MOST_STORED),
         ["stored", count, seed, most] => number(most).and_then(|most| print_stored(count, seed, most)),

@@ -8,4 +8,4 @@ pub mod ParsingSteps
 pub mod LinesSteps
 pub mod PlacingSteps
 pub mod WaitingOf
-pub mod Rooms
+pub mod Main

@@ -84,7 +84,7 @@ Plans-fit =
     → Slots-fit list (plan-slots P list lent-slots lent-scratch)
 
 -- the report of an answer
-answer-fits : Plans-fit → (P : ℕ) (list : List ℕ) → length (printed (planned-report P list (plan-answer P list lent-slots lent-scratch) (plan-slots P list lent-slots lent-scratch))) ≤ 1801
+pub answer-fits : Plans-fit → (P : ℕ) (list : List ℕ) → length (printed (planned-report P list (plan-answer P list lent-slots lent-scratch) (plan-slots P list lent-slots lent-scratch))) ≤ 1801
 answer-fits fit P list = go (plan-answer P list lent-slots lent-scratch) refl
   where
     go : (a : Answer) → plan-answer P list lent-slots lent-scratch ≡ a → length (printed (planned-report P list a (plan-slots P list lent-slots lent-scratch))) ≤ 1801

@@ -1,4 +1,47 @@
-// Main's reading of text and its printed lines, as functions on lent bytes. Each states what it gives as what a definition of
-// specs/ gives.
-pub mod parsing; // parsing.rt: what main reads
-pub mod putting; // putting.rt: what main prints
+// Main as one function from the bytes of its input to the bytes of its output. The program around it only reads and writes.
+mod parsing; // parsing.rt: what main reads
+mod putting; // putting.rt: what main prints
+
+use crate::parsing::ReadInput;
+use planning::Answer;
+ghost use mathlib.Core.Path.{_≡_};
+ghost use mathlib.Core.List.{_++_};
+ghost use Prim.Native.Nat.{_≤_};
+ghost use lib.ListN.{length, take, drop};
+ghost use Rattle.text.specs.Reading.{input};
+ghost use Rattle.text.specs.Printing.{printed};
+ghost use Rattle.text.specs.Text.{«input-report», «text-output»};
+ghost use Rattle.text.specs.Placed.{Printed};
+
+// What the planning call says of a list: the plan's lines or the refusal's. Here are the 4,096 slot entries and 16,384 scratch
+// words that main lends.
+fn plan_output(p: u16, list: &[u16], output: &mut [u8; 1801]) -> usize
+    ensures { λ r. ⌜ Printed (printed (input-report (input p (now (list .entry))))) r (now (output .entry)) (now (output .exit)) ⌝ }
+{
+    let mut slots = [0u16; 4096];
+    let mut scratch = [0u32; 16384];
+    let answer = planning::bipartite_edge_color(p, list, &mut slots, &mut scratch);
+    match answer {
+        Answer::Planned(d) => putting::put_plan(p, list, d, &slots, output),
+        Answer::Refused(number, place) => putting::put_refusal(number, place, output),
+    }
+}
+
+// Main on any input: the first bytes of the output are what it prints, the later ones stay, and it gives how many it prints. It
+// asks nothing of its caller, since main never prints more than 1,801 bytes, and a list that is read from at most 4,096 bytes has
+// no more than 4,096 numbers. The last clause follows from the others, and spares callers that take the printed bytes a proof.
+pub fn text_output(input: &[u8], output: &mut [u8; 1801]) -> usize
+    ensures count { λ r. ⌜ r ≡ length (text-output (now (input .entry))) ⌝ }
+    ensures bytes { λ r. ⌜ now (output .exit) ≡ text-output (now (input .entry)) ++ drop r (now (output .entry)) ⌝ }
+    ensures inside { λ r. ⌜ (r ≤ length (now (output .exit))) × (r ≡ length (take r (now (output .exit)))) ⌝ }
+{
+    if 4096 < input.len() {
+        return putting::put_refusal(11, 0, output);
+    }
+    let mut list = [0u16; 4096];
+    let read = parsing::read_text(input, &mut list);
+    match read {
+        ReadInput::Input(p, count) => plan_output(p, &list[..count], output),
+        ReadInput::Malformed(n) => putting::put_refusal(10, n, output),
+    }
+}

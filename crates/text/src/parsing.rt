@@ -25,7 +25,7 @@ enum Line {
 }
 
 // P and how many numbers the list has, or the number, from 1, of the first malformed line.
-pub enum ReadInput {
+pub(crate) enum ReadInput {
     Input(u16, usize),
     Malformed(usize),
 }
@@ -167,7 +167,7 @@ fn read_lines(p: u16, bytes: &[u8], list: &mut [u16]) -> ReadInput
 
 // Main's input: P and, in the first numbers of the list, the list; or the first malformed line. The list has two numbers for
 // each line and a line two bytes at least, so a list as long as the input is long enough.
-pub fn read_text(input: &[u8], list: &mut [u16]) -> ReadInput
+pub(crate) fn read_text(input: &[u8], list: &mut [u16]) -> ReadInput
     requires { ⌜ length (now input) ≤ length (now list) ⌝ }
     ensures { λ r. ⌜ Read-as (read-text (now (input .entry))) r (now (list .entry)) (now (list .exit)) ⌝ }
 {

@@ -120,7 +120,7 @@ fn put_parties(p: u16, list: &[u16], out: &mut [u8], start: usize) -> usize
 }
 
 // Puts an accepted plan: D, then the appointments, then the parties. It gives the number of bytes.
-pub fn put_plan(p: u16, list: &[u16], d: usize, slots: &[u16], out: &mut [u8]) -> usize
+pub(crate) fn put_plan(p: u16, list: &[u16], d: usize, slots: &[u16], out: &mut [u8]) -> usize
     requires { ⌜ Good-parties p (now list) × Room (now out) 0 (plan-lines p (now list) d (now slots)) ⌝ }
     ensures { λ r. ⌜ Printed (plan-lines p (now (list .entry)) d (now (slots .entry))) r (now (out .entry)) (now (out .exit)) ⌝ }
 {
@@ -131,7 +131,7 @@ pub fn put_plan(p: u16, list: &[u16], d: usize, slots: &[u16], out: &mut [u8]) -
 }
 
 // Puts the one line of a refusal. It gives the number of bytes.
-pub fn put_refusal(number: usize, place: usize, out: &mut [u8]) -> usize
+pub(crate) fn put_refusal(number: usize, place: usize, out: &mut [u8]) -> usize
     requires { ⌜ Room (now out) 0 (refusal-line number place) ⌝ }
     ensures { λ r. ⌜ Printed (refusal-line number place) r (now (out .entry)) (now (out .exit)) ⌝ }
 {

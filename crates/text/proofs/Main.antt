@@ -1,0 +1,126 @@
+-- Main, case by case: what its report is when the input is too long, malformed or read, and when the planning call has planned
+-- or refused; and that 1,801 bytes have room for each. Assumes nothing.
+use Prim.Native.Nat.{ℕ, _≤_, _<_}
+use mathlib.Core.Path.{_≡_, refl, sym, _∙_, ap, subst}
+use mathlib.Core.List.{List, _++_}
+use native.Mathlib.Omega.{arith}
+use borrow.Author.Tests.{lt-ltb, le-ltb}
+use lib.ListN.{length, take, drop, length-append}
+use lib.Seq.{take-at, length-take-le}
+use Rattle.appointments.specs.Checks.{passed}
+use Rattle.appointments.proofs.ChecksLaws.{good-goes-on}
+use Rattle.planning.specs.Planning.{planned, refusal, plan-answer, plan-slots}
+use Rattle.planning.specs.Planning as Planning
+use Rattle.planning.specs.Told.{answer-of}
+use Rattle.planning.specs.declared.Answer.{Answer}
+use Rattle.planning.proofs.Demand3.{demand-3}
+use Rattle.text.specs.Reading.{Input, input, malformed, read-text}
+use Rattle.text.specs.Printing.{printed, plan-lines, refusal-line}
+use Rattle.text.specs.Text.{lent-slots, lent-scratch, planned-report, input-report, report, text-output}
+use Rattle.text.specs.Told.{Read-as}
+use Rattle.text.specs.Placed.{Room, Printed, Good-parties}
+use Rattle.text.specs.declared.parsing.ReadInput.{ReadInput}
+use Rattle.text.specs.declared.parsing.ReadInput.the-variants as read
+use Rattle.text.proofs.TextLaws.{Plans-fit, demand-3-fits, planned-passes, answer-fits, output-fits}
+
+-- The slots of a plan that main gets have at most five digits.
+plans-fit : Plans-fit
+plans-fit = demand-3-fits λ P list. demand-3 P list lent-slots lent-scratch
+
+-- bytes that 1,801 hold have room
+room : (bytes out : List ℕ) → length bytes ≤ 1801 → 1801 ≤ length out → Room out 0 bytes
+room bytes out h k = record { fits = omega (arith, h, k) }
+
+-- ── once the planning call has answered ──
+
+module _ (P : ℕ) (list : List ℕ) where
+  abbrev pub Answered : Planning.Answer → Type 0
+  Answered a = plan-answer P list lent-slots lent-scratch ≡ a
+
+  abbrev main-slots : List ℕ
+  main-slots = plan-slots P list lent-slots lent-scratch
+
+  -- what main prints of an answer
+  abbrev bytes-of : Planning.Answer → List ℕ
+  bytes-of a = printed (planned-report P list a main-slots)
+
+  bytes-fit : (a : Planning.Answer) → Answered a → length (bytes-of a) ≤ 1801
+  bytes-fit a e = subst (λ b. length (bytes-of b) ≤ 1801) e (answer-fits plans-fit P list)
+
+  pub bytes-printed :
+      (a : Planning.Answer) → Answered a → (n : ℕ) (out after : List ℕ) → Printed (bytes-of a) n out after →
+      Printed (printed (input-report (input P list))) n out after
+  bytes-printed a e n out after p = subst (λ b. Printed (bytes-of b) n out after) (sym e) p
+
+  -- planned with D
+  pub plan-needs :
+      (D : ℕ) (slots out : List ℕ) → Answered (planned D) → slots ≡ main-slots → 1801 ≤ length out →
+      Good-parties P list × Room out 0 (plan-lines P list D slots)
+  plan-needs D slots out e s h =
+      (good-goes-on P list passed (planned-passes P list lent-slots lent-scratch D e .0 .good), rw s (room (bytes-of (planned D)) out (bytes-fit (planned D) e) h))
+
+  -- refused
+  pub refusal-needs :
+      (number place : ℕ) (out : List ℕ) → Answered (refusal number place) → 1801 ≤ length out →
+      Room out 0 (refusal-line number place)
+  refusal-needs number place out e h = room (bytes-of (refusal number place)) out (bytes-fit (refusal number place) e) h
+
+-- the answer that was told
+pub told-answer : (r s : Answer) (a : Planning.Answer) → r ≡ s → answer-of r ≡ a → a ≡ answer-of s
+told-answer r s a e t = sym t ∙ ap answer-of e
+
+-- ── the whole ──
+
+-- what was read: P and the first numbers of the lent list, or the malformed line
+pub record Was-read (bytes : List ℕ) (P count : ℕ) (lent : List ℕ) : Type 0 where
+  pub inside : count ≤ length lent
+  pub is : read-text bytes ≡ input P (take count lent)
+
+pub was-read :
+    (bytes : List ℕ) (r : ReadInput) (P count : ℕ) (before after : List ℕ) → r ≡ read.Input P count →
+    Read-as (read-text bytes) r before after → Was-read bytes P count after
+was-read bytes r P count before after e = go (read-text bytes) refl
+  where
+    go : (i : Input) → read-text bytes ≡ i → Read-as i r before after → Was-read bytes P count after
+    go (input Q list) h t =
+        let same : read.Input P count ≡ read.Input Q (length list) = sym e ∙ t .0 in
+        let same-P : P ≡ Q = cc in
+        let same-count : count ≡ length list = cc in
+        let front : take count after ≡ list = rw (t .1) (take-at list (drop (length list) before) count (sym same-count)) in
+        record {
+          inside = rw (t .1, length-append list (drop (length list) before)) (omega (arith, same-count));
+          is = rw (front, same-P) h;
+        }
+    go (malformed n) h t = let z : _≡_ {A = ℕ} 0 1 = cc in absurd (omega arith)
+
+pub was-malformed :
+    (bytes : List ℕ) (r : ReadInput) (n : ℕ) (before after : List ℕ) → r ≡ read.Malformed n →
+    Read-as (read-text bytes) r before after → read-text bytes ≡ malformed n
+was-malformed bytes r n before after e = go (read-text bytes) refl
+  where
+    go : (i : Input) → read-text bytes ≡ i → Read-as i r before after → read-text bytes ≡ malformed n
+    go (input Q list) h t = let z : _≡_ {A = ℕ} 0 1 = cc in absurd (omega arith)
+    go (malformed m) h t = let same : m ≡ n = cc in rw (← same) h
+
+-- above 4,096 bytes it is 11, whatever they are
+pub output-long : (bytes : List ℕ) → 4096 < length bytes → text-output bytes ≡ refusal-line 11 0
+unfolding text-output report
+output-long bytes h = rw (lt-ltb 4096 (length bytes) h)
+
+-- up to there it goes by what was read
+pub output-read : (bytes : List ℕ) (i : Input) → length bytes ≤ 4096 → read-text bytes ≡ i → text-output bytes ≡ printed (input-report i)
+unfolding text-output report
+output-read bytes i h e = rw (le-ltb 4096 (length bytes) h, e)
+
+-- Main's bytes have room in 1,801,
+pub output-room : (bytes line out : List ℕ) → text-output bytes ≡ line → 1801 ≤ length out → Room out 0 line
+output-room bytes line out e h = rw (← e) (room (text-output bytes) out (output-fits plans-fit bytes) h)
+
+-- and what is printed is what main prints; it stands in the output.
+pub output-printed :
+    (bytes line : List ℕ) (n : ℕ) (out after : List ℕ) → text-output bytes ≡ line → Printed line n out after →
+    (n ≡ length (text-output bytes)) × ((after ≡ text-output bytes ++ drop n out) × ((n ≤ length after) × (n ≡ length (take n after))))
+output-printed bytes line n out after e p =
+    let inside : n ≤ length after =
+    rw (p .stored, length-append line (drop (length line) out)) (omega (arith, p .counted)) in
+    rw e (p .counted, (rw (p .counted) (p .stored), (inside, sym (length-take-le n after inside))))
