@@ -18,6 +18,8 @@ use Rattle.matching.specs.Matching.{rbmg-find-perfect-matching}
 use Rattle.matching.specs.Perfect.{Full, Matching-of}
 use Rattle.matching.specs.Searched.{lefts, rights, Tabled, Spares, Can-find, Matching-found}
 use Rattle.matching.specs.declared.Table.{Table}
+use Rattle.mark.specs.declared.Mark.{Mark}
+use Rattle.mark.specs.Taking.{given-back}
 use Rattle.matching.proofs.MatchingLaws.{perfect-single, matching-law}
 use Rattle.edge_color.specs.EdgeColor.{Set-aside, set-aside}
 use Rattle.edge_color.specs.Room.{Colorable, Color-fits, Aside-stored}
@@ -259,3 +261,7 @@ small t s used g n d out f =
       map = omega (arith, f .after-places);
       some = omega (arith, mul-le-mul-left n one, mul-one n, c .some);
     }
+
+-- a mark with the same words there, given back down to where it was, is as it was
+pub back-again : (m n : Mark) → n .there ≡ m .there → given-back (m .taken) n ≡ m
+back-again m n e = ap (λ (x : ℕ). given-back (m .taken) (record { taken = m .taken; there = x })) e

@@ -3,62 +3,89 @@
 // The colouring of a graph of degree d is d matchings of n pair numbers, side by side at `out`. Graphs that are made on the way
 // stand above the mark, which is put back at the end.
 ghost use mathlib.Core.Path.{_≡_};
-ghost use Prim.Native.Nat.{_+_, _*_, _<_, _≤_};
+ghost use Prim.Native.Nat.{_+_, _*_, _-_, _^_, _<_, _≤_};
 ghost use lib.ListN.{length, take, drop};
+ghost use Rattle.multigraph.specs.Places.{«Adds-matching», «Removes-matching»};
+ghost use Rattle.matching.specs.Matching.{«power-above»};
 ghost use Rattle.edge_color.specs.Room.{«Power-fits», «Power-colored», «Color-fits», «Aside-stored», Colored};
+use mark::Mark;
 use matching::Table;
 
 // `rbmg_edge_color_when_power_of_two`. Degree 1: one matching. Otherwise the first half's matchings, then the second's.
 pub fn rbmg_edge_color_when_power_of_two(
     s: &mut [u32],
-    used: &mut usize,
+    m: &mut Mark,
     ends: usize,
     g: usize,
     n: usize,
     d: usize,
     out: usize,
 )
-    requires { ⌜ Power-fits (now s) (now used) ends g n d out ⌝ }
-    ensures { λ r. ⌜ Power-colored (now (s .entry)) (now (s .exit)) (now (used .entry)) (now (used .exit)) ends g n d out ⌝ }
+    requires { ⌜ Power-fits (now s) (now m .taken) ends g n d out × (now m .taken + 20 * (n * (d + 1)) ≤ now m .there) ⌝ }
+    ensures { λ r. ⌜ Power-colored (now (s .entry)) (now (s .exit)) (now (m .entry) .taken) (now (m .exit) .taken) ends g n d out × (now (m .exit) ≡ now (m .entry)) ⌝ }
 {
     if d == 1 {
         matching::read_matching(s, g, n, out);
         return;
     }
-    let mark = *used;
+    let u = mark::take(m, 0);
     let h = d / 2;
-    let second = mark + 2 * (n * (d + 1));
+    let second = u + 2 * (n * (d + 1));
     let behind = out + n * h;
-    euler::rbmg_split_into_two(s, used, ends, g, n, d);
-    rbmg_edge_color_when_power_of_two(s, used, ends, mark, n, h, out);
-    rbmg_edge_color_when_power_of_two(s, used, ends, second, n, h, behind);
-    *used = mark;
+    euler::rbmg_split_into_two(s, m, ends, g, n, d);
+    rbmg_edge_color_when_power_of_two(s, m, ends, u, n, h, out);
+    rbmg_edge_color_when_power_of_two(s, m, ends, second, n, h, behind);
+    mark::give_back(m, u);
+}
+
+// Writes at `to` the graph at `g` without the matching of `n` numbers at `at`.
+fn take_out(s: &mut [u32], places: usize, g: usize, to: usize, at: usize, n: usize)
+    requires { ⌜ (places < 4294967296) × (g < 4294967296) × (to < 4294967296) × (at < 4294967296) × (n < 4294967296) ⌝ }
+    ensures { λ r. ⌜ Removes-matching places g to at n (now (s .entry)) (now (s .exit)) ⌝ }
+{
+    multigraph::remove_matching(s, places, g, to, at, n);
 }
 
 // Odd degree: one matching is set aside, behind the place of the others, and removed from the graph. Gives the graph without
 // it; for even degree that is the graph itself.
 fn set_aside(
     s: &mut [u32],
-    used: &mut usize,
+    m: &mut Mark,
     t: Table,
     g: usize,
     n: usize,
     d: usize,
     out: usize,
 ) -> usize
-    requires { ⌜ Color-fits t (now s) (now used) g n d out ⌝ }
-    requires { ⌜ 1 < d ⌝ }
-    ensures { λ r. ⌜ Aside-stored t (now (s .entry)) (now (s .exit)) (now (used .entry)) (now (used .exit)) g r n d out ⌝ }
+    requires { ⌜ Color-fits t (now s) (now m .taken) g n d out × (1 < d) × (now m .taken + 40 * (n * (d + 1)) ≤ now m .there) ⌝ }
+    ensures { λ r. ⌜ Aside-stored t (now (s .entry)) (now (s .exit)) (now (m .entry) .taken) (now (m .exit) .taken) g r n d out × (now (m .exit) .there ≡ now (m .entry) .there) ⌝ }
 {
     if d % 2 == 0 {
         return g;
     }
-    let m = out + n * (d - 1);
-    matching::rbmg_find_perfect_matching(s, used, t, g, n, d, m);
-    let mark = *used;
-    multigraph::remove_matching(s, t.places, g, mark, m, n);
-    *used = mark + 2 * (n * (d + 1));
-    mark
+    let at = out + n * (d - 1);
+    matching::rbmg_find_perfect_matching(s, m, t, g, n, d, at);
+    let u = mark::take(m, 2 * (n * (d + 1)));
+    take_out(s, t.places, g, u, at, n);
+    u
+}
+
+// The matchings at `from`, side by side: the earliest of them go to the graph at `second`, of degree `h`, until its degree is a
+// power of two, which is given.
+fn move_earliest(
+    s: &mut [u32],
+    places: usize,
+    second: usize,
+    from: usize,
+    n: usize,
+    h: usize,
+) -> usize
+    requires { ⌜ (h < 4294967296) × (n * (2 ^ power-above h - h) < 4294967296) × (places < 4294967296) × (second < 4294967296) × (from < 4294967296) ⌝ }
+    ensures { λ r. ⌜ (r ≡ 2 ^ power-above h) × Adds-matching places second from (n * (r - h)) (now (s .entry)) (now (s .exit)) ⌝ }
+{
+    let r = matching::power_above(h);
+    multigraph::add_matching(s, places, second, from, n * (r - h));
+    r
 }
 
 // `rbmg_edge_color`. Odd degree above 1: one matching is set aside. Split; colour the first half by this same routine; move its
@@ -66,15 +93,15 @@ fn set_aside(
 // the one set aside.
 pub fn rbmg_edge_color(
     s: &mut [u32],
-    used: &mut usize,
+    m: &mut Mark,
     t: Table,
     g: usize,
     n: usize,
     d: usize,
     out: usize,
 )
-    requires { ⌜ Color-fits t (now s) (now used) g n d out ⌝ }
-    ensures { λ r. ⌜ Colored t (now (s .entry)) (now (s .exit)) (now (used .entry)) (now (used .exit)) g n d out ⌝ }
+    requires { ⌜ Color-fits t (now s) (now m .taken) g n d out × (now m .taken + 40 * (n * (d + 1)) ≤ now m .there) ⌝ }
+    ensures { λ r. ⌜ Colored t (now (s .entry)) (now (s .exit)) (now (m .entry) .taken) (now (m .exit) .taken) g n d out × (now (m .exit) ≡ now (m .entry)) ⌝ }
 {
     if d == 0 {
         return;
@@ -83,20 +110,17 @@ pub fn rbmg_edge_color(
         matching::read_matching(s, g, n, out);
         return;
     }
-    let mark = *used;
+    let u = mark::take(m, 0);
     let h = d / 2;
     let from = out + n * h;
-    let rest = set_aside(s, used, t, g, n, d, out);
-    let first = *used;
+    let rest = set_aside(s, m, t, g, n, d, out);
+    let first = mark::take(m, 0);
     let second = first + 2 * (n * (d + 1));
-    euler::rbmg_split_into_two(s, used, t.ends, rest, n, d);
-    rbmg_edge_color(s, used, t, first, n, h, from);
-    // The first half's earliest matchings stand at `from`, side by side.
-    let r = matching::power_above(h);
-    let moved = n * (r - h);
-    multigraph::add_matching(s, t.places, second, from, moved);
-    rbmg_edge_color_when_power_of_two(s, used, t.ends, second, n, r, out);
-    *used = mark;
+    euler::rbmg_split_into_two(s, m, t.ends, rest, n, d);
+    rbmg_edge_color(s, m, t, first, n, h, from);
+    let r = move_earliest(s, t.places, second, from, n, h);
+    rbmg_edge_color_when_power_of_two(s, m, t.ends, second, n, r, out);
+    mark::give_back(m, u);
 }
 
 // Matching `i` of the colouring at `out`, as the stretch of words that holds it.

@@ -2,11 +2,13 @@
 // second half, eight columns, and the rows of half-edges.
 ghost use mathlib.Core.Path.{_≡_};
 ghost use Prim.Native.Nat.{ℕ, _+_, _*_, _-_, _/_, _<_, _≤_};
+ghost use Rattle.mark.specs.Taking.{«taken-more»};
 ghost use Rattle.euler.specs.Model.{Stage, Fits, Small, copiesM, firstM, secondM};
 ghost use Rattle.euler.specs.Model.{startRowM, startM, rowFirstM, firstsM, linkM, rowSecondM, secondsM, fillM};
 ghost use Rattle.euler.specs.Model.{takeM, backM, stepM, walkM, begun};
 ghost use Rattle.euler.specs.Model.{moreM, pushM, entryM, entriesM, singleM, singlesM, halfM, splitM};
 ghost use Rattle.euler.specs.Room.{Splits, «Halves-stored»};
+use mark::Mark;
 
 // Where a split's words lie: the graph, the table of ends, the columns, the rows, and how many half-edges a row has room for.
 // Columns, at b + 8·j: 0 cursor and 1 end of the row of party j; 2 mark and 5 first half-edge of entry j; 3 stack; 4 places
@@ -339,21 +341,13 @@ fn split_words(s: &mut [u32], l: Rows, first: usize, second: usize, m: usize, pa
     half(s, l, second, 1, m, written);
 }
 
-// `rbmg_split_into_two`: both halves of the graph at g, pushed at the mark, which moves behind them.
-pub fn rbmg_split_into_two(
-    s: &mut [u32],
-    used: &mut usize,
-    ends: usize,
-    g: usize,
-    n: usize,
-    width: usize,
-)
-    requires { ⌜ Splits (now s) (now used) ends g n width ⌝ }
-    ensures { λ r. ⌜ Halves-stored (now (s .entry)) (now (s .exit)) (now (used .entry)) (now (used .exit)) ends g n width ⌝ }
+// Both halves of the graph at g: the first at u, the second 2·n·(width + 1) words above it. Everything below u stays.
+fn split_at(s: &mut [u32], u: usize, ends: usize, g: usize, n: usize, width: usize)
+    requires { ⌜ Splits (now s) u ends g n width ⌝ }
+    ensures { λ r. ⌜ Halves-stored (now (s .entry)) (now (s .exit)) u (u + 4 * (n * (width + 1))) ends g n width ⌝ }
 {
     let k = n * (width + 1);
-    let h = *used;
-    let b = h + 2 * k + 2 * k;
+    let b = u + 2 * k + 2 * k;
     let l = Rows {
         g: g,
         ends: ends,
@@ -362,6 +356,23 @@ pub fn rbmg_split_into_two(
         width: width,
     };
     let m = words::get(s, g + 1);
-    split_words(s, l, h, h + 2 * k, m, 2 * n);
-    *used = h + 4 * k;
+    split_words(s, l, u, u + 2 * k, m, 2 * n);
+}
+
+// `rbmg_split_into_two`: takes the words that it needs, and gives back all but the two halves, which stand at the old mark.
+pub fn rbmg_split_into_two(
+    s: &mut [u32],
+    m: &mut Mark,
+    ends: usize,
+    g: usize,
+    n: usize,
+    width: usize,
+)
+    requires { ⌜ Splits (now s) (now m .taken) ends g n width × (now m .taken + 16 * (n * (width + 1)) ≤ now m .there) ⌝ }
+    ensures { λ r. ⌜ Halves-stored (now (s .entry)) (now (s .exit)) (now (m .entry) .taken) (now (m .exit) .taken) ends g n width × (now (m .exit) ≡ taken-more (4 * (n * (width + 1))) (now (m .entry))) ⌝ }
+{
+    let k = n * (width + 1);
+    let u = mark::take(m, 16 * k);
+    split_at(s, u, ends, g, n, width);
+    mark::give_back(m, u + 4 * k);
 }

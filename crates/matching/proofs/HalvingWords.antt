@@ -26,7 +26,7 @@ use Rattle.euler.specs.Room.{Splits, Numbers-from, Halves-stored}
 use Rattle.euler.proofs.SplitLaws.{split-law}
 use Rattle.matching.specs.Matching.{fewer-flagged, halve}
 use Rattle.matching.specs.Choosing.{flagged-by, Chooses, Can-copy, Copied, Copies}
-use Rattle.matching.specs.Searched.{Search-laid, Searching, Can-halve, Halved, Halved-all}
+use Rattle.matching.specs.Searched.{Search-laid, Searching, Can-halve, Halved, Can-halve-all, Halved-all}
 use Rattle.matching.specs.declared.Table.{Table}
 use Rattle.matching.proofs.Powers.{two-pow, pow-same}
 use Rattle.matching.proofs.Halving.{Half-of, half-of}
@@ -201,6 +201,21 @@ next-power x (suc f) p h =
     let twice : x ≡ 2 * 2 ^ f = p ∙ two-pow f in
     record { less = f; is = refl; twice = twice; half = omega arith }
 
+laid-kept :
+    (t : Table) (h n width mark : ℕ) (s u : List ℕ) → Search-laid t h n width mark s → length u ≡ length s →
+    Search-laid t h n width mark u
+laid-kept t h n width mark s u l len =
+    record {
+      table = l .table;
+      behind = l .behind;
+      room = omega (arith, l .room, len);
+      short = omega (arith, l .short, len);
+      some = l .some;
+      few = l .few;
+      two = l .two;
+      most = l .most;
+    }
+
 pub can-halve :
     (t : Table) (h n width : ℕ) (side : ℕ → ℕ) (e : ℕ) (by : Bool) (x mark : ℕ) (s u : List ℕ) →
     Search-laid t h n width mark s → x < 4294967296 → 1 < x → Halving-on t h n width side e by x s u →
@@ -210,17 +225,7 @@ can-halve t h n width side e by x mark s u l light more o =
     record {
       side = side;
       half = 2 ^ p .less;
-      laid =
-          record {
-            table = l .table;
-            behind = l .behind;
-            room = omega (arith, l .room, o .keeps .len);
-            short = omega (arith, l .short, o .keeps .len);
-            some = l .some;
-            few = l .few;
-            two = l .two;
-            most = l .most;
-          };
+      laid = laid-kept t h n width mark s u l (o .keeps .len);
       graph = rw (p .twice) at (o .graph);
       light = omega (arith, p .twice);
     }
@@ -293,3 +298,49 @@ halving-done t h n width side e by degree x mark new s u p less m l o =
 
     same : (f : ℕ) → degree ≡ 2 ^ f → f ≡ e
     same f q = pow-same f e (sym q ∙ p)
+
+-- ── all halvings, one after the other ──
+
+-- below degree 2 nothing is to be done
+pub halving-stops :
+    (t : Table) (h n width degree mark : ℕ) (by : Bool) (s : List ℕ) → Can-halve-all t h n width degree mark s → degree < 2 →
+    Halved-all t h n width degree by mark mark s s
+halving-stops t h n width degree mark by s can less =
+    halving-done t h n width (can .side) (can .exponent) by degree degree mark mark s s (can .power) (omega (arith, less)) refl
+    (can .laid) (halving-none t h n width (can .side) (can .exponent) by degree s (can .power) (can .graph))
+
+module _ (t : Table) (h n width degree mark : ℕ) (by : Bool) (s : List ℕ) (can : Can-halve-all t h n width degree mark s)
+    (more : 1 < degree) where
+  begun : Halving-on t h n width (can .side) (can .exponent) by degree s s
+  begun = halving-none t h n width (can .side) (can .exponent) by degree s (can .power) (can .graph)
+
+  pub halving-first : Can-halve t h n width mark s
+  halving-first = can-halve t h n width (can .side) (can .exponent) by degree mark s s (can .laid) (can .light) more begun
+
+  -- after the first halving
+  module _ (new : ℕ) (v : List ℕ) (d : Halved t h n by mark new s v) where
+    on : Halving-on t h n width (can .side) (can .exponent) by (degree / 2) s v
+    on = halving-more t h n width (can .side) (can .exponent) by degree mark new s s v more begun d
+
+    pub halving-rest : Can-halve-all t h n width (degree / 2) mark v
+    halving-rest =
+        record {
+          side = can .side;
+          exponent = on .left;
+          power = on .power;
+          laid = laid-kept t h n width mark s v (can .laid) (d .keeps .len);
+          graph = on .graph;
+          light = omega (arith, can .light);
+        }
+
+    pub halving-ends :
+        (from last : ℕ) (u : List ℕ) → last ≡ mark → Halved-all t h n width (degree / 2) by from last v u →
+        Halved-all t h n width degree by mark last s u
+    halving-ends from last u same a =
+        record {
+          left = λ e p. rw (pow-same e (can .exponent) (sym p ∙ can .power)) (sym (on .rest) ∙ a .left (on .left) (on .power));
+          under = a .under;
+          numbers = a .numbers;
+          marked = same;
+          keeps = keeps-trans (d .keeps) (a .keeps);
+        }

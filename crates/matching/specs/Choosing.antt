@@ -61,3 +61,9 @@ pub record Copied (from to α : ℕ) (s t : List ℕ) : Type 0 where
 
 abbrev pub Copies : ℕ → ℕ → ℕ → List ℕ → List ℕ → Type 0
 Copies from to α s t = Can-copy from to α s → Copied from to α s t
+
+-- Of two halves side by side at `first` the one that goes on is copied to h.
+pub record Goes-on (first room pairs h : ℕ) (by : Bool) (s t : List ℕ) : Type 0 where
+  pub from : ℕ
+  pub chosen : Chooses first room pairs by s from
+  pub copied : Copies from h 1 s t

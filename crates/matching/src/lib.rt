@@ -8,9 +8,10 @@ ghost use Rattle.words.specs.Words.{word, «put-word»};
 ghost use Rattle.multigraph.specs.Stored.{«graph-at»};
 ghost use Rattle.multigraph.specs.Places.{size, «Adds-edge»};
 ghost use Rattle.matching.specs.Matching.{«power-above», «flagged-pairs»};
-ghost use Rattle.matching.specs.Choosing.{«flagged-by», «flagged-entry», fewer, Chooses, Copies, «Copying», «Can-copy»};
+ghost use Rattle.matching.specs.Choosing.{«flagged-by», «flagged-entry», fewer, Chooses, Copies, «Copying», «Can-copy», «Goes-on»};
 ghost use Rattle.matching.specs.Searched.{«Adds-diagonal», «Builds-graph», «Can-halve», Halved, «Can-halve-all», «Halved-all»};
 ghost use Rattle.matching.specs.Searched.{«Can-search», «Search-done», «Searches-done», «Reads-matching», «Can-find», «Matching-found»};
+use mark::Mark;
 use multigraph::EdgeIndex;
 use words::get;
 use words::put;
@@ -171,44 +172,45 @@ fn add_diagonal(s: &mut [u32], t: Table, h: usize, n: usize, beta: usize)
 
 // The graph that a search splits, built at `h` from the graph at `g`.
 fn search_graph(s: &mut [u32], t: Table, g: usize, h: usize, n: usize, alpha: usize, beta: usize)
-    requires { ⌜ t .places < 4294967296 ⌝ }
-    requires { ⌜ t .diag < 4294967296 ⌝ }
-    requires { ⌜ t .pairs + n < 4294967296 ⌝ }
-    requires { ⌜ g < 4294967296 ⌝ }
-    requires { ⌜ h < 4294967296 ⌝ }
-    requires { ⌜ alpha < 4294967296 ⌝ }
-    requires { ⌜ beta < 4294967296 ⌝ }
+    requires { ⌜ (t .places < 4294967296) × (t .diag < 4294967296) × (t .pairs + n < 4294967296) × (g < 4294967296) × (h < 4294967296) × (alpha < 4294967296) × (beta < 4294967296) ⌝ }
     ensures { λ r. ⌜ Builds-graph t g h n alpha beta (now (s .entry)) (now (s .exit)) ⌝ }
 {
     copy_times(s, g, h, alpha);
     add_diagonal(s, t, h, n, beta);
 }
 
+// Of the two halves at `first`, side by side, the one that goes on is copied down to `h`.
+fn go_on(s: &mut [u32], first: usize, room: usize, pairs: usize, h: usize, by_copies: bool)
+    requires { ⌜ (0 < room) × (first + room + room ≤ length (now s)) × (h < 4294967296) ⌝ }
+    ensures { λ r. ⌜ Goes-on first room pairs h «by_copies» (now (s .entry)) (now (s .exit)) ⌝ }
+{
+    let from = chosen(s, first, room, pairs, by_copies);
+    copy_times(s, from, h, 1);
+}
+
 // One halving of the graph at `h`: both halves are pushed, and the one that goes on is copied down to `h`.
 fn halve_once(
     s: &mut [u32],
-    used: &mut usize,
+    m: &mut Mark,
     t: Table,
     h: usize,
     n: usize,
     width: usize,
     by_copies: bool,
 )
-    requires { ⌜ Can-halve t h n width (now used) (now s) ⌝ }
-    ensures { λ r. ⌜ Halved t h n «by_copies» (now (used .entry)) (now (used .exit)) (now (s .entry)) (now (s .exit)) ⌝ }
+    requires { ⌜ Can-halve t h n width (now m .taken) (now s) × (now m .taken + 16 * (n * (width + 1)) ≤ now m .there) ⌝ }
+    ensures { λ r. ⌜ Halved t h n «by_copies» (now (m .entry) .taken) (now (m .exit) .taken) (now (s .entry)) (now (s .exit)) × (now (m .exit) ≡ now (m .entry)) ⌝ }
 {
-    let mark = *used;
-    let room = 2 * (n * (width + 1));
-    euler::rbmg_split_into_two(s, used, t.ends, h, n, width);
-    let from = chosen(s, mark, room, t.pairs, by_copies);
-    copy_times(s, from, h, 1);
-    *used = mark;
+    let u = mark::take(m, 0);
+    euler::rbmg_split_into_two(s, m, t.ends, h, n, width);
+    go_on(s, u, 2 * (n * (width + 1)), t.pairs, h, by_copies);
+    mark::give_back(m, u);
 }
 
 // From degree `degree`, a power of two, down to degree 1.
 fn halve_all(
     s: &mut [u32],
-    used: &mut usize,
+    m: &mut Mark,
     t: Table,
     h: usize,
     n: usize,
@@ -216,14 +218,14 @@ fn halve_all(
     degree: usize,
     by_copies: bool,
 )
-    requires { ⌜ Can-halve-all t h n width degree (now used) (now s) ⌝ }
-    ensures { λ r. ⌜ Halved-all t h n width degree «by_copies» (now (used .entry)) (now (used .exit)) (now (s .entry)) (now (s .exit)) ⌝ }
+    requires { ⌜ Can-halve-all t h n width degree (now m .taken) (now s) × (now m .taken + 16 * (n * (width + 1)) ≤ now m .there) ⌝ }
+    ensures { λ r. ⌜ Halved-all t h n width degree «by_copies» (now (m .entry) .taken) (now (m .exit) .taken) (now (s .entry)) (now (s .exit)) × (now (m .exit) ≡ now (m .entry)) ⌝ }
 {
-    let mut x = degree;
-    while x > 1 {
-        halve_once(s, used, t, h, n, width, by_copies);
-        x = x / 2;
+    if degree < 2 {
+        return;
     }
+    halve_once(s, m, t, h, n, width, by_copies);
+    halve_all(s, m, t, h, n, width, degree / 2, by_copies);
 }
 
 // How many pairs of the graph at `h`, which has so much room, are flagged.
@@ -235,47 +237,52 @@ fn flagged_in(s: &[u32], h: usize, room: usize, pairs: usize) -> usize
     flagged(&s[h..end], pairs, false)
 }
 
+// The same of words that are lent to be changed; none is.
+fn flagged_left(s: &mut [u32], h: usize, room: usize, pairs: usize) -> usize
+    requires { ⌜ h + room ≤ length (now s) ⌝ }
+    ensures { λ r. ⌜ ((ends : ℕ) → 2 + 2 * size (now (s .entry)) h ≤ room → r ≡ flagged-pairs (graph-at (now (s .entry)) ends pairs h)) × (now (s .exit) ≡ now (s .entry)) ⌝ }
+{
+    flagged_in(s, h, room, pairs)
+}
+
 // One search of the graph at `g`: what it leaves stands at the mark. Gives how many flagged pairs are among it.
 fn search(
     s: &mut [u32],
-    used: &mut usize,
+    m: &mut Mark,
     t: Table,
     g: usize,
     n: usize,
     k: usize,
     by_copies: bool,
 ) -> usize
-    requires { ⌜ Can-search t g n k (now used) (now s) ⌝ }
-    ensures { λ r. ⌜ Search-done t g n k «by_copies» (now (used .entry)) (now (used .exit)) r (now (s .entry)) (now (s .exit)) ⌝ }
+    requires { ⌜ Can-search t g n k (now m .taken) (now s) × (now m .taken + 18 * (n * (k + 2)) ≤ now m .there) ⌝ }
+    ensures { λ r. ⌜ Search-done t g n k «by_copies» (now (m .entry) .taken) (now (m .exit) .taken) r (now (s .entry)) (now (s .exit)) × (now (m .exit) ≡ now (m .entry)) ⌝ }
 {
-    let h = *used;
+    let room = 2 * (n * (k + 2));
+    let h = mark::take(m, room);
     let degree = power_above(k * n);
     let alpha = degree / k;
     search_graph(s, t, g, h, n, alpha, degree - k * alpha);
-    let room = 2 * (n * (k + 2));
-    *used = h + room;
-    halve_all(s, used, t, h, n, k + 1, degree, by_copies);
-    *used = h;
-    flagged_in(s, h, room, t.pairs)
+    halve_all(s, m, t, h, n, k + 1, degree, by_copies);
+    mark::give_back(m, h);
+    flagged_left(s, h, room, t.pairs)
 }
 
 // The search that counts flagged pairs; and if one survives, the search that counts their copies.
-fn searches(s: &mut [u32], used: &mut usize, t: Table, g: usize, n: usize, k: usize)
-    requires { ⌜ Can-search t g n k (now used) (now s) ⌝ }
-    ensures { λ r. ⌜ Searches-done t g n k (now (used .entry)) (now (used .exit)) (now (s .entry)) (now (s .exit)) ⌝ }
+fn searches(s: &mut [u32], m: &mut Mark, t: Table, g: usize, n: usize, k: usize)
+    requires { ⌜ Can-search t g n k (now m .taken) (now s) × (now m .taken + 18 * (n * (k + 2)) ≤ now m .there) ⌝ }
+    ensures { λ r. ⌜ Searches-done t g n k (now (m .entry) .taken) (now (m .exit) .taken) (now (s .entry)) (now (s .exit)) × (now (m .exit) ≡ now (m .entry)) ⌝ }
 {
-    let flagged = search(s, used, t, g, n, k, false);
+    let flagged = search(s, m, t, g, n, k, false);
     if flagged == 0 {
         return;
     }
-    search(s, used, t, g, n, k, true);
+    search(s, m, t, g, n, k, true);
 }
 
 // Writes the numbers of the `n` pairs of the graph at `h` to `out`.
 pub fn read_matching(s: &mut [u32], h: usize, n: usize, out: usize)
-    requires { ⌜ h < 4294967296 ⌝ }
-    requires { ⌜ n < 4294967296 ⌝ }
-    requires { ⌜ out < 4294967296 ⌝ }
+    requires { ⌜ (h < 4294967296) × (n < 4294967296) × (out < 4294967296) ⌝ }
     ensures { λ r. ⌜ Reads-matching h n out (now (s .entry)) (now (s .exit)) ⌝ }
 {
     let mut i = 0;
@@ -289,17 +296,17 @@ pub fn read_matching(s: &mut [u32], h: usize, n: usize, out: usize)
 // The perfect matching of the graph at `g`, regular of degree `k` on `n` parties a side: its pair numbers, in order, at `out`.
 pub fn rbmg_find_perfect_matching(
     s: &mut [u32],
-    used: &mut usize,
+    m: &mut Mark,
     t: Table,
     g: usize,
     n: usize,
     k: usize,
     out: usize,
 )
-    requires { ⌜ Can-find t g n k out (now used) (now s) ⌝ }
-    ensures { λ r. ⌜ Matching-found t g n k out (now (used .entry)) (now (used .exit)) (now (s .entry)) (now (s .exit)) ⌝ }
+    requires { ⌜ Can-find t g n k out (now m .taken) (now s) × (now m .taken + 18 * (n * (k + 2)) ≤ now m .there) ⌝ }
+    ensures { λ r. ⌜ Matching-found t g n k out (now (m .entry) .taken) (now (m .exit) .taken) (now (s .entry)) (now (s .exit)) × (now (m .exit) ≡ now (m .entry)) ⌝ }
 {
-    let h = *used;
-    searches(s, used, t, g, n, k);
+    let h = mark::take(m, 0);
+    searches(s, m, t, g, n, k);
     read_matching(s, h, n, out);
 }

@@ -8,6 +8,7 @@ ghost use mathlib.Core.List.{_++_};
 ghost use lib.ListN.{length, replicate};
 ghost use Rattle.appointments.specs.Appointments.{appts};
 ghost use Rattle.two_color.specs.Contract.{«Can-color», Colored};
+ghost use Rattle.edge_color.specs.Room.{«Color-fits», Colored as «Colored-words»};
 ghost use Rattle.planning.specs.Planning.{«plan-answer», «plan-slots», «plan-scratch»};
 ghost use Rattle.planning.specs.Demand3.{«Demand-3»};
 ghost use Rattle.planning.specs.Told.{«answer-of»};
@@ -60,6 +61,18 @@ fn prepare(s: &mut [u32], list: &[u16], p: usize, d: usize, q: usize, l: usize) 
     n
 }
 
+// `rbmg_edge_color` on a scratch of which `used` words are taken.
+fn color(s: &mut [u32], used: usize, t: Table, g: usize, n: usize, d: usize, out: usize)
+    requires { ⌜ Color-fits t (now s) used g n d out ⌝ }
+    ensures { λ r. ⌜ Colored-words t (now (s .entry)) (now (s .exit)) used used g n d out ⌝ }
+{
+    let mut m = Mark {
+        taken: used,
+        there: s.len(),
+    };
+    edge_color::rbmg_edge_color(s, &mut m, t, g, n, d, out);
+}
+
 // The matchings of the evened graph, and from them a slot for each appointment.
 fn color_and_give(
     s: &mut [u32],
@@ -81,8 +94,7 @@ fn color_and_give(
         diag: 2 * p,
         pairs,
     };
-    let mut used = 15 * q;
-    edge_color::rbmg_edge_color(s, &mut used, t, 11 * q, n, d, 10 * q);
+    color(s, 15 * q, t, 11 * q, n, d, 10 * q);
     slots::give_slots(s, slots, list.len() / 2, n, d, 10 * q, 9 * q, 11 * q);
 }
 

@@ -1,6 +1,6 @@
 // Single steps of the planner, exported so that the host can hold them beside the Rust's. No part of the product.
 ghost use mathlib.Core.Path.{_≡_};
-ghost use Prim.Native.Nat.{_%_, _*_};
+ghost use Prim.Native.Nat.{_%_, _+_, _*_};
 ghost use Rattle.steps_c.specs.Compared.{«Two-colored», «refusal-number»};
 ghost use Rattle.two_color.specs.Contract.{«Can-color», Colored};
 ghost use Rattle.euler.specs.Room.{Splits, «Halves-stored»};
@@ -60,6 +60,18 @@ pub extern "C" fn bimtsure_two_color(p: u16, list: &[u16], scratch: &mut [u32]) 
     }
 }
 
+// `rbmg_split_into_two` on a scratch of which `used` words are taken.
+fn halves(s: &mut [u32], used: usize, ends: usize, g: usize, n: usize, width: usize)
+    requires { ⌜ Splits (now s) used ends g n width ⌝ }
+    ensures { λ r. ⌜ Halves-stored (now (s .entry)) (now (s .exit)) used (used + 4 * (n * (width + 1))) ends g n width ⌝ }
+{
+    let mut m = Mark {
+        taken: used,
+        there: s.len(),
+    };
+    euler::rbmg_split_into_two(s, &mut m, ends, g, n, width);
+}
+
 // One split of a graph in words, whose ends stand in a table at `ends`: the halves stand at the mark `used` and 2·n·(width + 1)
 // words above it. Gives the new mark. The caller lends a regular graph of even degree, as the split itself asks.
 #[no_mangle]
@@ -74,7 +86,6 @@ pub extern "C" fn bimtsure_split(
     requires { ⌜ Splits (now scratch) used ends g n width ⌝ }
     ensures { λ r. ⌜ Halves-stored (now (scratch .entry)) (now (scratch .exit)) used r ends g n width ⌝ }
 {
-    let mut mark = used;
-    euler::rbmg_split_into_two(scratch, &mut mark, ends, g, n, width);
-    mark
+    halves(scratch, used, ends, g, n, width);
+    used + 4 * (n * (width + 1))
 }
