@@ -41,7 +41,7 @@ returns c =
     subst (λ (t : List ℕ). Halves-stored s t (a .used .now) (a .used .now + 4 * k) (a .ends) (a .g) (a .n) (a .width))
     (sym
     (c .before .before .split-words .ensures
-    ∙ ap (λ (m : ℕ). splitM (laid (a .used .now) k (a .ends) (a .g) (a .width)) (a .used .now) (a .used .now + 2 * k) m (2 * a .n) s)
+    ∙ ap (λ (m : ℕ). splitM (laid (a .used .now) k (a .ends) (a .g)) (a .used .now) (a .used .now + 2 * k) m (2 * a .n) s)
     (c .before .before .before .before .get .ensures .0)))
     (split-stored s (a .used .now) (a .ends) (a .g) (a .n) (a .width) (c .before .before .before .before .before .before .before .before .pre) (λ i. omega (arith, c .before .before .before .before .before .before .before .slice-known .given i)))
 
@@ -50,6 +50,7 @@ rbmg-split-into-two-spec =
     tie.close
     (tie.spec
     add-k
+    (λ c. search needs)
     (λ c. search needs)
     (λ c. search needs)
     (λ c. search needs)
