@@ -10,6 +10,7 @@ ghost use Rattle.words.specs.Words.{word, «put-word»};
 ghost use Rattle.multigraph.specs.Regular.{«Same-ends»};
 ghost use Rattle.multigraph.specs.Places.{size};
 ghost use Rattle.evening.specs.Steps.{«Can-pad-side», Padding, pushed, «Adds-pair», Cleared, «Rows-fit», «Rows-filled», Says, mate, Earlier, «Rep-found», «Reps-fit», «Row-done», «Reps-done», «pair-of», Building, Built, Joins, «Pair-found», shortfall, Filled, «Step-taken», begun, «Diag-fit», Begun, «Looked-at», «Diag-ready», Looked};
+use mark::Mark;
 use words::get;
 use words::get16;
 use words::put;
@@ -307,21 +308,29 @@ fn no_pairs(s: &mut [u32], g: usize)
     put(s, g + 1, 0);
 }
 
-// The pairs of the list, one copy for each appointment, in list order: the table of their ends, the graph, and each
-// appointment's pair.
-pub fn pairs_from_list(s: &mut [u32], used: &mut usize, list: &[u16], p: usize, d: usize, at: Bases)
-    requires { ⌜ Can-pair (now list) p d (at .ends) (at .apair) (at .g) (now used) (now s) ⌝ }
-    ensures { λ r. ⌜ Pairs-made (now (list .entry)) (at .ends) (at .apair) (at .g) (now (used .entry)) (now (s .entry)) (now (used .exit)) (now (s .exit)) ⌝ }
+// The same as `pairs_from_list`, where the words from `u` on are free.
+fn pairs_at(s: &mut [u32], u: usize, list: &[u16], p: usize, d: usize, at: Bases)
+    requires { ⌜ Can-pair (now list) p d (at .ends) (at .apair) (at .g) u (now s) ⌝ }
+    ensures { λ r. ⌜ Pairs-made (now (list .entry)) (at .ends) (at .apair) (at .g) u (now (s .entry)) u (now (s .exit)) ⌝ }
 {
-    let b = *used;
-    let rows = b + p;
+    let rows = u + p;
     let map = rows + d * p;
-    *used = map + p;
-    fill_rows(s, list, p, d, b, rows);
-    rep_rows(s, list, p, d, b, rows, map, at.apair);
+    fill_rows(s, list, p, d, u, rows);
+    rep_rows(s, list, p, d, u, rows, map, at.apair);
     no_pairs(s, at.g);
     add_appointments(s, list, at.ends, at.apair, at.g);
-    *used = b;
+}
+
+// The pairs of the list, one copy for each appointment, in list order: the table of their ends, the graph, and each
+// appointment's pair. Takes the rows and the map, and gives them back.
+pub fn pairs_from_list(s: &mut [u32], m: &mut Mark, list: &[u16], p: usize, d: usize, at: Bases)
+    requires { ⌜ Can-pair (now list) p d (at .ends) (at .apair) (at .g) (now m .taken) (now s) × (now m .taken + (p + d * p + p) ≤ now m .there) ⌝ }
+    ensures { λ r. ⌜ Pairs-made (now (list .entry)) (at .ends) (at .apair) (at .g) (now (m .entry) .taken) (now (s .entry)) (now (m .exit) .taken) (now (s .exit)) × (now (m .exit) ≡ now (m .entry)) ⌝ }
+{
+    let n = p + d * p + p;
+    let u = mark::take(m, n);
+    pairs_at(s, u, list, p, d, at);
+    mark::give_back(m, u);
 }
 
 // ── evening out ──
@@ -435,24 +444,32 @@ fn even_step(
     st
 }
 
-// From the first left and the first right party below `d`, the smaller shortfall is added as copies, moving on when a party is
-// full, until every party has degree `d`.
-pub fn even_out(s: &mut [u32], used: &mut usize, list: &[u16], d: usize, n: usize, at: Bases)
-    requires { ⌜ Can-even (now list) d n (at .left) (at .right) (at .ends) (at .apair) (at .g) (now used) (now s) ⌝ }
-    ensures { λ r. ⌜ Evened-out (now (list .entry)) d n (at .left) (at .right) (at .ends) (at .apair) (at .g) (now (used .entry)) (now (s .entry)) (now (used .exit)) (now (s .exit)) ⌝ }
+// The same as `even_out`, where the words from `u` on are free.
+fn even_at(s: &mut [u32], u: usize, list: &[u16], d: usize, n: usize, at: Bases)
+    requires { ⌜ Can-even (now list) d n (at .left) (at .right) (at .ends) (at .apair) (at .g) u (now s) ⌝ }
+    ensures { λ r. ⌜ Evened-out (now (list .entry)) d n (at .left) (at .right) (at .ends) (at .apair) (at .g) u (now (s .entry)) u (now (s .exit)) ⌝ }
 {
-    let b = *used;
-    let rows = b + (n + n);
-    *used = rows + d * (n + n);
-    fill_rows(s, list, n + n, d, b, rows);
+    let rows = u + (n + n);
+    fill_rows(s, list, n + n, d, u, rows);
     let steps = 2 * (n + n);
     let mut st = Passed { l: 0, r: 0 };
     let mut k = 0;
     while k < steps {
-        st = even_step(s, list, at, d, n, b, st);
+        st = even_step(s, list, at, d, n, u, st);
         k += 1;
     }
-    *used = b;
+}
+
+// From the first left and the first right party below `d`, the smaller shortfall is added as copies, moving on when a party is
+// full, until every party has degree `d`. Takes the degrees and the rows, and gives them back.
+pub fn even_out(s: &mut [u32], m: &mut Mark, list: &[u16], d: usize, n: usize, at: Bases)
+    requires { ⌜ Can-even (now list) d n (at .left) (at .right) (at .ends) (at .apair) (at .g) (now m .taken) (now s) × (now m .taken + (n + n + d * (n + n)) ≤ now m .there) ⌝ }
+    ensures { λ r. ⌜ Evened-out (now (list .entry)) d n (at .left) (at .right) (at .ends) (at .apair) (at .g) (now (m .entry) .taken) (now (s .entry)) (now (m .exit) .taken) (now (s .exit)) × (now (m .exit) ≡ now (m .entry)) ⌝ }
+{
+    let k = n + n + d * (n + n);
+    let u = mark::take(m, k);
+    even_at(s, u, list, d, n, at);
+    mark::give_back(m, u);
 }
 
 // ── the diagonal ──
@@ -517,16 +534,24 @@ fn look_at_pairs(s: &mut [u32], at: Bases, diag: usize, b: usize, n: usize, m: u
     }
 }
 
-// The number of the pair of left `i` and right `i`, for each i: its own if the graph has it, else one after those of all pairs,
-// in a row of its own.
-pub fn diagonal(s: &mut [u32], used: &mut usize, n: usize, at: Bases, diag: usize)
-    requires { ⌜ Can-diagonal n (at .left) (at .right) (at .ends) (at .g) diag (now used) (now s) ⌝ }
-    ensures { λ r. ⌜ Diagonal-set n (at .left) (at .right) (at .ends) (at .g) diag (now (used .entry)) (now (s .entry)) (now (used .exit)) (now (s .exit)) ⌝ }
+// The same as `diagonal`, where the words from `u` on are free.
+fn diagonal_at(s: &mut [u32], u: usize, n: usize, at: Bases, diag: usize)
+    requires { ⌜ Can-diagonal n (at .left) (at .right) (at .ends) (at .g) diag u (now s) ⌝ }
+    ensures { λ r. ⌜ Diagonal-set n (at .left) (at .right) (at .ends) (at .g) diag u (now (s .entry)) u (now (s .exit)) ⌝ }
 {
-    let b = *used;
-    *used = b + (n + n);
     let m = get(s, at.g + 1);
-    begin_places(s, at, diag, b, m, n);
-    look_at_pairs(s, at, diag, b, n, m);
-    *used = b;
+    begin_places(s, at, diag, u, m, n);
+    look_at_pairs(s, at, diag, u, n, m);
+}
+
+// The number of the pair of left `i` and right `i`, for each i: its own if the graph has it, else one after those of all pairs,
+// in a row of its own. Takes a word for each party, and gives it back.
+pub fn diagonal(s: &mut [u32], m: &mut Mark, n: usize, at: Bases, diag: usize)
+    requires { ⌜ Can-diagonal n (at .left) (at .right) (at .ends) (at .g) diag (now m .taken) (now s) × (now m .taken + (n + n) ≤ now m .there) ⌝ }
+    ensures { λ r. ⌜ Diagonal-set n (at .left) (at .right) (at .ends) (at .g) diag (now (m .entry) .taken) (now (s .entry)) (now (m .exit) .taken) (now (s .exit)) × (now (m .exit) ≡ now (m .entry)) ⌝ }
+{
+    let k = n + n;
+    let u = mark::take(m, k);
+    diagonal_at(s, u, n, at, diag);
+    mark::give_back(m, u);
 }

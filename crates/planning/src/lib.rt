@@ -7,12 +7,14 @@ ghost use Prim.Native.Nat.{ℕ, zero, _+_, _*_, _<_, _≤_};
 ghost use mathlib.Core.List.{_++_};
 ghost use lib.ListN.{length, replicate};
 ghost use Rattle.appointments.specs.Appointments.{appts};
+ghost use Rattle.two_color.specs.Contract.{«Can-color», Colored};
 ghost use Rattle.planning.specs.Planning.{«plan-answer», «plan-slots», «plan-scratch»};
 ghost use Rattle.planning.specs.Demand3.{«Demand-3»};
 ghost use Rattle.planning.specs.Told.{«answer-of»};
 ghost use Rattle.planning.specs.Steps.{Ready, Sided, Prepared, «Slots-planned», «Worked-out»};
 use appointments::Checked;
 use evening::Bases;
+use mark::Mark;
 use matching::Table;
 use two_color::TwoColoring;
 
@@ -22,20 +24,28 @@ pub enum Answer {
     Refused(usize, usize),
 }
 
-// The list's pairs on two equally long sides, evened out, with the numbers of the pairs on the diagonal. Gives how many parties
-// each side has.
-fn prepare(
-    s: &mut [u32],
-    used: &mut usize,
-    list: &[u16],
-    p: usize,
-    d: usize,
-    q: usize,
-    l: usize,
-) -> usize
-    requires { ⌜ Sided p d q l (now used) (now list) (now s) ⌝ }
-    ensures { λ n. ⌜ Prepared p d q n (now (used .exit)) (now (list .entry)) (now (s .exit)) × (length (now (s .exit)) ≡ length (now (s .entry))) ⌝ }
+// `two_color` on a scratch of which nothing is taken.
+fn two_sides(s: &mut [u32], p: usize, d: usize, list: &[u16]) -> TwoColoring
+    requires { ⌜ Can-color p d 0 (now list) (now s) ⌝ }
+    ensures { λ r. ⌜ Colored p (now (list .entry)) 0 (now (s .entry)) (2 * p) (now (s .exit)) r ⌝ }
 {
+    let mut m = Mark {
+        taken: 0,
+        there: s.len(),
+    };
+    two_color::two_color(s, &mut m, p, d, list)
+}
+
+// The list's pairs on two equally long sides, evened out, with the numbers of the pairs on the diagonal. Gives how many parties
+// each side has. The mark is made above all that lies at a fixed place, and each step gives back what it takes.
+fn prepare(s: &mut [u32], list: &[u16], p: usize, d: usize, q: usize, l: usize) -> usize
+    requires { ⌜ Sided p d q l (15 * q) (now list) (now s) ⌝ }
+    ensures { λ n. ⌜ Prepared p d q n (15 * q) (now (list .entry)) (now (s .exit)) × (length (now (s .exit)) ≡ length (now (s .entry))) ⌝ }
+{
+    let mut m = Mark {
+        taken: 15 * q,
+        there: s.len(),
+    };
     let at = Bases {
         left: 0,
         right: p,
@@ -44,9 +54,9 @@ fn prepare(
         g: 11 * q,
     };
     let n = evening::pad_sides(s, p, 0, l, p, p - l);
-    evening::pairs_from_list(s, used, list, p, d, at);
-    evening::even_out(s, used, list, d, n, at);
-    evening::diagonal(s, used, n, at, 2 * p);
+    evening::pairs_from_list(s, &mut m, list, p, d, at);
+    evening::even_out(s, &mut m, list, d, n, at);
+    evening::diagonal(s, &mut m, n, at, 2 * p);
     n
 }
 
@@ -54,14 +64,13 @@ fn prepare(
 fn color_and_give(
     s: &mut [u32],
     slots: &mut [u16],
-    used: &mut usize,
     list: &[u16],
     p: usize,
     d: usize,
     q: usize,
     n: usize,
 )
-    requires { ⌜ Prepared p d q n (now used) (now list) (now s) ⌝ }
+    requires { ⌜ Prepared p d q n (15 * q) (now list) (now s) ⌝ }
     requires { ⌜ length (appts (now list)) ≤ length (now slots) ⌝ }
     ensures { λ r. ⌜ Slots-planned p (now (list .entry)) (now (slots .entry)) (now (slots .exit)) (now (s .entry)) (now (s .exit)) ⌝ }
 {
@@ -72,7 +81,8 @@ fn color_and_give(
         diag: 2 * p,
         pairs,
     };
-    edge_color::rbmg_edge_color(s, used, t, 11 * q, n, d, 10 * q);
+    let mut used = 15 * q;
+    edge_color::rbmg_edge_color(s, &mut used, t, 11 * q, n, d, 10 * q);
     slots::give_slots(s, slots, list.len() / 2, n, d, 10 * q, 9 * q, 11 * q);
 }
 
@@ -85,14 +95,12 @@ fn work_out(s: &mut [u32], slots: &mut [u16], list: &[u16], p: usize, d: usize, 
     if p == 0 {
         return Answer::Planned(0);
     }
-    let mut used = 0;
-    let colored = two_color::two_color(s, &mut used, p, d, list);
+    let colored = two_sides(s, p, d, list);
     let TwoColoring::Sides(left) = colored else {
         return Answer::Refused(9, 0);
     };
-    used = 15 * q;
-    let n = prepare(s, &mut used, list, p, d, q, left);
-    color_and_give(s, slots, &mut used, list, p, d, q, n);
+    let n = prepare(s, list, p, d, q, left);
+    color_and_give(s, slots, list, p, d, q, n);
     Answer::Planned(d)
 }
 

@@ -1,9 +1,11 @@
 // Single steps of the planner, exported so that the host can hold them beside the Rust's. No part of the product.
 ghost use mathlib.Core.Path.{_≡_};
-ghost use Prim.Native.Nat.{_%_};
+ghost use Prim.Native.Nat.{_%_, _*_};
 ghost use Rattle.steps_c.specs.Compared.{«Two-colored», «refusal-number»};
+ghost use Rattle.two_color.specs.Contract.{«Can-color», Colored};
 ghost use Rattle.euler.specs.Room.{Splits, «Halves-stored»};
 use appointments::Checked;
+use mark::Mark;
 use two_color::TwoColoring;
 
 // Number 0 and how many parties stand on the left, or the number of a refusal.
@@ -25,6 +27,18 @@ fn refused(checked: Checked) -> TwoColorAnswer
     }
 }
 
+// `two_color` on a scratch of which nothing is taken.
+fn two_sides(s: &mut [u32], p: usize, d: usize, list: &[u16]) -> TwoColoring
+    requires { ⌜ Can-color p d 0 (now list) (now s) ⌝ }
+    ensures { λ r. ⌜ Colored p (now (list .entry)) 0 (now (s .entry)) (2 * p) (now (s .exit)) r ⌝ }
+{
+    let mut m = Mark {
+        taken: 0,
+        there: s.len(),
+    };
+    two_color::two_color(s, &mut m, p, d, list)
+}
+
 // Checks 1 to 8 (a slot buffer is not needed), then `two_color`: the left parties stand in the first words of scratch, the right
 // ones from word P on.
 #[no_mangle]
@@ -36,8 +50,7 @@ pub extern "C" fn bimtsure_two_color(p: u16, list: &[u16], scratch: &mut [u32]) 
     let Checked::Passed(d) = checked else {
         return refused(checked);
     };
-    let mut used = 0;
-    let colored = two_color::two_color(scratch, &mut used, parties, d, list);
+    let colored = two_sides(scratch, parties, d, list);
     match colored {
         TwoColoring::Sides(left) => TwoColorAnswer {
             number: 0,

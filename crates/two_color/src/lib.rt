@@ -13,7 +13,9 @@
 ghost use mathlib.Core.Path.{_≡_};
 ghost use Prim.Native.Nat.{_+_, _*_, _/_, _<_, _≤_};
 ghost use Rattle.two_color.specs.Model.{Small, appendM, clearStateM, startPartyM, startPartiesM, pushEndM, fillRowsM, colorPartyM, touchM, lookM, touchAllM, takeOffM, nextPartyM, stepM, stepsM, preparedM};
+ghost use Rattle.mark.specs.Taking.{«taken-more»};
 ghost use Rattle.two_color.specs.Contract.{«Can-color», Colored};
+use mark::Mark;
 
 // The sides, with the number of parties on the left; or some closed round of appointments has odd length.
 pub enum TwoColoring {
@@ -221,14 +223,11 @@ fn prepare(s: &mut [u32], u: usize, p: usize, d: usize, list: &[u16])
     fill_rows(s, u, p, list, 1, 0);
 }
 
-// The left side is at the mark and the right side p words above it; the mark is put above both, also where it refuses.
-// Everything below the old mark stays.
-pub fn two_color(s: &mut [u32], used: &mut usize, p: usize, d: usize, list: &[u16]) -> TwoColoring
-    requires { ⌜ Can-color p d (now used) (now list) (now s) ⌝ }
-    ensures { λ r. ⌜ Colored p (now (list .entry)) (now (used .entry)) (now (s .entry)) (now (used .exit)) (now (s .exit)) r ⌝ }
+// The left side is at `u` and the right side p words above it. Everything below `u` stays.
+fn color_at(s: &mut [u32], u: usize, p: usize, d: usize, list: &[u16]) -> TwoColoring
+    requires { ⌜ Can-color p d u (now list) (now s) ⌝ }
+    ensures { λ r. ⌜ Colored p (now (list .entry)) u (now (s .entry)) (u + 2 * p) (now (s .exit)) r ⌝ }
 {
-    let u = *used;
-    *used = u + 2 * p;
     if p == 0 {
         return TwoColoring::Sides(0);
     }
@@ -240,4 +239,18 @@ pub fn two_color(s: &mut [u32], used: &mut usize, p: usize, d: usize, list: &[u1
     }
     let left = words::get(s, u + 4 * p + 3);
     TwoColoring::Sides(left)
+}
+
+// Takes the words that it needs, and gives back all but the two sides, also where it refuses: the left side is at the old mark
+// and the right side p words above it. Everything below the old mark stays.
+pub fn two_color(s: &mut [u32], m: &mut Mark, p: usize, d: usize, list: &[u16]) -> TwoColoring
+    requires { ⌜ Can-color p d (now m .taken) (now list) (now s) × (now m .taken + (11 * p + d * p) ≤ now m .there) ⌝ }
+    ensures { λ r. ⌜ Colored p (now (list .entry)) (now (m .entry) .taken) (now (s .entry)) (now (m .exit) .taken) (now (s .exit)) r × (now (m .exit) ≡ taken-more (2 * p) (now (m .entry))) ⌝ }
+{
+    let n = 11 * p + d * p;
+    let u = mark::take(m, n);
+    let r = color_at(s, u, p, d, list);
+    let top = u + 2 * p;
+    mark::give_back(m, top);
+    r
 }

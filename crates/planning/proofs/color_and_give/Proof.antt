@@ -30,6 +30,7 @@ color-and-give-spec =
     (λ c. search needs)
     (λ c. search needs)
     (λ c. search needs)
+    (λ c. search needs)
     rbmg-edge-color-requires
     (λ c. search needs)
     (λ c. search needs)

@@ -11,35 +11,34 @@ returns c =
     worked-none (c .before .before .before .before .args .p) (c .before .before .before .before .args .d) (c .before .before .before .before .args .list .now) (c .before .before .before .before .args .slots .now) (c .before .before .before .before .pre .0) (omega arith)
 
 -- src/lib.rt:72:9
-two-color-requires : tie.Need-two-color-requires
-two-color-requires c κs = can-two-color (c .before .before .before .before .before .before .pre .0)
+two-sides-requires : tie.Need-two-sides-requires
+two-sides-requires c κs = can-two-color (c .before .before .before .before .before .pre .0)
 
 -- src/lib.rt:74:9
 returns-2 : tie.Need-returns-2
 returns-2 c =
-    worked-odd (c .before .before .before .before .before .before .before .before .before .before .before .args .p) (c .before .before .before .before .before .before .before .before .before .before .before .args .d) (c .before .before .before .before .before .before .before .before .before .before .before .args .list .now) (c .before .before .before .before .before .before .before .before .before .before .before .args .slots .now) (rw (c .enum-told .given .1) at (c .before .before .before .before .two-color .ensures))
+    worked-odd (c .before .before .before .before .before .before .before .before .before .before .args .p) (c .before .before .before .before .before .before .before .before .before .before .args .d) (c .before .before .before .before .before .before .before .before .before .before .args .list .now) (c .before .before .before .before .before .before .before .before .before .before .args .slots .now) (rw (c .enum-told .given .1) at (c .before .before .before .before .two-sides .ensures))
 
 -- src/lib.rt:77:9
 prepare-requires : tie.Need-prepare-requires
 prepare-requires c κs =
-    two-colored (c .before .before .before .before .before .before .before .before .before .before .before .before .before .before .pre .0) (omega arith) (rw (c .before .before .before .colored .given .1) at (c .before .before .before .before .before .before .before .two-color .ensures))
+    two-colored (c .before .before .before .before .before .before .before .before .before .before .before .before .pre .0) (omega arith) (rw (c .before .before .colored .given .1) at (c .before .before .before .before .before .before .two-sides .ensures))
 
 -- src/lib.rt:63:1
 returns-3 : tie.Need-returns-3
 returns-3 c =
-    worked-plan (c .before .before .before .before .before .before .before .before .before .before .before .before .before .before .before .before .before .before .before .before .before .before .before .before .before .args .p) (c .before .before .before .before .before .before .before .before .before .before .before .before .before .before .before .before .before .before .before .before .before .before .before .before .before .args .d) (c .before .before .before .before .before .before .before .before .before .before .before .before .before .before .before .before .before .before .before .before .before .before .before .before .before .args .list .now) (c .before .before .before .before .before .before .before .before .before .before .before .before .before .before .before .before .before .before .before .before .before .before .before .before .before .args .slots .now) (c .before .before .before .before .before .before .before .before .before .before .prepare .ensures .1 ∙ c .before .before .before .before .before .before .before .before .before .before .before .before .before .before .before .before .before .before .two-color .ensures .keeps .len) (c .before .before .before .before .color-and-give .ensures)
+    worked-plan (c .before .before .before .before .before .before .before .before .before .before .before .before .before .before .before .before .before .before .before .before .before .before .args .p) (c .before .before .before .before .before .before .before .before .before .before .before .before .before .before .before .before .before .before .before .before .before .before .args .d) (c .before .before .before .before .before .before .before .before .before .before .before .before .before .before .before .before .before .before .before .before .before .before .args .list .now) (c .before .before .before .before .before .before .before .before .before .before .before .before .before .before .before .before .before .before .before .before .before .before .args .slots .now) (c .before .before .before .before .before .before .before .before .before .prepare .ensures .1 ∙ c .before .before .before .before .before .before .before .before .before .before .before .before .before .before .before .before .two-sides .ensures .keeps .len) (c .before .before .before .before .color-and-give .ensures)
 
 pub work-out-spec : {M : Type 1} → statement M
 work-out-spec =
     tie.close
     (tie.spec
     returns
-    two-color-requires
+    two-sides-requires
     (λ c. search needs)
     (λ c. search needs)
     (λ c. search needs)
     returns-2
-    (λ c. search needs)
     prepare-requires
     (λ c κs. search needs)
     (λ c. search needs)

@@ -27,42 +27,42 @@ returns c =
     barred-says P l _ _ _ _ (k ∙ ap (λ q. refusal-number q % 4294967296) (told .1)) n
 
 -- src/lib.rt:39:9
-two-color-requires : tie.Need-two-color-requires
-two-color-requires c κs =
-    let l = c .before .before .before .before .before .before .before .before .args .list .now in
-    let P = c .before .before .before .before .before .before .before .before .args .p in
-    let D = c .before .before .before .checked .given .0 .0 in
-    let w = length (c .before .before .before .before .before .before .before .before .args .scratch .now) in
-    let h = sym (c .before .before .before .before .before .check-all .ensures) ∙ c .before .before .before .checked .given .1 in
+two-sides-requires : tie.Need-two-sides-requires
+two-sides-requires c κs =
+    let l = c .before .before .before .before .before .before .before .args .list .now in
+    let P = c .before .before .before .before .before .before .before .args .p in
+    let D = c .before .before .checked .given .0 .0 in
+    let w = length (c .before .before .before .before .before .before .before .args .scratch .now) in
+    let h = sym (c .before .before .before .before .check-all .ensures) ∙ c .before .before .checked .given .1 in
     let ok = checked-passed (checks P l (length l) w) (largest-load P (appts l)) D h in
     let e = checked-figure (checks P l (length l) w) (largest-load P (appts l)) D h in
-    can-color P l (c .before .before .before .before .before .before .before .before .args .scratch .now) (length l) D e ok
+    can-color P l (c .before .before .before .before .before .before .before .args .scratch .now) (length l) D e ok
 
 -- src/lib.rt:43:19
-cast-t16 : tie.Need-cast-t16
-cast-t16 c =
-    let l = c .before .before .before .before .before .before .before .before .before .before .before .before .before .before .args .list .now in
-    let P = c .before .before .before .before .before .before .before .before .before .before .before .before .before .before .args .p in
-    let a : Answers P l 0 (c .before .before .before .before .before .two-color .last .0) (Sides (c .before .colored .given .0 .0)) =
-    rw (c .before .colored .given .1) at (c .before .before .before .before .before .two-color .ensures .answers) in
-    omega (arith, a .0, c .before .before .before .before .before .before .before .before .before .before .before .before .before .before .fits .p)
+cast-t14 : tie.Need-cast-t14
+cast-t14 c =
+    let l = c .before .before .before .before .before .before .before .before .before .before .before .before .before .args .list .now in
+    let P = c .before .before .before .before .before .before .before .before .before .before .before .before .before .args .p in
+    let a : Answers P l 0 (c .before .before .before .before .before .two-sides .last .0) (Sides (c .before .colored .given .0 .0)) =
+    rw (c .before .colored .given .1) at (c .before .before .before .before .before .two-sides .ensures .answers) in
+    omega (arith, a .0, c .before .before .before .before .before .before .before .before .before .before .before .before .before .fits .p)
 
 -- src/lib.rt:29:1
 returns-2 : tie.Need-returns-2
 returns-2 c =
-    let l = c .before .before .before .before .before .before .before .before .before .before .before .before .before .before .args .list .now in
-    let P = c .before .before .before .before .before .before .before .before .before .before .before .before .before .before .args .p in
-    let a : Answers P l 0 (c .before .before .before .before .before .two-color .last .0) (Sides (c .before .colored .given .0 .0)) =
-    rw (c .before .colored .given .1) at (c .before .before .before .before .before .two-color .ensures .answers) in
+    let l = c .before .before .before .before .before .before .before .before .before .before .before .before .before .args .list .now in
+    let P = c .before .before .before .before .before .before .before .before .before .before .before .before .before .args .p in
+    let a : Answers P l 0 (c .before .before .before .before .before .two-sides .last .0) (Sides (c .before .colored .given .0 .0)) =
+    rw (c .before .colored .given .1) at (c .before .before .before .before .before .two-sides .ensures .answers) in
     record { found = λ z. (a .0, rw zero-add at (a .1)); refused = λ z. absurd (omega arith) }
 
 -- src/lib.rt:29:1
 returns-3 : tie.Need-returns-3
 returns-3 c =
-    let l = c .before .before .before .before .before .before .before .before .before .before .before .before .before .args .list .now in
-    let P = c .before .before .before .before .before .before .before .before .before .before .before .before .before .args .p in
-    let a : Answers P l 0 (c .before .before .before .before .two-color .last .0) NotBipartite =
-    rw (c .enum-told2 .given .1) at (c .before .before .before .before .two-color .ensures .answers) in
+    let l = c .before .before .before .before .before .before .before .before .before .before .before .before .args .list .now in
+    let P = c .before .before .before .before .before .before .before .before .before .before .before .before .args .p in
+    let a : Answers P l 0 (c .before .before .before .before .two-sides .last .0) NotBipartite =
+    rw (c .enum-told2 .given .1) at (c .before .before .before .before .two-sides .ensures .answers) in
     record { found = λ z. absurd (omega arith); refused = λ z. a }
 
 pub bimtsure-two-color-spec : {M : Type 1} → statement M
@@ -74,9 +74,9 @@ bimtsure-two-color-spec =
     (λ c. search needs)
     (λ c κs. search needs)
     returns
-    two-color-requires
+    two-sides-requires
     (λ c. search needs)
-    cast-t16
+    cast-t14
     (λ c. search needs)
     (λ c. search needs)
     returns-2

@@ -1,0 +1,2 @@
+-- The definitions that the contracts of the scratch mark cite. Assumes nothing.
+pub mod Taking
