@@ -125,6 +125,15 @@ five-bars false false false (at j) g next n i h = h
 five-bars false false false nowhere (at j) next n i h = h
 five-bars false false false nowhere nowhere next n i h = cc
 
+-- What checks 1 to 5 refuse stays refused, whatever comes after them.
+pub refused-first :
+    (P : ℕ) (list : List ℕ) (next : Check) (n i : ℕ) → checks-1-to-5 P list passed ≡ refused n i →
+    checks-1-to-5 P list next ≡ refused n i
+unfolding checks-1-to-5
+refused-first P list next n i h =
+    five-bars (ltb 1024 P) (eqb (length list % 2) 1) (ltb 4096 (length (appts list)))
+    (first-from 0 has-blank (appts list)) (first-from 0 (has-unlisted P) (appts list)) next n i h
+
 -- checks 6 to 8, once D is known
 abbrev pub checks-6-to-8 : ℕ → List ℕ → ℕ → ℕ → Check
 checks-6-to-8 P list slots scratch =
@@ -135,11 +144,8 @@ checks-6-to-8 P list slots scratch =
 
 module _ (P : ℕ) (list : List ℕ) (slots scratch : ℕ) where
   pub all-refused : (n i : ℕ) → checks-1-to-5 P list passed ≡ refused n i → checks P list slots scratch ≡ refused n i
-  unfolding checks checks-1-to-5
-  all-refused n i h =
-      five-bars (ltb 1024 P) (eqb (length list % 2) 1) (ltb 4096 (length (appts list)))
-      (first-from 0 has-blank (appts list)) (first-from 0 (has-unlisted P) (appts list))
-      (checks-6-to-8 P list slots scratch) n i h
+  unfolding checks
+  all-refused n i h = refused-first P list (checks-6-to-8 P list slots scratch) n i h
 
   pub all-go-on : checks-1-to-5 P list passed ≡ passed → checks P list slots scratch ≡ checks-6-to-8 P list slots scratch
   unfolding checks

@@ -116,3 +116,14 @@ module _ (P : ℕ) (list : List ℕ) (slots scratch n i : ℕ) where
       (λ j t. unlisted-end p e a f (found-is-first (has-unlisted P) (appts list) j t)) λ t₅.
       let l : All (Listed P) (appts list) = all-map (test-listed P) (appts list) (nowhere-all 0 (has-unlisted P) (appts list) t₅) in
       late-cause (record { parties = p; even = e; few = a; filled = f; listed = l })
+
+-- Checks 1 to 8 refuse with their own numbers.
+pub cause-number : {P : ℕ} {list : List ℕ} {slots scratch n i : ℕ} → Cause P list slots scratch n i → (0 < n) × (n ≤ 8)
+cause-number (many-parties h) = omega arith
+cause-number (odd-length p h) = omega arith
+cause-number (many-appts p e h) = omega arith
+cause-number (blank-end p e a h) = omega arith
+cause-number (unlisted-end p e a f h) = omega arith
+cause-number (large-product g h) = omega arith
+cause-number (few-slots g p h) = omega arith
+cause-number (small-scratch g p r h) = omega arith

@@ -1,22 +1,25 @@
--- The words after the rows are filled: each odd entry's two half-edges stand where `Positions` has them, each other's mates.
--- Assumes nothing.
+-- The words after the rings are filled: each party's ring has its half-edges in its pairs' order. Assumes nothing.
 use Prim.Native.Nat.{ℕ, zero, suc, _+_, _*_, _-_, _%_, _≤_, _<_}
 use mathlib.Core.Path.{_≡_, refl, sym, _∙_, ap, subst}
 use mathlib.Core.Bool.{Bool, true, false, not}
-use mathlib.Core.List.{List}
+use mathlib.Core.List.{List, [], _∷_, _++_, map, append-assoc, append-nil}
 use native.Mathlib.Omega.{arith}
-use native.Mathlib.Nat.{mul-le-mul-right, add-zero}
-use native.Mathlib.Decide.{ℕ-discrete}
+use native.Mathlib.Decide.{ℕ-discrete, decLt}
+use borrow.Author.Tests.{eq-eqb, ne-eqb}
+use lib.Dec.{eqb}
 use lib.ListN.{length}
-use Rattle.words.specs.Basics.{is, sum-below}
+use Rattle.words.specs.Basics.{pick, All}
 use Rattle.words.specs.Words.{word, put-word}
 use Rattle.words.specs.Frames.{Keeps}
-use Rattle.words.proofs.Sums.{is-eq, is-ne}
-use Rattle.words.proofs.Frames.{here, away, length-put, keeps-refl, keeps-then-put}
+use Rattle.words.proofs.Sums.{all-append, all-map}
+use Rattle.words.proofs.Frames.{here, away, length-put, keeps-refl, keeps-trans, keeps-then-put}
+use Rattle.multigraph.specs.Multigraph.{Pair, pair}
 use Rattle.euler.specs.declared.Rows.{Rows}
-use Rattle.euler.specs.Model.{copiesM, firstM, secondM, startRowM, startM, rowFirstM, firstsM, linkM, rowSecondM, secondsM, fillM}
+use Rattle.euler.specs.Model.{copiesM, firstM, secondM, startRowM, startM, appendM, rowFirstM, firstsM, rowSecondM, secondsM, fillM}
 use Rattle.euler.proofs.ModelLaws.{first-even, first-odd, second-even, second-odd}
-use Rattle.euler.proofs.Positions.{above, above-top, above-all, above-step, hit, Ends-fit, end, pos, fin, Odd, pos-bound, pos-two, pos-one}
+use Rattle.euler.proofs.Places.{keep, keep-append, keep-all, keep-yes, keep-no}
+use Rattle.euler.proofs.Rings.{after, prior, Chain, chain-same, chain-last, last-node, Joined, chain-joined, chain-beside}
+use Rattle.euler.proofs.Nodes.{Ends-fit, Odd, odds, odd-places, edge, end, nodes, newest, newest-all, newest-are}
 
 -- ── words after several puts ──
 
@@ -29,23 +32,27 @@ pub away3 :
     word (put-word (put-word (put-word s a x) b y) c z) j ≡ word s j
 away3 s a x b y c z j p q r = away (put-word (put-word s a x) b y) c j z r ∙ away2 s a x b y j p q
 
+odd-not-even : (p j : ℕ) → p ≡ 2 * j + 1 → p % 2 ≡ 0 → ⊥
+odd-not-even p j e h = omega arith
+
 -- ── where everything lies ──
 
--- The columns at b, the rows above them, the graph and the table of ends below, for N parties, m entries and k words a column.
+-- The rings at b and the columns above them, the graph and the table of ends below, for N parties, m entries and k words a
+-- column.
 pub record Laid (l : Rows) (N m k : ℕ) (s : List ℕ) : Type 0 where
-  pub place : l .rows ≡ l .b + 8 * k
-  pub room : l .rows + 4 * k ≤ length s
+  pub place : l .top ≡ 4 * k
+  pub column : l .col ≡ l .b + 10 * k
+  pub room : l .b + 12 * k ≤ length s
   pub small : length s ≤ 4294967296
   pub parties : N ≤ k
   pub few : N ≤ 2048
   pub entries : m < k
   pub short : m * 2048 + 2048 ≤ 4294967296
-  pub wide : N * l .width ≤ 2 * k
   pub graph : l .g + 3 + 2 * m ≤ l .b
   pub table : (i : ℕ) → i < m → l .ends + 2 * word s (l .g + 2 + 2 * i) + 1 < l .b
-  pub fit : Ends-fit N m (l .width) (copiesM l s) (firstM l s) (secondM l s)
+  pub fit : Ends-fit N m (firstM l s) (secondM l s)
 
-module _ (l : Rows) (N m k : ℕ) (s₀ : List ℕ) (g : Laid l N m k s₀) where
+module _ (l : Rows) (N m k : ℕ) (s₀ : List ℕ) (g : Laid l N m k s₀) (flag : ℕ → ℕ) where
   abbrev C : ℕ → ℕ
   C i = copiesM l s₀ i
 
@@ -55,19 +62,42 @@ module _ (l : Rows) (N m k : ℕ) (s₀ : List ℕ) (g : Laid l N m k s₀) wher
   abbrev S : ℕ → ℕ
   S i = secondM l s₀ i
 
-  abbrev at : Bool → ℕ → ℕ
-  at d i = pos N m (l .width) C F S d i
+  -- the pair of the rest at a place
+  abbrev pub P : ℕ → Pair
+  P i = pair (F i) (S i) 1 (flag i)
 
   abbrev odd : ℕ → Type 0
-  odd i = Odd N m (l .width) C F S i
+  odd i = Odd m C i
+
+  -- a node: a half-edge, or a party's own
+  abbrev pub Node : ℕ → Type 0
+  Node y = (y < l .top + N) × (y < l .top → y % 2 ≡ 0)
+
+  -- a half-edge
+  abbrev pub Edge : ℕ → Type 0
+  Edge y = (y < l .top) × (y % 2 ≡ 0)
+
+  pub edge-node : (y : ℕ) → Edge y → Node y
+  edge-node y e = (omega (arith, e .0), λ b. e .1)
+
+  pub party-node : (v : ℕ) → v < N → Node (l .top + v)
+  party-node v b = (omega arith, λ c. absurd (omega arith))
+
+  pub edge-is : (d : Bool) (i : ℕ) → i < m → Edge (edge d i)
+  edge-is true i b = (omega (arith, g .place, g .entries), omega arith)
+  edge-is false i b = (omega (arith, g .place, g .entries), omega arith)
+
+  pub end-below : (d : Bool) (i : ℕ) → i < m → end P d i < N
+  end-below true i b = g .fit .first-below i b
+  end-below false i b = g .fit .second-below i b
 
   -- ── the graph as it was ──
 
   pub number-kept : (s : List ℕ) → Keeps (l .b) s₀ s → (i : ℕ) → i < m → word s (l .g + 2 + 2 * i) ≡ word s₀ (l .g + 2 + 2 * i)
-  number-kept s h i b = h .same (l .g + 2 + 2 * i) (omega arith)
+  number-kept s h i b = h .same (l .g + 2 + 2 * i) (omega (arith, g .graph))
 
   pub copies-kept : (s : List ℕ) → Keeps (l .b) s₀ s → (i : ℕ) → i < m → copiesM l s i ≡ C i
-  copies-kept s h i b = h .same (l .g + 3 + 2 * i) (omega arith)
+  copies-kept s h i b = h .same (l .g + 3 + 2 * i) (omega (arith, g .graph))
 
   pub first-kept : (s : List ℕ) → Keeps (l .b) s₀ s → (i : ℕ) → i < m → firstM l s i ≡ F i
   first-kept s h i b =
@@ -79,428 +109,555 @@ module _ (l : Rows) (N m k : ℕ) (s₀ : List ℕ) (g : Laid l N m k s₀) wher
       ap (λ (e : ℕ). word s (l .ends + 2 * e + 1)) (number-kept s h i b)
       ∙ h .same (l .ends + 2 * word s₀ (l .g + 2 + 2 * i) + 1) (g .table i b)
 
-  -- ── empty rows ──
+  -- ── words beside the nodes ──
 
-  record Started (u : ℕ) (s : List ℕ) : Type 0 where
-    keeps : Keeps (l .b) s₀ s
-    cursors : (v : ℕ) → v < u → word s (l .b + 8 * v) ≡ v * l .width
-    ends : (v : ℕ) → v < u → word s (l .b + 8 * v + 1) ≡ v * l .width
+  -- a mark, and an end to which a half-edge leads, are no words of a node
+  pub mark-beside : (p i : ℕ) → Node p → i < k → l .b + 8 * i + 2 ≡ l .b + 2 * p → ⊥
+  mark-beside p i n b e = odd-not-even p (2 * i) (omega arith) (n .1 (omega (arith, g .place)))
 
-  started-more : (u : ℕ) (s : List ℕ) → u < N → Started u s → Started (suc u) (startRowM l s u (u * l .width))
-  started-more u s b h =
-      let len : length s ≡ length s₀ = h .keeps .len in
-      let x : ℕ = u * l .width in
-      let t : List ℕ = put-word s (l .b + 8 * u) x in
-      let under : u ≤ N = omega arith in
-      let small : x < 4294967296 = omega (arith, mul-le-mul-right (l .width) under) in
+  pub lead-beside : (d : Bool) (p i : ℕ) → Node p → i < k → l .b + 2 * edge d i + 3 ≡ l .b + 2 * p + 1 → ⊥
+  lead-beside true p i n b e = odd-not-even p (2 * i) (omega arith) (n .1 (omega (arith, g .place)))
+  lead-beside false p i n b e = odd-not-even p (2 * i + 1) (omega arith) (n .1 (omega (arith, g .place)))
+
+  -- what is written only to nodes' words leaves
+  pub record Aside (s t : List ℕ) : Type 0 where
+    pub keeps : Keeps (l .b) s t
+    pub marks : (i : ℕ) → i < k → word t (l .b + 8 * i + 2) ≡ word s (l .b + 8 * i + 2)
+    pub leads : (d : Bool) (i : ℕ) → i < k → word t (l .b + 2 * edge d i + 3) ≡ word s (l .b + 2 * edge d i + 3)
+    pub high : (a : ℕ) → l .b + 10 * k ≤ a → word t a ≡ word s a
+
+  -- one word of a node written
+  aside-after : (s : List ℕ) (y x : ℕ) → Node y → Aside s (put-word s (l .b + 2 * y) x)
+  aside-after s y x n =
       record {
-        keeps = keeps-then-put (l .b + 8 * u + 1) x (omega arith) (keeps-then-put (l .b + 8 * u) x (omega arith) (h .keeps));
-        cursors = λ v c.
-            elim (ℕ-discrete v u) [
-              | yes e ↦ rw e (away t (l .b + 8 * u + 1) (l .b + 8 * u) x (λ q. omega arith) ∙ here s (l .b + 8 * u) x (omega arith) small)
-              | no n ↦ away2 s (l .b + 8 * u) x (l .b + 8 * u + 1) x (l .b + 8 * v) (λ q. n (omega arith)) (λ q. omega arith) ∙ h .cursors v (omega arith)
-            ];
-        ends = λ v c.
-            elim (ℕ-discrete v u) [
-              | yes e ↦ rw e (here t (l .b + 8 * u + 1) x (omega (arith, length-put s (l .b + 8 * u) x)) small)
-              | no n ↦ away2 s (l .b + 8 * u) x (l .b + 8 * u + 1) x (l .b + 8 * v + 1) (λ q. omega arith) (λ q. n (omega arith)) ∙ h .ends v (omega arith)
-            ];
+        keeps = keeps-then-put (l .b + 2 * y) x (omega arith) (keeps-refl (l .b) s);
+        marks = λ i b. away s (l .b + 2 * y) (l .b + 8 * i + 2) x (mark-beside y i n b);
+        leads = λ d i b. away s (l .b + 2 * y) (l .b + 2 * edge d i + 3) x (λ e. omega arith);
+        high = λ a b. away s (l .b + 2 * y) a x (λ e. omega (arith, n .0, g .place, g .parties));
       }
 
-  started : (u : ℕ) → u ≤ N → Started u (startM l u s₀)
+  aside-prior : (s : List ℕ) (y x : ℕ) → Node y → Aside s (put-word s (l .b + 2 * y + 1) x)
+  aside-prior s y x n =
+      record {
+        keeps = keeps-then-put (l .b + 2 * y + 1) x (omega arith) (keeps-refl (l .b) s);
+        marks = λ i b. away s (l .b + 2 * y + 1) (l .b + 8 * i + 2) x (λ e. omega arith);
+        leads = λ d i b. away s (l .b + 2 * y + 1) (l .b + 2 * edge d i + 3) x (lead-beside d y i n b);
+        high = λ a b. away s (l .b + 2 * y + 1) a x (λ e. omega (arith, n .0, g .place, g .parties));
+      }
+
+  pub aside-trans : (s t u : List ℕ) → Aside s t → Aside t u → Aside s u
+  aside-trans s t u x y =
+      record {
+        keeps = keeps-trans (x .keeps) (y .keeps);
+        marks = λ i b. y .marks i b ∙ x .marks i b;
+        leads = λ d i b. y .leads d i b ∙ x .leads d i b;
+        high = λ a b. y .high a b ∙ x .high a b;
+      }
+
+  pub aside-two :
+      (s : List ℕ) (p q x y : ℕ) → Node p → Node q → Aside s (put-word (put-word s (l .b + 2 * p) x) (l .b + 2 * q + 1) y)
+  aside-two s p q x y a b =
+      let t : List ℕ = put-word s (l .b + 2 * p) x in
+      aside-trans s t (put-word t (l .b + 2 * q + 1) y) (aside-after s p x a) (aside-prior t q y b)
+
+  -- nodes' words as they were
+  pub record Same-nodes (s t : List ℕ) : Type 0 where
+    pub keeps : Keeps (l .b) s t
+    pub afters : (y : ℕ) → Node y → after (l .b) t y ≡ after (l .b) s y
+    pub priors : (y : ℕ) → Node y → prior (l .b) t y ≡ prior (l .b) s y
+
+  pub same-mark : (s : List ℕ) (i x : ℕ) → i < k → Same-nodes s (put-word s (l .b + 8 * i + 2) x)
+  same-mark s i x b =
+      record {
+        keeps = keeps-then-put (l .b + 8 * i + 2) x (omega arith) (keeps-refl (l .b) s);
+        afters = λ y n. away s (l .b + 8 * i + 2) (l .b + 2 * y) x (λ e. mark-beside y i n b (sym e));
+        priors = λ y n. away s (l .b + 8 * i + 2) (l .b + 2 * y + 1) x (λ e. omega arith);
+      }
+
+  same-lead : (s : List ℕ) (d : Bool) (i x : ℕ) → i < k → Same-nodes s (put-word s (l .b + 2 * edge d i + 3) x)
+  same-lead s d i x b =
+      record {
+        keeps = keeps-then-put (l .b + 2 * edge d i + 3) x (omega arith) (keeps-refl (l .b) s);
+        afters = λ y n. away s (l .b + 2 * edge d i + 3) (l .b + 2 * y) x (λ e. omega arith);
+        priors = λ y n. away s (l .b + 2 * edge d i + 3) (l .b + 2 * y + 1) x (λ e. lead-beside d y i n b (sym e));
+      }
+
+  pub same-high : (s : List ℕ) (a x : ℕ) → l .b + 10 * k ≤ a → Same-nodes s (put-word s a x)
+  same-high s a x b =
+      record {
+        keeps = keeps-then-put a x (omega arith) (keeps-refl (l .b) s);
+        afters = λ y n. away s a (l .b + 2 * y) x (λ e. omega (arith, n .0, g .place, g .parties));
+        priors = λ y n. away s a (l .b + 2 * y + 1) x (λ e. omega (arith, n .0, g .place, g .parties));
+      }
+
+  pub same-trans : (s t u : List ℕ) → Same-nodes s t → Same-nodes t u → Same-nodes s u
+  same-trans s t u x y =
+      record {
+        keeps = keeps-trans (x .keeps) (y .keeps);
+        afters = λ z n. y .afters z n ∙ x .afters z n;
+        priors = λ z n. y .priors z n ∙ x .priors z n;
+      }
+
+  -- ── rings ──
+
+  -- the ring of each party v has the half-edges R v
+  pub record Ringed (R : ℕ → List ℕ) (s : List ℕ) : Type 0 where
+    pub keeps : Keeps (l .b) s₀ s
+    pub rings : (v : ℕ) → v < N → Chain (l .b) s (l .top + v) (R v) (l .top + v)
+    pub edges : (v : ℕ) → v < N → All Edge (R v)
+
+  pub ringed-same : (R : ℕ → List ℕ) (s t : List ℕ) → Same-nodes s t → Ringed R s → Ringed R t
+  ringed-same R s t q h =
+      record {
+        keeps = keeps-trans (h .keeps) (q .keeps);
+        rings = λ v b.
+            chain-same (l .b) Node s t (q .afters) (q .priors) (l .top + v) (R v) (l .top + v) (party-node v b)
+            (all-map edge-node (R v) (h .edges v b)) (party-node v b) (h .rings v b);
+        edges = h .edges;
+      }
+
+  -- ── a half-edge put in last ──
+
+  module _ (s : List ℕ) (len : length s ≡ length s₀) (v x p : ℕ) (vb : v < N) (xe : Edge x) (pn : Node p) (n : x ≡ p → ⊥) (at : prior (l .b) s (l .top + v) ≡ p) where
+    abbrev z : ℕ
+    z = l .top + v
+
+    abbrev s₁ : List ℕ
+    s₁ = put-word s (l .b + 2 * p) x
+
+    abbrev s₂ : List ℕ
+    s₂ = put-word s₁ (l .b + 2 * x + 1) p
+
+    abbrev s₃ : List ℕ
+    s₃ = put-word s₂ (l .b + 2 * x) z
+
+    abbrev s₄ : List ℕ
+    s₄ = put-word s₃ (l .b + 2 * z + 1) x
+
+    appended : appendM l s v x ≡ s₄
+    unfolding appendM
+    appended = rw at
+
+    passed : (a : ℕ) → (a ≡ l .b + 2 * p → ⊥) → (a ≡ l .b + 2 * x + 1 → ⊥) → (a ≡ l .b + 2 * x → ⊥) → (a ≡ l .b + 2 * z + 1 → ⊥) → word s₄ a ≡ word s a
+    passed a n₁ n₂ n₃ n₄ =
+        away s₃ (l .b + 2 * z + 1) a x n₄ ∙ away3 s (l .b + 2 * p) x (l .b + 2 * x + 1) p (l .b + 2 * x) z a n₁ n₂ n₃
+
+    joined : after (l .b) s p ≡ z → Joined (l .b) x z s s₄
+    joined from =
+        let e₁ : length s₁ ≡ length s = length-put s (l .b + 2 * p) x in
+        let e₂ : length s₂ ≡ length s₁ = length-put s₁ (l .b + 2 * x + 1) p in
+        let e₃ : length s₃ ≡ length s₂ = length-put s₂ (l .b + 2 * x) z in
+        let top : l .top ≡ 4 * k = g .place in
+        let room : l .b + 12 * k ≤ length s = omega (arith, g .room) in
+        let few : length s ≤ 4294967296 = omega (arith, g .small) in
+        let nk : N ≤ k = g .parties in
+        let xb : x < l .top = xe .0 in
+        let pb : p < l .top + N = pn .0 in
+        record {
+          from = rw at from;
+          on =
+              rw at
+              (away3 s₁ (l .b + 2 * x + 1) p (l .b + 2 * x) z (l .b + 2 * z + 1) x (l .b + 2 * p)
+              (λ e. omega arith) (λ e. n (omega arith)) (λ e. omega arith)
+              ∙ here s (l .b + 2 * p) x (omega arith) (omega arith));
+          back =
+              away2 s₂ (l .b + 2 * x) z (l .b + 2 * z + 1) x (l .b + 2 * x + 1) (λ e. omega arith) (λ e. omega arith)
+              ∙ here s₁ (l .b + 2 * x + 1) p (omega arith) (omega arith)
+              ∙ sym at;
+          last =
+              away s₃ (l .b + 2 * z + 1) (l .b + 2 * x) x (λ e. omega arith)
+              ∙ here s₂ (l .b + 2 * x) z (omega arith) (omega arith);
+          newest = here s₃ (l .b + 2 * z + 1) x (omega arith) (omega arith);
+          afters = λ y a c.
+              passed (l .b + 2 * y) (λ e. a (omega (arith, at))) (λ e. omega arith) (λ e. c (omega arith)) (λ e. omega arith);
+          priors = λ y a c.
+              passed (l .b + 2 * y + 1) (λ e. omega arith) (λ e. a (omega arith)) (λ e. omega arith) (λ e. c (omega arith));
+        }
+
+    aside-joined : Aside s s₄
+    aside-joined =
+        aside-trans s s₂ s₄ (aside-two s p x x p pn (edge-node x xe)) (aside-two s₂ x z z x (edge-node x xe) (party-node v vb))
+
+  -- x, in no ring yet, becomes the last of the ring of v
+  ringed-more :
+      (R T : ℕ → List ℕ) (s : List ℕ) (v x : ℕ) → v < N → Edge x → Ringed R s →
+      ((u : ℕ) → u < N → All (λ (y : ℕ). x ≡ y → ⊥) (R u)) → T v ≡ R v ++ (x ∷ []) →
+      ((u : ℕ) → u < N → (u ≡ v → ⊥) → T u ≡ R u) → Ringed T (appendM l s v x) × Aside s (appendM l s v x)
+  ringed-more R T s v x b xe h fresh own other =
+      let z : ℕ = l .top + v in
+      let p : ℕ = prior (l .b) s z in
+      let len : length s ≡ length s₀ = h .keeps .len in
+      let off : x ≡ z → ⊥ = λ e. omega (arith, xe .0) in
+      let pn : Node p = last-node (l .b) Node s z (R v) z (party-node v b) (all-map edge-node (R v) (h .edges v b)) (h .rings v b) in
+      let n : x ≡ p → ⊥ = last-node (l .b) (λ y. x ≡ y → ⊥) s z (R v) z off (fresh v b) (h .rings v b) in
+      let t : List ℕ = s₄ s len v x p b xe pn n refl in
+      let j : Joined (l .b) x z s t = joined s len v x p b xe pn n refl (chain-last (l .b) s z (R v) z (h .rings v b)) in
+      let a : Aside s t = aside-joined s len v x p b xe pn n refl in
+      let r : Ringed T t =
+      record {
+        keeps = keeps-trans (h .keeps) (a .keeps);
+        rings = λ u c.
+            elim (ℕ-discrete u v) [
+              | yes e ↦
+                  subst (λ (w : ℕ). Chain (l .b) t (l .top + w) (T w) (l .top + w)) (sym e)
+                  (subst (λ (ys : List ℕ). Chain (l .b) t z ys z) (sym own)
+                  (chain-joined (l .b) x z s t j z (R v) off (fresh v b) (parties-out v (R v) (h .edges v b)) (h .rings v b)))
+              | no q ↦
+                  subst (λ (ys : List ℕ). Chain (l .b) t (l .top + u) ys (l .top + u)) (sym (other u c q))
+                  (chain-beside (l .b) x z s t j (l .top + u) (R u) (l .top + u) (λ e. omega (arith, xe .0)) (λ e. omega (arith, xe .0))
+                  (λ e. q (omega arith)) (fresh u c) (parties-out v (R u) (h .edges u c)) (h .rings u c))
+            ];
+        edges = λ u c.
+            elim (ℕ-discrete u v) [
+              | yes e ↦
+                  subst (λ (w : ℕ). All Edge (T w)) (sym e)
+                  (subst (All Edge) (sym own) (all-append Edge (R v) (x ∷ []) (h .edges v b) (xe, tt)))
+              | no q ↦ subst (All Edge) (sym (other u c q)) (h .edges u c)
+            ];
+      } in
+      let e : appendM l s v x ≡ t = appended s len v x p b xe pn n refl in
+      subst (λ (w : List ℕ). Ringed T w × Aside s w) (sym e) (r, a)
+    where
+      parties-out : (v : ℕ) (ys : List ℕ) → All Edge ys → All (λ (y : ℕ). l .top + v ≡ y → ⊥) ys
+      parties-out v ys a = all-map (λ y c e. omega (arith, c .0)) ys a
+
+  -- ── empty rings ──
+
+  started-more :
+      (u : ℕ) (s : List ℕ) → u < N → length s ≡ length s₀ →
+      ((v : ℕ) → v < u → Chain (l .b) s (l .top + v) [] (l .top + v)) → (v : ℕ) → v < suc u →
+      Chain (l .b) (startRowM l s u) (l .top + v) [] (l .top + v)
+  started-more u s b len h v c =
+      let z : ℕ = l .top + u in
+      let t : List ℕ = put-word s (l .b + 2 * z) z in
+      let lt : length t ≡ length s = length-put s (l .b + 2 * z) z in
+      let top : l .top ≡ 4 * k = g .place in
+      let nk : N ≤ k = g .parties in
+      let room : l .b + 12 * k ≤ length s = omega (arith, g .room) in
+      let few : length s ≤ 4294967296 = omega (arith, g .small) in
+      elim (ℕ-discrete v u) [
+        | yes e ↦
+            rw e (
+              away t (l .b + 2 * z + 1) (l .b + 2 * z) z (λ q. omega arith) ∙ here s (l .b + 2 * z) z (omega arith) (omega arith),
+              here t (l .b + 2 * z + 1) z (omega arith) (omega arith),
+            )
+        | no n ↦
+            let old : Chain (l .b) s (l .top + v) [] (l .top + v) = h v (omega arith) in (
+              away2 s (l .b + 2 * z) z (l .b + 2 * z + 1) z (l .b + 2 * (l .top + v)) (λ q. n (omega arith)) (λ q. omega arith) ∙ old .0,
+              away2 s (l .b + 2 * z) z (l .b + 2 * z + 1) z (l .b + 2 * (l .top + v) + 1) (λ q. omega arith) (λ q. n (omega arith)) ∙ old .1,
+            )
+      ]
+
+  started :
+      (u : ℕ) → u ≤ N →
+      Keeps (l .b) s₀ (startM l u s₀) × ((v : ℕ) → v < u → Chain (l .b) (startM l u s₀) (l .top + v) [] (l .top + v))
   unfolding startM
-  started zero b =
-      record { keeps = keeps-refl (l .b) s₀; cursors = λ v c. absurd (omega arith); ends = λ v c. absurd (omega arith) }
-  started (suc u) b = started-more u (startM l u s₀) (omega arith) (started u (omega arith))
+  started zero b = (keeps-refl (l .b) s₀, λ v c. absurd (omega arith))
+  started (suc u) b =
+      let r = started u (omega arith) in (
+        keeps-then-put (l .b + 2 * (l .top + u) + 1) (l .top + u) (omega arith)
+            (keeps-then-put (l .b + 2 * (l .top + u)) (l .top + u) (omega arith) (r .0)),
+        started-more u (startM l u s₀) (omega arith) (r .0 .len) (r .1),
+      )
+
+  -- ── from the newest entry down ──
+
+  -- the half-edges at v, on one side, of the odd ones of some entries
+  abbrev part : Bool → ℕ → List ℕ → List ℕ
+  part d v xs = map (edge d) (keep (λ i. eqb v (end P d i)) (odds C xs))
+
+  map-append : (d : Bool) (xs ys : List ℕ) → map (edge d) (xs ++ ys) ≡ map (edge d) xs ++ map (edge d) ys
+  map-append d [] ys = refl
+  map-append d (x ∷ xs) ys = ap (λ (zs : List ℕ). edge d x ∷ zs) (map-append d xs ys)
+
+  part-append : (d : Bool) (v : ℕ) (xs ys : List ℕ) → part d v (xs ++ ys) ≡ part d v xs ++ part d v ys
+  part-append d v xs ys =
+      ap (λ (zs : List ℕ). map (edge d) (keep (λ i. eqb v (end P d i)) zs)) (keep-append (λ i. eqb (C i % 2) 1) xs ys)
+      ∙ ap (map (edge d)) (keep-append (λ i. eqb v (end P d i)) (odds C xs) (odds C ys))
+      ∙ map-append d (keep (λ i. eqb v (end P d i)) (odds C xs)) (keep (λ i. eqb v (end P d i)) (odds C ys))
+
+  part-own : (d : Bool) (v i : ℕ) → C i % 2 ≡ 1 → end P d i ≡ v → part d v (i ∷ []) ≡ edge d i ∷ []
+  unfolding keep
+  part-own d v i o e = rw (eq-eqb (C i % 2) 1 o, eq-eqb v (end P d i) (sym e))
+
+  part-other : (d : Bool) (v i : ℕ) → (v ≡ end P d i → ⊥) → part d v (i ∷ []) ≡ []
+  unfolding keep
+  part-other d v i n =
+      elim (ℕ-discrete (C i % 2) 1) [
+        | yes o ↦ rw (eq-eqb (C i % 2) 1 o, ne-eqb v (end P d i) n)
+        | no q ↦ rw (ne-eqb (C i % 2) 1 q)
+      ]
+
+  part-even : (d : Bool) (v i : ℕ) → C i % 2 ≡ 0 → part d v (i ∷ []) ≡ []
+  unfolding keep
+  part-even d v i z = rw (ne-eqb (C i % 2) 1 (λ o. omega arith))
+
+  -- a half-edge of an older entry is not among them
+  part-fresh : (d : Bool) (v i : ℕ) (xs : List ℕ) → All (λ (y : ℕ). i < y) xs → All (λ (y : ℕ). edge d i ≡ y → ⊥) (part d v xs)
+  part-fresh d v i xs h =
+      over d (keep (λ j. eqb v (end P d j)) (odds C xs))
+      (keep-all (λ y. i < y) (λ j. eqb v (end P d j)) (odds C xs) (keep-all (λ y. i < y) (λ j. eqb (C j % 2) 1) xs h))
+    where
+      over : (d : Bool) (ys : List ℕ) → All (λ (y : ℕ). i < y) ys → All (λ (y : ℕ). edge d i ≡ y → ⊥) (map (edge d) ys)
+      over d [] a = tt
+      over true (y ∷ ys) a = ((λ e. omega arith), over true ys (a .1))
+      over false (y ∷ ys) a = ((λ e. omega arith), over false ys (a .1))
+
+  -- After the j newest entries on one side: each ring has what it had before and then their half-edges.
+  record Side (d : Bool) (pre : ℕ → List ℕ) (j : ℕ) (s : List ℕ) : Type 0 where
+    rung : Ringed (λ v. pre v ++ part d v (newest m j)) s
+    leads : (i : ℕ) → m - j ≤ i → odd i → word s (l .b + 2 * edge (not d) i + 3) ≡ end P d i
+
+  side-more : (d : Bool) (pre : ℕ → List ℕ) (j v : ℕ) (ys : List ℕ) → part d v ((m - 1 - j) ∷ []) ≡ ys → pre v ++ part d v (newest m (suc j)) ≡ (pre v ++ part d v (newest m j)) ++ ys
+  unfolding newest
+  side-more d pre j v ys e =
+      ap (λ (zs : List ℕ). pre v ++ zs) (part-append d v (newest m j) ((m - 1 - j) ∷ []) ∙ ap (λ (zs : List ℕ). part d v (newest m j) ++ zs) e)
+      ∙ sym (append-assoc (pre v) (part d v (newest m j)) ys)
+
+  side-even :
+      (d : Bool) (pre : ℕ → List ℕ) (j : ℕ) (s : List ℕ) → j < m → C (m - 1 - j) % 2 ≡ 0 → Side d pre j s → Side d pre (suc j) s
+  side-even d pre j s b z h =
+      record {
+        rung =
+            record {
+              keeps = h .rung .keeps;
+              rings = λ v c. subst (λ (ys : List ℕ). Chain (l .b) s (l .top + v) ys (l .top + v)) (sym (same v)) (h .rung .rings v c);
+              edges = λ v c. subst (All Edge) (sym (same v)) (h .rung .edges v c);
+            };
+        leads = λ i c o.
+            elim (ℕ-discrete i (m - 1 - j)) [
+              | yes e ↦ absurd (omega (arith, o .odd, ap (λ (y : ℕ). C y % 2) e))
+              | no n ↦ h .leads i (omega arith) o
+            ];
+      }
+    where
+      same : (v : ℕ) → pre v ++ part d v (newest m (suc j)) ≡ pre v ++ part d v (newest m j)
+      same v = side-more d pre j v [] (part-even d v (m - 1 - j) z) ∙ append-nil (pre v ++ part d v (newest m j))
+
+  -- the words after one odd entry
+  abbrev put-side : Bool → List ℕ → ℕ → List ℕ
+  put-side d s i = appendM l (put-word s (l .b + 2 * edge (not d) i + 3) (end P d i)) (end P d i) (edge d i)
+
+  side-odd :
+      (d : Bool) (pre : ℕ → List ℕ) (j : ℕ) (s : List ℕ) → j < m → odd (m - 1 - j) →
+      ((v : ℕ) → v < N → All (λ (y : ℕ). edge d (m - 1 - j) ≡ y → ⊥) (pre v)) → Side d pre j s →
+      Side d pre (suc j) (put-side d s (m - 1 - j))
+      × Aside (put-word s (l .b + 2 * edge (not d) (m - 1 - j) + 3) (end P d (m - 1 - j))) (put-side d s (m - 1 - j))
+  side-odd d pre j s b o fresh h =
+      let i : ℕ = m - 1 - j in
+      let ib : i < m = o .below in
+      let ik : i < k = omega (arith, g .entries) in
+      let v : ℕ = end P d i in
+      let vb : v < N = end-below d i ib in
+      let a : ℕ = l .b + 2 * edge (not d) i + 3 in
+      let t : List ℕ = put-word s a v in
+      let len : length s ≡ length s₀ = h .rung .keeps .len in
+      let R : ℕ → List ℕ = λ u. pre u ++ part d u (newest m j) in
+      let T : ℕ → List ℕ = λ u. pre u ++ part d u (newest m (suc j)) in
+      let low : l .b + 2 * edge (not d) i + 3 < length s = lead-low (not d) i ik len in
+      let r : Ringed T (appendM l t v (edge d i)) × Aside t (appendM l t v (edge d i)) =
+      ringed-more R T t v (edge d i) vb (edge-is d i ib) (ringed-same R s t (same-lead s (not d) i v ik) (h .rung))
+      (λ u c.
+      all-append (λ y. edge d i ≡ y → ⊥) (pre u) (part d u (newest m j)) (fresh u c)
+      (part-fresh d u i (newest m j) (all-map (λ y q. omega (arith, q .0)) (newest m j) (newest-are m j (omega arith)))))
+      (side-more d pre j v (edge d i ∷ []) (part-own d v i (o .odd) refl))
+      (λ u c n. side-more d pre j u [] (part-other d u i n) ∙ append-nil (pre u ++ part d u (newest m j))) in (
+        record {
+          rung = r .0;
+          leads = λ y c p.
+              let yb : y < m = p .below in
+              r .1 .leads (not d) y (omega (arith, g .entries))
+              ∙ elim (ℕ-discrete y i) [
+                | yes e ↦
+                    ap (λ (w : ℕ). word t (l .b + 2 * edge (not d) w + 3)) e
+                    ∙ here s a v low (omega (arith, g .few))
+                    ∙ ap (end P d) (sym e)
+                | no n ↦
+                    away s a (l .b + 2 * edge (not d) y + 3) v (λ e. n (one (not d) y i e)) ∙ h .leads y (omega arith) p
+              ];
+        },
+        r .1,
+      )
+    where
+      lead-low : (d : Bool) (i : ℕ) → i < k → length s ≡ length s₀ → l .b + 2 * edge d i + 3 < length s
+      lead-low true i b e = omega (arith, g .room)
+      lead-low false i b e = omega (arith, g .room)
+
+      one : (d : Bool) (y i : ℕ) → l .b + 2 * edge d y + 3 ≡ l .b + 2 * edge d i + 3 → y ≡ i
+      one true y i e = omega arith
+      one false y i e = omega arith
+
+  side-none : (d : Bool) (pre : ℕ → List ℕ) (s : List ℕ) → Ringed pre s → Side d pre 0 s
+  unfolding newest keep
+  side-none d pre s h =
+      record {
+        rung =
+            record {
+              keeps = h .keeps;
+              rings = λ v c.
+                  subst (λ (ys : List ℕ). Chain (l .b) s (l .top + v) ys (l .top + v)) (sym (append-nil (pre v))) (h .rings v c);
+              edges = λ v c. subst (All Edge) (sym (append-nil (pre v))) (h .edges v c);
+            };
+        leads = λ i c o. absurd (omega (arith, o .below));
+      }
 
   -- ── first ends ──
 
-  -- after the entries from j up
   record Firsts (j : ℕ) (s : List ℕ) : Type 0 where
-    keeps : Keeps (l .b) s₀ s
-    cursors : (v : ℕ) → v < N → word s (l .b + 8 * v) ≡ v * l .width
-    ends : (v : ℕ) → v < N → word s (l .b + 8 * v + 1) ≡ v * l .width + above (hit C F v) m j
-    marks : (i : ℕ) → j ≤ i → i < m → word s (l .b + 8 * i + 2) ≡ 0
-    halves : (i : ℕ) → j ≤ i → odd i → word s (l .b + 8 * i + 5) ≡ at true i
+    side : Side true (λ v. []) j s
+    marks : (i : ℕ) → m - j ≤ i → i < m → word s (l .b + 8 * i + 2) ≡ 0
 
-  hit-even : (E : ℕ → ℕ) (v i : ℕ) → C i % 2 ≡ 0 → hit C E v i ≡ 0
-  hit-even E v i z = rw z (omega arith)
+  -- the mark cleared
+  marked : (j : ℕ) (s : List ℕ) → j < m → Firsts j s → Side true (λ v. []) j (put-word s (l .b + 8 * (m - 1 - j) + 2) 0) × ((i : ℕ) → m - suc j ≤ i → i < m → word (put-word s (l .b + 8 * (m - 1 - j) + 2) 0) (l .b + 8 * i + 2) ≡ 0)
+  marked j s b h =
+      let i : ℕ = m - 1 - j in
+      let ik : i < k = omega (arith, g .entries) in
+      let len : length s ≡ length s₀ = h .side .rung .keeps .len in
+      let t : List ℕ = put-word s (l .b + 8 * i + 2) 0 in (
+        record {
+          rung = ringed-same (λ v. [] ++ part true v (newest m j)) s t (same-mark s i 0 ik) (h .side .rung);
+          leads = λ y c o. away s (l .b + 8 * i + 2) (l .b + 2 * edge false y + 3) 0 (λ e. omega arith) ∙ h .side .leads y c o;
+        },
+        λ y c q.
+            elim (ℕ-discrete y i) [
+              | yes e ↦ rw e (here s (l .b + 8 * i + 2) 0 (omega (arith, g .room)) (omega arith))
+              | no n ↦ away s (l .b + 8 * i + 2) (l .b + 8 * y + 2) 0 (λ e. n (omega arith)) ∙ h .marks y (omega arith) q
+            ],
+      )
 
-  firsts-even : (i : ℕ) (s : List ℕ) → i < m → C i % 2 ≡ 0 → Firsts (suc i) s → Firsts i (put-word s (l .b + 8 * i + 2) 0)
-  firsts-even i s b z h =
-      let len : length s ≡ length s₀ = h .keeps .len in
-      record {
-        keeps = keeps-then-put (l .b + 8 * i + 2) 0 (omega arith) (h .keeps);
-        cursors = λ v c. away s (l .b + 8 * i + 2) (l .b + 8 * v) 0 (λ q. omega arith) ∙ h .cursors v c;
-        ends = λ v c.
-            away s (l .b + 8 * i + 2) (l .b + 8 * v + 1) 0 (λ q. omega arith)
-            ∙ omega (arith, h .ends v c, above-step (hit C F v) m i b, hit-even F v i z);
-        marks = λ u c d.
-            elim (ℕ-discrete u i) [
-              | yes e ↦ rw e (here s (l .b + 8 * i + 2) 0 (omega arith) (omega arith))
-              | no n ↦ away s (l .b + 8 * i + 2) (l .b + 8 * u + 2) 0 (λ q. n (omega arith)) ∙ h .marks u (omega arith) d
-            ];
-        halves = λ u c o.
-            away s (l .b + 8 * i + 2) (l .b + 8 * u + 5) 0 (λ q. omega arith)
-            ∙ elim (ℕ-discrete u i) [
-              | yes e ↦ absurd (omega (arith, o .odd, ap (λ (x : ℕ). C x % 2) e))
-              | no n ↦ h .halves u (omega arith) o
-            ];
-      }
-
-  -- the value put fits a word
-  at-small : (d : Bool) (i : ℕ) → odd i → at d i + 1 < 4294967296
-  at-small d i o = omega (arith, pos-bound N m (l .width) C F S (g .fit) d i o)
-
-  -- the end of v's row moves on by 1 where the entry has v as this end
-  hit-odd : (E : ℕ → ℕ) (v i : ℕ) → odd i → hit C E v i ≡ is v (E i)
-  hit-odd E v i o = rw (o .odd) (omega arith)
-
-  own-first : (i : ℕ) → odd i → at true i + 1 ≡ F i * l .width + above (hit C F (F i)) m i
-  unfolding pos
-  own-first i o = omega (arith, above-step (hit C F (F i)) m i (o .below), hit-odd F (F i) i o, is-eq {u = F i} refl)
-
-  abbrev put-first : List ℕ → ℕ → List ℕ
-  put-first s i =
-      put-word (put-word (put-word s (l .b + 8 * i + 2) 0) (l .b + 8 * F i + 1) (at true i + 1)) (l .b + 8 * i + 5) (at true i)
-
-  firsts-odd : (i : ℕ) (s : List ℕ) → odd i → Firsts (suc i) s → Firsts i (put-first s i)
-  firsts-odd i s o h =
-      let len : length s ≡ length s₀ = h .keeps .len in
-      let x : ℕ = at true i in
-      let a₁ : ℕ = l .b + 8 * i + 2 in
-      let a₂ : ℕ = l .b + 8 * F i + 1 in
-      let a₃ : ℕ = l .b + 8 * i + 5 in
-      let s₁ : List ℕ = put-word s a₁ 0 in
-      let s₂ : List ℕ = put-word s₁ a₂ (x + 1) in
-      let fb : F i < N = g .fit .first-below i (o .below) in
-      let ib : i < m = o .below in
-      let len₁ : length s₁ ≡ length s = length-put s a₁ 0 in
-      let len₂ : length s₂ ≡ length s₁ = length-put s₁ a₂ (x + 1) in
-      record {
-        keeps =
-            keeps-then-put a₃ x (omega arith)
-            (keeps-then-put a₂ (x + 1) (omega arith) (keeps-then-put a₁ 0 (omega arith) (h .keeps)));
-        cursors = λ v c.
-            away3 s a₁ 0 a₂ (x + 1) a₃ x (l .b + 8 * v) (λ q. omega arith) (λ q. omega arith) (λ q. omega arith) ∙ h .cursors v c;
-        ends = λ v c.
-            elim (ℕ-discrete v (F i)) [
-              | yes e ↦
-                  rw e
-                  (away s₂ a₃ a₂ x (λ q. omega arith) ∙ here s₁ a₂ (x + 1) (omega arith) (at-small true i o)
-                  ∙ own-first i o)
-              | no n ↦
-                  away3 s a₁ 0 a₂ (x + 1) a₃ x (l .b + 8 * v + 1) (λ q. omega arith) (λ q. n (omega arith)) (λ q. omega arith)
-                  ∙ omega (arith, h .ends v c, above-step (hit C F v) m i ib, hit-odd F v i o, is-ne {u = v} {v = F i} n)
-            ];
-        marks = λ u c d.
-            elim (ℕ-discrete u i) [
-              | yes e ↦
-                  rw e
-                  (away2 s₁ a₂ (x + 1) a₃ x a₁ (λ q. omega arith) (λ q. omega arith) ∙ here s a₁ 0 (omega arith) (omega arith))
-              | no n ↦
-                  away3 s a₁ 0 a₂ (x + 1) a₃ x (l .b + 8 * u + 2) (λ q. n (omega arith)) (λ q. omega arith) (λ q. omega arith)
-                  ∙ h .marks u (omega arith) d
-            ];
-        halves = λ u c p.
-            elim (ℕ-discrete u i) [
-              | yes e ↦ rw e (here s₂ a₃ x (omega arith) (omega (arith, at-small true i o)))
-              | no n ↦
-                  away3 s a₁ 0 a₂ (x + 1) a₃ x (l .b + 8 * u + 5) (λ q. omega arith) (λ q. omega arith) (λ q. n (omega arith))
-                  ∙ h .halves u (omega arith) p
-            ];
-      }
-
-  -- the row's end before, at the entry's first end, is where its half-edge comes to stand
-  stands-first : (i : ℕ) (s : List ℕ) → i < m → Firsts (suc i) s → word s (l .b + 8 * F i + 1) ≡ at true i
-  unfolding pos
-  stands-first i s b h = h .ends (F i) (g .fit .first-below i b)
-
-  firsts-step : (i : ℕ) (s : List ℕ) → i < m → Firsts (suc i) s → Firsts i (rowFirstM l s i)
-  firsts-step i s b h =
-      let c : copiesM l s i ≡ C i = copies-kept s (h .keeps) i b in
-      let f : firstM l s i ≡ F i = first-kept s (h .keeps) i b in
+  firsts-step : (j : ℕ) (s : List ℕ) → j < m → Firsts j s → Firsts (suc j) (rowFirstM l s (m - 1 - j))
+  firsts-step j s b h =
+      let i : ℕ = m - 1 - j in
+      let ib : i < m = omega arith in
+      let kept : Keeps (l .b) s₀ s = h .side .rung .keeps in
+      let c : copiesM l s i ≡ C i = copies-kept s kept i ib in
+      let f : firstM l s i ≡ F i = first-kept s kept i ib in
+      let t : List ℕ = put-word s (l .b + 8 * i + 2) 0 in
+      let q = marked j s b h in
       elim (ℕ-discrete (C i % 2) 0) [
         | yes z ↦
-            subst (Firsts i) (sym (first-even l s i (ap (λ (x : ℕ). x % 2) c ∙ z))) (firsts-even i s b z h)
+            subst (Firsts (suc j)) (sym (first-even l s i (ap (λ (x : ℕ). x % 2) c ∙ z)))
+            (record { side = side-even true (λ v. []) j t b z (q .0); marks = q .1 })
         | no n ↦
-            let o : odd i = record { below = b; odd = omega arith } in
-            let e : rowFirstM l s i ≡ put-first s i =
-            first-odd l s i (λ z. n (ap (λ (x : ℕ). x % 2) (sym c) ∙ z)) ∙ same s i f (stands-first i s b h) in
-            subst (Firsts i) (sym e) (firsts-odd i s o h)
+            let o : odd i = record { below = ib; odd = omega arith } in
+            let r = side-odd true (λ v. []) j t b o (λ v w. tt) (q .0) in
+            let e : rowFirstM l s i ≡ put-side true t i =
+            first-odd l s i (λ z. n (ap (λ (x : ℕ). x % 2) (sym c) ∙ z)) ∙ same t (firstM l s i) f in
+            subst (Firsts (suc j)) (sym e)
+            (record {
+              side = r .0;
+              marks = λ y lo hi.
+                  r .1 .marks y (omega (arith, g .entries))
+                  ∙ away t (l .b + 2 * edge false i + 3) (l .b + 8 * y + 2) (F i) (λ p. omega arith)
+                  ∙ q .1 y lo hi;
+            })
       ]
     where
       same :
-          (s : List ℕ) (i : ℕ) → firstM l s i ≡ F i → word s (l .b + 8 * F i + 1) ≡ at true i →
-          put-word
-          (put-word (put-word s (l .b + 8 * i + 2) 0) (l .b + 8 * firstM l s i + 1) (word s (l .b + 8 * firstM l s i + 1) + 1))
-          (l .b + 8 * i + 5) (word s (l .b + 8 * firstM l s i + 1))
-          ≡ put-first s i
-      same s i f p = rw (f, p)
+          (t : List ℕ) (a : ℕ) → a ≡ F (m - 1 - j) →
+          appendM l (put-word t (l .b + 8 * (m - 1 - j) + 7) a) a (4 * (m - 1 - j)) ≡ put-side true t (m - 1 - j)
+      same t a e =
+          let p : l .b + 8 * (m - 1 - j) + 7 ≡ l .b + 2 * edge false (m - 1 - j) + 3 = omega arith in
+          rw (e, p)
 
-  firsts-all : (j : ℕ) (s : List ℕ) → j ≤ m → Firsts m s → Firsts (m - j) (firstsM l m j s)
+  firsts-all : (j : ℕ) (s : List ℕ) → j ≤ m → Firsts 0 s → Firsts j (firstsM l m j s)
   unfolding firstsM
-  firsts-all zero s b h = let e : m - 0 ≡ m = omega arith in rw e h
-  firsts-all (suc j) s b h =
-      let i : ℕ = m - 1 - j in
-      let e : m - j ≡ suc i = omega arith in
-      let f : m - suc j ≡ i = omega arith in
-      rw f (firsts-step i (firstsM l m j s) (omega arith) (rw e at (firsts-all j s (omega arith) h)))
+  firsts-all zero s b h = h
+  firsts-all (suc j) s b h = firsts-step j (firstsM l m j s) (omega arith) (firsts-all j s (omega arith) h)
 
   -- ── second ends ──
 
+  abbrev all-firsts : ℕ → List ℕ
+  all-firsts v = part true v (newest m m)
+
   record Seconds (j : ℕ) (s : List ℕ) : Type 0 where
-    keeps : Keeps (l .b) s₀ s
-    cursors : (v : ℕ) → v < N → word s (l .b + 8 * v) ≡ v * l .width
-    ends :
-        (v : ℕ) → v < N →
-        word s (l .b + 8 * v + 1) ≡ v * l .width + (sum-below (hit C F v) m + above (hit C S v) m j)
+    side : Side false all-firsts j s
     marks : (i : ℕ) → i < m → word s (l .b + 8 * i + 2) ≡ 0
-    halves : (i : ℕ) → odd i → word s (l .b + 8 * i + 5) ≡ at true i
-    mates : (d : Bool) (i : ℕ) → j ≤ i → odd i → word s (l .rows + 2 * at d i) ≡ at (not d) i + 1
-    infos :
-        (d : Bool) (i : ℕ) → j ≤ i → odd i →
-        word s (l .rows + 2 * at d i + 1) ≡ i * 2048 + end N m (l .width) C F S (not d) i
+    firsts : (i : ℕ) → odd i → word s (l .b + 2 * edge false i + 3) ≡ F i
 
-  own-second : (i : ℕ) → odd i → at false i + 1 ≡ S i * l .width + (sum-below (hit C F (S i)) m + above (hit C S (S i)) m i)
-  unfolding pos
-  own-second i o = omega (arith, above-step (hit C S (S i)) m i (o .below), hit-odd S (S i) i o, is-eq {u = S i} refl)
-
-  abbrev put-second : List ℕ → ℕ → List ℕ
-  put-second s i = linkM l (put-word s (l .b + 8 * S i + 1) (at false i + 1)) i (at true i) (F i) (at false i) (S i)
-
-  -- a word below the rows, but for the row's end, is as it was
-  second-column : (i : ℕ) (s : List ℕ) (a : ℕ) → a < l .rows → (a ≡ l .b + 8 * S i + 1 → ⊥) → word (put-second s i) a ≡ word s a
-  second-column i s a b n =
-      let x : ℕ = at true i in
-      let y : ℕ = at false i in
-      let s₁ : List ℕ = put-word s (l .b + 8 * S i + 1) (y + 1) in
-      let s₂ : List ℕ = put-word s₁ (l .rows + 2 * x) (y + 1) in
-      away3 s₂ (l .rows + 2 * x + 1) (i * 2048 + S i) (l .rows + 2 * y) (x + 1) (l .rows + 2 * y + 1) (i * 2048 + F i) a
-      (λ q. omega arith) (λ q. omega arith) (λ q. omega arith)
-      ∙ away2 s (l .b + 8 * S i + 1) (y + 1) (l .rows + 2 * x) (y + 1) a n (λ q. omega arith)
-
-  -- a half-edge of another entry is as it was
-  second-other :
-      (i : ℕ) (s : List ℕ) (z c : ℕ) → S i < N → c < 2 → (z ≡ at true i → ⊥) → (z ≡ at false i → ⊥) →
-      word (put-second s i) (l .rows + 2 * z + c) ≡ word s (l .rows + 2 * z + c)
-  second-other i s z c b c2 n₁ n₂ =
-      let x : ℕ = at true i in
-      let y : ℕ = at false i in
-      let a : ℕ = l .rows + 2 * z + c in
-      let s₁ : List ℕ = put-word s (l .b + 8 * S i + 1) (y + 1) in
-      let s₂ : List ℕ = put-word s₁ (l .rows + 2 * x) (y + 1) in
-      away3 s₂ (l .rows + 2 * x + 1) (i * 2048 + S i) (l .rows + 2 * y) (x + 1) (l .rows + 2 * y + 1) (i * 2048 + F i) a
-      (λ q. n₁ (omega arith)) (λ q. n₂ (omega arith)) (λ q. n₂ (omega arith))
-      ∙ away2 s (l .b + 8 * S i + 1) (y + 1) (l .rows + 2 * x) (y + 1) a (λ q. omega arith) (λ q. n₁ (omega arith))
-
-  -- what is put for an entry's own half-edges
-  record Linked (i : ℕ) (s : List ℕ) : Type 0 where
-    mate-first : word s (l .rows + 2 * at true i) ≡ at false i + 1
-    info-first : word s (l .rows + 2 * at true i + 1) ≡ i * 2048 + S i
-    mate-second : word s (l .rows + 2 * at false i) ≡ at true i + 1
-    info-second : word s (l .rows + 2 * at false i + 1) ≡ i * 2048 + F i
-
-  second-own : (i : ℕ) (s : List ℕ) → length s ≡ length s₀ → odd i → Linked i (put-second s i)
-  second-own i s len o =
-      let x : ℕ = at true i in
-      let y : ℕ = at false i in
-      let ib : i < m = o .below in
-      let xb : x < 2 * k = omega (arith, pos-bound N m (l .width) C F S (g .fit) true i o) in
-      let yb : y < 2 * k = omega (arith, pos-bound N m (l .width) C F S (g .fit) false i o) in
-      let n : x ≡ y → ⊥ = pos-two N m (l .width) C F S (g .fit) true i o in
-      let fb : F i < N = g .fit .first-below i ib in
-      let sb : S i < N = g .fit .second-below i ib in
-      let a₁ : ℕ = l .rows + 2 * x in
-      let a₂ : ℕ = l .rows + 2 * x + 1 in
-      let a₃ : ℕ = l .rows + 2 * y in
-      let a₄ : ℕ = l .rows + 2 * y + 1 in
-      let s₁ : List ℕ = put-word s (l .b + 8 * S i + 1) (y + 1) in
-      let s₂ : List ℕ = put-word s₁ a₁ (y + 1) in
-      let s₃ : List ℕ = put-word s₂ a₂ (i * 2048 + S i) in
-      let s₄ : List ℕ = put-word s₃ a₃ (x + 1) in
-      let l₁ : length s₁ ≡ length s = length-put s (l .b + 8 * S i + 1) (y + 1) in
-      let l₂ : length s₂ ≡ length s₁ = length-put s₁ a₁ (y + 1) in
-      let l₃ : length s₃ ≡ length s₂ = length-put s₂ a₂ (i * 2048 + S i) in
-      let l₄ : length s₄ ≡ length s₃ = length-put s₃ a₃ (x + 1) in
-      record {
-        mate-first =
-            away3 s₂ a₂ (i * 2048 + S i) a₃ (x + 1) a₄ (i * 2048 + F i) a₁ (λ q. omega arith) (λ q. n (omega arith)) (λ q. omega arith)
-            ∙ here s₁ a₁ (y + 1) (omega arith) (omega arith);
-        info-first =
-            away2 s₃ a₃ (x + 1) a₄ (i * 2048 + F i) a₂ (λ q. omega arith) (λ q. n (omega arith))
-            ∙ here s₂ a₂ (i * 2048 + S i) (omega arith) (omega arith);
-        mate-second = away s₄ a₄ a₃ (i * 2048 + F i) (λ q. omega arith) ∙ here s₃ a₃ (x + 1) (omega arith) (omega arith);
-        info-second = here s₄ a₄ (i * 2048 + F i) (omega arith) (omega arith);
-      }
-
-  second-keeps : (i : ℕ) (s : List ℕ) → Keeps (l .b) s₀ s → Keeps (l .b) s₀ (put-second s i)
-  second-keeps i s h =
-      keeps-then-put _ _ (omega arith)
-      (keeps-then-put _ _ (omega arith)
-      (keeps-then-put _ _ (omega arith) (keeps-then-put _ _ (omega arith) (keeps-then-put _ _ (omega arith) h))))
-
-  seconds-odd : (i : ℕ) (s : List ℕ) → odd i → Seconds (suc i) s → Seconds i (put-second s i)
-  seconds-odd i s o h =
-      let len : length s ≡ length s₀ = h .keeps .len in
-      let ib : i < m = o .below in
-      let sb : S i < N = g .fit .second-below i ib in
-      let own : Linked i (put-second s i) = second-own i s len o in
-      record {
-        keeps = second-keeps i s (h .keeps);
-        cursors = λ v c. second-column i s (l .b + 8 * v) (omega arith) (λ q. omega arith) ∙ h .cursors v c;
-        ends = λ v c.
-            elim (ℕ-discrete v (S i)) [
-              | yes e ↦ rw e (end-own s len ∙ own-second i o)
-              | no n ↦
-                  second-column i s (l .b + 8 * v + 1) (omega arith) (λ q. n (omega arith))
-                  ∙ omega (arith, h .ends v c, above-step (hit C S v) m i ib, hit-odd S v i o, is-ne {u = v} {v = S i} n)
-            ];
-        marks = λ u c. second-column i s (l .b + 8 * u + 2) (omega arith) (λ q. omega arith) ∙ h .marks u c;
-        halves = λ u p.
-            let ub : u < m = p .below in
-            second-column i s (l .b + 8 * u + 5) (omega arith) (λ q. omega arith) ∙ h .halves u p;
-        mates = λ d u c p.
-            elim (ℕ-discrete u i) [
-              | yes e ↦ rw e (own-mate own d)
-              | no n ↦
-                  let same : word (put-second s i) (l .rows + 2 * at d u) ≡ word s (l .rows + 2 * at d u) =
-                  simp add-zero at (other-word s d u 0 (omega arith) p n) in
-                  same ∙ h .mates d u (omega arith) p
-            ];
-        infos = λ d u c p.
-            elim (ℕ-discrete u i) [
-              | yes e ↦ rw e (own-info own d)
-              | no n ↦ other-word s d u 1 (omega arith) p n ∙ h .infos d u (omega arith) p
-            ];
-      }
+  -- no half-edge of a first end is one of a second end
+  sides-apart : (v i : ℕ) → All (λ (y : ℕ). edge false i ≡ y → ⊥) (all-firsts v)
+  sides-apart v i = over (keep (λ j. eqb v (F j)) (odds C (newest m m)))
     where
-      own-mate : Linked i (put-second s i) → (d : Bool) → word (put-second s i) (l .rows + 2 * at d i) ≡ at (not d) i + 1
-      own-mate w true = w .mate-first
-      own-mate w false = w .mate-second
+      over : (ys : List ℕ) → All (λ (y : ℕ). edge false i ≡ y → ⊥) (map (edge true) ys)
+      over [] = tt
+      over (y ∷ ys) = ((λ e. omega arith), over ys)
 
-      own-info :
-          Linked i (put-second s i) → (d : Bool) →
-          word (put-second s i) (l .rows + 2 * at d i + 1) ≡ i * 2048 + end N m (l .width) C F S (not d) i
-      own-info w true = w .info-first
-      own-info w false = w .info-second
-
-      other-word :
-          (s : List ℕ) (d : Bool) (u c : ℕ) → c < 2 → odd u → (u ≡ i → ⊥) →
-          word (put-second s i) (l .rows + 2 * at d u + c) ≡ word s (l .rows + 2 * at d u + c)
-      other-word s d u c b p n =
-          second-other i s (at d u) c (g .fit .second-below i (o .below)) b
-          (λ q. n (pos-one N m (l .width) C F S (g .fit) d true u i p o q))
-          (λ q. n (pos-one N m (l .width) C F S (g .fit) d false u i p o q))
-
-      end-own : (s : List ℕ) → length s ≡ length s₀ → word (put-second s i) (l .b + 8 * S i + 1) ≡ at false i + 1
-      end-own s len =
-          let x : ℕ = at true i in
-          let y : ℕ = at false i in
-          let a : ℕ = l .b + 8 * S i + 1 in
-          let sb : S i < N = g .fit .second-below i (o .below) in
-          let s₁ : List ℕ = put-word s a (y + 1) in
-          let s₂ : List ℕ = put-word s₁ (l .rows + 2 * x) (y + 1) in
-          away3 s₂ (l .rows + 2 * x + 1) (i * 2048 + S i) (l .rows + 2 * y) (x + 1) (l .rows + 2 * y + 1) (i * 2048 + F i) a
-          (λ q. omega arith) (λ q. omega arith) (λ q. omega arith)
-          ∙ away s₁ (l .rows + 2 * x) a (y + 1) (λ q. omega arith)
-          ∙ here s a (y + 1) (omega arith) (at-small false i o)
-
-  seconds-even : (i : ℕ) (s : List ℕ) → i < m → C i % 2 ≡ 0 → Seconds (suc i) s → Seconds i s
-  seconds-even i s b z h =
-      record {
-        keeps = h .keeps;
-        cursors = h .cursors;
-        ends = λ v c. omega (arith, h .ends v c, above-step (hit C S v) m i b, hit-even S v i z);
-        marks = h .marks;
-        halves = h .halves;
-        mates = λ d u c p. h .mates d u (newer u c p) p;
-        infos = λ d u c p. h .infos d u (newer u c p) p;
-      }
-    where
-      newer : (u : ℕ) → i ≤ u → odd u → suc i ≤ u
-      newer u c p =
-          elim (ℕ-discrete u i)
-          [ yes e ↦ absurd (omega (arith, p .odd, ap (λ (x : ℕ). C x % 2) e)) | no n ↦ omega arith ]
-
-  -- the row's end before, at the entry's second end, is where its half-edge comes to stand
-  stands-second : (i : ℕ) (s : List ℕ) → i < m → Seconds (suc i) s → word s (l .b + 8 * S i + 1) ≡ at false i
-  unfolding pos
-  stands-second i s b h = h .ends (S i) (g .fit .second-below i b)
-
-  seconds-step : (i : ℕ) (s : List ℕ) → i < m → Seconds (suc i) s → Seconds i (rowSecondM l s i)
-  seconds-step i s b h =
-      let c : copiesM l s i ≡ C i = copies-kept s (h .keeps) i b in
+  seconds-step : (j : ℕ) (s : List ℕ) → j < m → Seconds j s → Seconds (suc j) (rowSecondM l s (m - 1 - j))
+  seconds-step j s b h =
+      let i : ℕ = m - 1 - j in
+      let ib : i < m = omega arith in
+      let kept : Keeps (l .b) s₀ s = h .side .rung .keeps in
+      let c : copiesM l s i ≡ C i = copies-kept s kept i ib in
+      let f : secondM l s i ≡ S i = second-kept s kept i ib in
       elim (ℕ-discrete (C i % 2) 0) [
         | yes z ↦
-            subst (Seconds i) (sym (second-even l s i (ap (λ (x : ℕ). x % 2) c ∙ z))) (seconds-even i s b z h)
+            subst (Seconds (suc j)) (sym (second-even l s i (ap (λ (x : ℕ). x % 2) c ∙ z)))
+            (record { side = side-even false all-firsts j s b z (h .side); marks = h .marks; firsts = h .firsts })
         | no n ↦
-            let o : odd i = record { below = b; odd = omega arith } in
-            let e : rowSecondM l s i ≡ put-second s i =
-            second-odd l s i (λ z. n (ap (λ (x : ℕ). x % 2) (sym c) ∙ z))
-            ∙ same s i (first-kept s (h .keeps) i b) (second-kept s (h .keeps) i b) (stands-second i s b h) (h .halves i o) in
-            subst (Seconds i) (sym e) (seconds-odd i s o h)
+            let o : odd i = record { below = ib; odd = omega arith } in
+            let r = side-odd false all-firsts j s b o (λ v w. sides-apart v i) (h .side) in
+            let e : rowSecondM l s i ≡ put-side false s i =
+            second-odd l s i (λ z. n (ap (λ (x : ℕ). x % 2) (sym c) ∙ z)) ∙ same s (secondM l s i) f in
+            subst (Seconds (suc j)) (sym e)
+            (record {
+              side = r .0;
+              marks = λ y hi.
+                  r .1 .marks y (omega (arith, g .entries))
+                  ∙ away s (l .b + 2 * edge true i + 3) (l .b + 8 * y + 2) (S i) (λ p. omega arith)
+                  ∙ h .marks y hi;
+              firsts = λ y p.
+                  let yb : y < m = p .below in
+                  r .1 .leads false y (omega (arith, g .entries))
+                  ∙ away s (l .b + 2 * edge true i + 3) (l .b + 2 * edge false y + 3) (S i) (λ q. omega arith)
+                  ∙ h .firsts y p;
+            })
       ]
     where
       same :
-          (s : List ℕ) (i : ℕ) → firstM l s i ≡ F i → secondM l s i ≡ S i → word s (l .b + 8 * S i + 1) ≡ at false i →
-          word s (l .b + 8 * i + 5) ≡ at true i →
-          linkM l (put-word s (l .b + 8 * secondM l s i + 1) (word s (l .b + 8 * secondM l s i + 1) + 1)) i
-          (word s (l .b + 8 * i + 5)) (firstM l s i) (word s (l .b + 8 * secondM l s i + 1)) (secondM l s i)
-          ≡ put-second s i
-      same s i f d p q = rw (d, p, q, f)
+          (t : List ℕ) (a : ℕ) → a ≡ S (m - 1 - j) →
+          appendM l (put-word t (l .b + 8 * (m - 1 - j) + 3) a) a (4 * (m - 1 - j) + 2) ≡ put-side false t (m - 1 - j)
+      same t a e =
+          let p : l .b + 8 * (m - 1 - j) + 3 ≡ l .b + 2 * edge true (m - 1 - j) + 3 = omega arith in
+          rw (e, p)
 
-  seconds-all : (j : ℕ) (s : List ℕ) → j ≤ m → Seconds m s → Seconds (m - j) (secondsM l m j s)
+  seconds-all : (j : ℕ) (s : List ℕ) → j ≤ m → Seconds 0 s → Seconds j (secondsM l m j s)
   unfolding secondsM
-  seconds-all zero s b h = let e : m - 0 ≡ m = omega arith in rw e h
-  seconds-all (suc j) s b h =
-      let i : ℕ = m - 1 - j in
-      let e : m - j ≡ suc i = omega arith in
-      let f : m - suc j ≡ i = omega arith in
-      rw f (seconds-step i (secondsM l m j s) (omega arith) (rw e at (seconds-all j s (omega arith) h)))
+  seconds-all zero s b h = h
+  seconds-all (suc j) s b h = seconds-step j (secondsM l m j s) (omega arith) (seconds-all j s (omega arith) h)
 
   -- ── filled ──
 
-  -- The rows are filled: every odd entry has two half-edges, mates of each other, in its ends' rows.
+  -- The rings are filled: each party's ring has its half-edges, and each half-edge says where it leads.
   pub record Filled (s : List ℕ) : Type 0 where
-    pub keeps : Keeps (l .b) s₀ s
-    pub cursors : (v : ℕ) → v < N → word s (l .b + 8 * v) ≡ v * l .width
-    pub ends : (v : ℕ) → v < N → word s (l .b + 8 * v + 1) ≡ fin N m (l .width) C F S v
+    pub rung : Ringed (λ v. nodes P v (odd-places m C)) s
     pub marks : (i : ℕ) → i < m → word s (l .b + 8 * i + 2) ≡ 0
-    pub mates : (d : Bool) (i : ℕ) → odd i → word s (l .rows + 2 * at d i) ≡ at (not d) i + 1
-    pub infos : (d : Bool) (i : ℕ) → odd i → word s (l .rows + 2 * at d i + 1) ≡ i * 2048 + end N m (l .width) C F S (not d) i
+    pub leads : (d : Bool) (i : ℕ) → odd i → word s (l .b + 2 * edge d i + 3) ≡ end P (not d) i
 
   pub filled : Filled (fillM l m N s₀)
-  unfolding fin
+  unfolding odd-places
   filled =
-      let a : Started N (startM l N s₀) = started N (omega arith) in
-      let b : Firsts m (startM l N s₀) =
+      let r₀ = started N (omega arith) in
+      let t₀ : List ℕ = startM l N s₀ in
+      let a₀ : Ringed (λ v. []) t₀ = record { keeps = r₀ .0; rings = r₀ .1; edges = λ v b. tt } in
+      let t₁ : List ℕ = firstsM l m m t₀ in
+      let a₁ : Firsts m t₁ =
+      firsts-all m t₀ (omega arith)
+      (record { side = side-none true (λ v. []) t₀ a₀; marks = λ i lo hi. absurd (omega arith) }) in
+      let t₂ : List ℕ = secondsM l m m t₁ in
+      let a₂ : Seconds m t₂ =
+      seconds-all m t₁ (omega arith)
+      (record {
+        side = side-none false all-firsts t₁ (a₁ .side .rung);
+        marks = λ i b. a₁ .marks i (omega arith) b;
+        firsts = λ i o. a₁ .side .leads i (omega arith) o;
+      }) in
       record {
-        keeps = a .keeps;
-        cursors = a .cursors;
-        ends = λ v c. omega (arith, a .ends v c, above-top (hit C F v) m);
-        marks = λ i p q. absurd (omega arith);
-        halves = λ i p o. absurd (omega (arith, o .below));
-      } in
-      let s₁ : List ℕ = firstsM l m m (startM l N s₀) in
-      let z : m - m ≡ 0 = omega arith in
-      let c : Firsts 0 s₁ = rw z at (firsts-all m (startM l N s₀) (omega arith) b) in
-      let d : Seconds m s₁ =
-      record {
-        keeps = c .keeps;
-        cursors = c .cursors;
-        ends = λ v q. omega (arith, c .ends v q, above-top (hit C S v) m, above-all (hit C F v) m);
-        marks = λ i q. c .marks i (omega arith) q;
-        halves = λ i o. c .halves i (omega arith) o;
-        mates = λ x i p o. absurd (omega (arith, o .below));
-        infos = λ x i p o. absurd (omega (arith, o .below));
-      } in
-      let e : Seconds 0 (secondsM l m m s₁) = rw z at (seconds-all m s₁ (omega arith) d) in
-      record {
-        keeps = e .keeps;
-        cursors = e .cursors;
-        ends = λ v q. omega (arith, e .ends v q, above-all (hit C S v) m);
-        marks = e .marks;
-        mates = λ x i o. e .mates x i (omega arith) o;
-        infos = λ x i o. e .infos x i (omega arith) o;
+        rung = subst (λ (xs : List ℕ). Ringed (λ v. part true v xs ++ part false v xs) t₂) (newest-all m) (a₂ .side .rung);
+        marks = a₂ .marks;
+        leads = leads-both t₂ a₂;
       }
+    where
+      leads-both : (t : List ℕ) → Seconds m t → (d : Bool) (i : ℕ) → odd i → word t (l .b + 2 * edge d i + 3) ≡ end P (not d) i
+      leads-both t h true i o = h .side .leads i (omega arith) o
+      leads-both t h false i o = h .firsts i o

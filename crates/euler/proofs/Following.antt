@@ -1,35 +1,39 @@
--- What the rows of half-edges hold while the walk goes on: each party's unused half-edges from its cursor on are its row of
--- the places that remain; passing a used half-edge leaves that so, and taking one takes its place out. Assumes nothing.
+-- What the rings hold while the walk goes on: each party's ring has the half-edges of the places that remain, and taking a
+-- half-edge and its mate out takes the place out. Assumes nothing.
 use Prim.Native.Nat.{ℕ, zero, suc, _+_, _*_, _-_, _/_, _%_, _≤_, _<_}
-use mathlib.Core.Path.{_≡_, refl, sym, _∙_, ap}
-use mathlib.Core.Bool.{Bool, not}
+use mathlib.Core.Path.{_≡_, refl, sym, _∙_, ap, subst}
+use mathlib.Core.Bool.{Bool, true, false, not}
 use mathlib.Core.List.{List, [], _∷_}
-use mathlib.Core.Logic.{_⊎_, inl, inr, ⊎-elim}
 use native.Mathlib.Omega.{arith}
-use native.Mathlib.Nat.{add-zero}
 use native.Mathlib.Decide.{ℕ-discrete}
+use borrow.Author.Tests.{eq-eqb, ne-eqb}
 use lib.Dec.{eqb}
 use lib.ListN.{length}
-use Rattle.words.specs.Basics.{pick, is}
-use Rattle.words.specs.Words.{word}
+use Rattle.words.specs.Basics.{pick, All}
+use Rattle.words.specs.Words.{word, put-word}
 use Rattle.words.specs.Frames.{Keeps}
-use Rattle.words.proofs.Frames.{here, keeps-trans}
+use Rattle.words.proofs.Sums.{all-map}
+use Rattle.words.proofs.Frames.{here, away, length-put, keeps-trans}
 use Rattle.multigraph.specs.Multigraph.{Pair}
 use Rattle.euler.specs.declared.Rows.{Rows}
-use Rattle.euler.specs.Model.{copiesM, firstM, secondM}
-use Rattle.euler.proofs.Taken.{ends}
-use Rattle.euler.proofs.Places.{without, without-first, row, row-without}
-use Rattle.euler.proofs.Positions.{end, pos, fin, Odd, end-below, pos-row, Half-edge, in-row}
-use Rattle.euler.proofs.Filling.{Laid}
-use Rattle.euler.proofs.Scans.{scan, scan-used, scan-free, scan-same, scan-taken, Taken-at, P}
+use Rattle.euler.specs.Model.{copiesM, popM, unlinkM}
+use Rattle.euler.proofs.Places.{keep, keep-all, without, Falling}
+use Rattle.euler.proofs.Rings.{Distinct, Has, after, prior, Chain, Between, between, Cut, chain-cut}
+use Rattle.euler.proofs.Nodes.{Odd, edge, end, nodes, nodes-distinct, nodes-without, has-node, has-kept, has-below, keep-distinct, First}
+use Rattle.euler.proofs.Filling.{Laid, P, Node, Edge, edge-node, party-node, edge-is, end-below, Aside, aside-trans, aside-two, Same-nodes, Ringed, ringed-same, away2}
 
--- n words of column c, last first
-unfoldable pub column : Rows → ℕ → List ℕ → ℕ → List ℕ
+-- the stack's word n, and the written place n
+abbrev pub slot : Bool → Rows → ℕ → ℕ
+slot true l n = l .col + 2 * n
+slot false l n = l .col + 2 * n + 1
+
+-- n words of a column, last first
+unfoldable pub column : Rows → Bool → List ℕ → ℕ → List ℕ
 column l c s zero = []
-column l c s (suc n) = word s (l .b + 8 * n + c) ∷ column l c s n
+column l c s (suc n) = word s (slot c l n) ∷ column l c s n
 
 pub column-same :
-    (l : Rows) (c : ℕ) (s t : List ℕ) (n : ℕ) → ((j : ℕ) → j < n → word t (l .b + 8 * j + c) ≡ word s (l .b + 8 * j + c)) →
+    (l : Rows) (c : Bool) (s t : List ℕ) (n : ℕ) → ((j : ℕ) → j < n → word t (slot c l j) ≡ word s (slot c l j)) →
     column l c t n ≡ column l c s n
 unfolding column
 column-same l c s t zero h = refl
@@ -44,177 +48,148 @@ module _ (l : Rows) (N m k : ℕ) (s₀ : List ℕ) (g : Laid l N m k s₀) (fla
   abbrev C : ℕ → ℕ
   C i = copiesM l s₀ i
 
-  abbrev F : ℕ → ℕ
-  F i = firstM l s₀ i
-
-  abbrev S : ℕ → ℕ
-  S i = secondM l s₀ i
-
-  abbrev at : Bool → ℕ → ℕ
-  at d i = pos N m (l .width) C F S d i
-
-  abbrev far : Bool → ℕ → ℕ
-  far d i = end N m (l .width) C F S (not d) i
-
-  abbrev odd : ℕ → Type 0
-  odd i = Odd N m (l .width) C F S i
-
-  abbrev stop : ℕ → ℕ
-  stop v = fin N m (l .width) C F S v
-
   abbrev Q : ℕ → Pair
   Q i = P l N m k s₀ g flag i
 
-  -- ── the rows ──
+  abbrev odd : ℕ → Type 0
+  odd i = Odd m C i
 
-  -- The rows hold the places is, as far as they are not used: each party's unused half-edges from its cursor on are its row.
+  abbrev Nd : ℕ → Type 0
+  Nd y = Node l N m k s₀ g flag y
+
+  abbrev Ed : ℕ → Type 0
+  Ed y = Edge l N m k s₀ g flag y
+
+  -- ── the rings ──
+
+  -- The rings hold the half-edges of the places is, which are odd entries.
   pub record Rowed (s : List ℕ) (is : List ℕ) : Type 0 where
-    pub keeps : Keeps (l .b) s₀ s
-    pub ends : (v : ℕ) → v < N → word s (l .b + 8 * v + 1) ≡ stop v
-    pub low : (v : ℕ) → v < N → v * l .width ≤ word s (l .b + 8 * v)
-    pub high : (v : ℕ) → v < N → word s (l .b + 8 * v) ≤ stop v
-    pub infos : (d : Bool) (i : ℕ) → odd i → word s (l .rows + 2 * at d i + 1) ≡ i * 2048 + far d i
-    pub mates :
-        (d : Bool) (i : ℕ) → odd i →
-        (word s (l .rows + 2 * at d i) ≡ 0) ⊎ (word s (l .rows + 2 * at d i) ≡ at (not d) i + 1)
-    pub scans :
-        (v : ℕ) → v < N → scan l s (word s (l .b + 8 * v)) (stop v - word s (l .b + 8 * v)) ≡ row Q v is
+    pub rung : Ringed l N m k s₀ g flag (λ v. nodes Q v is) s
+    pub leads : (d : Bool) (i : ℕ) → odd i → word s (l .b + 2 * edge d i + 3) ≡ end Q (not d) i
+    pub below : All (λ (i : ℕ). i < m) is
+    pub odds : All (λ (i : ℕ). C i % 2 ≡ 1) is
 
-  -- words of rows and their cursors and ends as they were
-  pub record Same-rows (s t : List ℕ) : Type 0 where
-    pub keeps : Keeps (l .b) s t
-    pub cursors : (v : ℕ) → v < N → word t (l .b + 8 * v) ≡ word s (l .b + 8 * v)
-    pub ends : (v : ℕ) → v < N → word t (l .b + 8 * v + 1) ≡ word s (l .b + 8 * v + 1)
-    pub words : (y c : ℕ) → c < 2 → word t (l .rows + 2 * y + c) ≡ word s (l .rows + 2 * y + c)
-
-  pub rowed-same : (s t is : List ℕ) → Same-rows s t → Rowed s is → Rowed t is
-  rowed-same s t is q h =
+  pub rowed-same :
+      (s t is : List ℕ) → Same-nodes l N m k s₀ g flag s t →
+      ((d : Bool) (i : ℕ) → i < m → word t (l .b + 2 * edge d i + 3) ≡ word s (l .b + 2 * edge d i + 3)) → Rowed s is → Rowed t is
+  rowed-same s t is q f h =
       record {
-        keeps = keeps-trans (h .keeps) (q .keeps);
-        ends = λ v b. q .ends v b ∙ h .ends v b;
-        low = λ v b. rw (q .cursors v b) (h .low v b);
-        high = λ v b. rw (q .cursors v b) (h .high v b);
-        infos = λ d i o. q .words (at d i) 1 (omega arith) ∙ h .infos d i o;
-        mates = λ d i o.
-            let e : word t (l .rows + 2 * at d i) ≡ word s (l .rows + 2 * at d i) = simp add-zero at (q .words (at d i) 0 (omega arith)) in
-            ⊎-elim (λ z. inl (e ∙ z)) (λ z. inr (e ∙ z)) (h .mates d i o);
-        scans = λ v b.
-            rw (q .cursors v b) (scan-same l s t _ _ (λ y c p r d. q .words y c d) ∙ h .scans v b);
+        rung = ringed-same l N m k s₀ g flag (λ v. nodes Q v is) s t q (h .rung);
+        leads = λ d i o. f d i (o .below) ∙ h .leads d i o;
+        below = h .below;
+        odds = h .odds;
       }
 
-  -- the cursor of v moves on by 1, from c; what stands in the rows, but for mates' words, is as it was
-  pub record Advanced (v c : ℕ) (s t : List ℕ) : Type 0 where
-    pub keeps : Keeps (l .b) s t
-    pub cursor : word t (l .b + 8 * v) ≡ c + 1
-    pub cursors : (u : ℕ) → u < N → (u ≡ v → ⊥) → word t (l .b + 8 * u) ≡ word s (l .b + 8 * u)
-    pub ends : (u : ℕ) → u < N → word t (l .b + 8 * u + 1) ≡ word s (l .b + 8 * u + 1)
-    pub infos : (y : ℕ) → word t (l .rows + 2 * y + 1) ≡ word s (l .rows + 2 * y + 1)
-
-  -- a scan's length from its cursor on, one half-edge less
-  one-less : (c e : ℕ) → c < e → e - c ≡ suc (e - (c + 1))
-  one-less c e h = omega arith
-
-  pub rowed-pass :
-      (v : ℕ) (s t is : List ℕ) → v < N → Rowed s is → word s (l .b + 8 * v) < stop v →
-      word s (l .rows + 2 * word s (l .b + 8 * v)) ≡ 0 → Advanced v (word s (l .b + 8 * v)) s t →
-      ((y : ℕ) → word t (l .rows + 2 * y) ≡ word s (l .rows + 2 * y)) → Rowed t is
-  rowed-pass v s t is b h less z a same =
-      let c : ℕ = word s (l .b + 8 * v) in
+  -- a place that remains is an odd entry
+  pub has-odd : (s is : List ℕ) (i : ℕ) → Rowed s is → Has i is → odd i
+  has-odd s is i h a =
       record {
-        keeps = keeps-trans (h .keeps) (a .keeps);
-        ends = λ u e. a .ends u e ∙ h .ends u e;
-        low = λ u e.
-            elim (ℕ-discrete u v) [
-              | yes q ↦ rw (q, a .cursor) (omega (arith, h .low v b))
-              | no q ↦ rw (a .cursors u e q) (h .low u e)
-            ];
-        high = λ u e.
-            elim (ℕ-discrete u v) [
-              | yes q ↦ rw (q, a .cursor) (omega arith)
-              | no q ↦ rw (a .cursors u e q) (h .high u e)
-            ];
-        infos = λ d i o. a .infos (at d i) ∙ h .infos d i o;
-        mates = λ d i o. ⊎-elim (λ q. inl (same (at d i) ∙ q)) (λ q. inr (same (at d i) ∙ q)) (h .mates d i o);
-        scans = λ u e.
-            elim (ℕ-discrete u v) [
-              | yes q ↦
-                  let old : scan l s c (suc (stop v - (c + 1))) ≡ row Q v is = rw (one-less c (stop v) less) at (h .scans v b) in
-                  rw (q, a .cursor) (alike (c + 1) (stop v - (c + 1)) ∙ sym (scan-used l s c (stop v - (c + 1)) z) ∙ old)
-              | no q ↦ rw (a .cursors u e q) (alike _ _ ∙ h .scans u e)
+        below = has-below m i is (h .below) a;
+        odd =
+            elim (ℕ-discrete (C i % 2) 1) [
+              | yes e ↦ e
+              | no n ↦ absurd (a (all-map (λ y b e. n (ap (λ (z : ℕ). C z % 2) e ∙ b)) is (h .odds)))
             ];
       }
-    where
-      both : (y c : ℕ) → c < 2 → word t (l .rows + 2 * y + c) ≡ word s (l .rows + 2 * y + c)
-      both y zero b = let e : l .rows + 2 * y + 0 ≡ l .rows + 2 * y = omega arith in rw e (same y)
-      both y (suc zero) b = a .infos y
-      both y (suc (suc c)) b = absurd (omega arith)
 
-      alike : (x n : ℕ) → scan l t x n ≡ scan l s x n
-      alike x n = scan-same l s t x n (λ y c p r d. both y c d)
+  -- ── a half-edge taken out ──
 
-  -- where the cursor of v stands there is a half-edge of v
-  pub standing-at :
-      (v : ℕ) (s is : List ℕ) → v < N → Rowed s is → (y : ℕ) → word s (l .b + 8 * v) ≤ y → y < stop v →
-      Half-edge N m (l .width) C F S v y
-  standing-at v s is b h y lo hi = in-row N m (l .width) C F S v y (omega (arith, h .low v b)) hi
+  pub pop-is : (s : List ℕ) (z x : ℕ) → prior (l .b) s x ≡ z → popM l s z x ≡ unlinkM l s x
+  unfolding popM unlinkM
+  pop-is s z x e = rw e
+
+  unlinked :
+      (s : List ℕ) (x : ℕ) → length s ≡ length s₀ → Between (l .b) Nd x s →
+      Cut (l .b) x s (unlinkM l s x) × Aside l N m k s₀ g flag s (unlinkM l s x)
+  unfolding unlinkM
+  unlinked s x len w =
+      let q : ℕ = after (l .b) s x in
+      let p : ℕ = prior (l .b) s x in
+      let qn : q < l .top + N = w .after-node .0 in
+      let pn : p < l .top + N = w .prior-node .0 in
+      let t : List ℕ = put-word s (l .b + 2 * p) q in
+      let lt : length t ≡ length s = length-put s (l .b + 2 * p) q in
+      let low : l .top + N ≤ 5 * k = omega (arith, g .place, g .parties) in
+      let room : l .b + 12 * k ≤ length s = omega (arith, g .room) in
+      let few : length s ≤ 4294967296 = omega (arith, g .small) in (
+        record {
+          from = w .from;
+          to = w .to;
+          on =
+              away t (l .b + 2 * q + 1) (l .b + 2 * p) p (λ e. omega arith)
+              ∙ here s (l .b + 2 * p) q (omega arith) (omega arith);
+          back = here t (l .b + 2 * q + 1) p (omega arith) (omega arith);
+          afters = λ y n. away2 s (l .b + 2 * p) q (l .b + 2 * q + 1) p (l .b + 2 * y) (λ e. n (omega arith)) (λ e. omega arith);
+          priors = λ y n.
+              away2 s (l .b + 2 * p) q (l .b + 2 * q + 1) p (l .b + 2 * y + 1) (λ e. omega arith) (λ e. n (omega arith));
+        },
+        aside-two l N m k s₀ g flag s p q q p (w .prior-node) (w .after-node),
+      )
+
+  -- the rings go on without the half-edge x of the ring of v
+  ringed-less :
+      (R : ℕ → List ℕ) (s : List ℕ) (v x : ℕ) → v < N → Ed x → Has x (R v) →
+      ((u : ℕ) → u < N → Distinct (R u)) → Ringed l N m k s₀ g flag R s →
+      Ringed l N m k s₀ g flag (λ u. without x (R u)) (unlinkM l s x) × Aside l N m k s₀ g flag s (unlinkM l s x)
+  ringed-less R s v x b xe m' d h =
+      let w : Between (l .b) Nd x s =
+      between (l .b) Nd s x (l .top + v) (R v) (l .top + v) (party-node l N m k s₀ g flag v b)
+      (all-map (edge-node l N m k s₀ g flag) (R v) (h .edges v b)) (party-node l N m k s₀ g flag v b) m' (h .rings v b) in
+      let c = unlinked s x (h .keeps .len) w in (
+        record {
+          keeps = keeps-trans (h .keeps) (c .1 .keeps);
+          rings = λ u e.
+              chain-cut (l .b) x s (unlinkM l s x) (c .0) (l .top + u) (R u) (l .top + u) (λ q. omega (arith, xe .0)) (λ q. omega (arith, xe .0))
+              (d u e) (h .rings u e);
+          edges = λ u e. keep-all Ed (λ y. not (eqb x y)) (R u) (h .edges u e);
+        },
+        c .1,
+      )
 
   pub rowed-take :
-      (v : ℕ) (s t is : List ℕ) (d : Bool) (i : ℕ) → v < N → Rowed s is → word s (l .b + 8 * v) < stop v →
-      odd i → end N m (l .width) C F S d i ≡ v → word s (l .b + 8 * v) ≡ at d i →
-      (word s (l .rows + 2 * word s (l .b + 8 * v)) ≡ 0 → ⊥) →
-      Advanced v (word s (l .b + 8 * v)) s t → Taken-at l N m k s₀ g flag d i s t → Rowed t (without i is)
-  rowed-take v s t is d i b h less o own here' free a w =
-      let c : ℕ = word s (l .b + 8 * v) in
+      (v : ℕ) (s is : List ℕ) → v < N → Falling is → Rowed s is → (f : First Q v is) →
+      Rowed (unlinkM l (popM l s (l .top + v) (edge (f .side) (f .entry))) (edge (not (f .side)) (f .entry))) (without (f .entry) is)
+      × Aside l N m k s₀ g flag s (unlinkM l (popM l s (l .top + v) (edge (f .side) (f .entry))) (edge (not (f .side)) (f .entry)))
+  rowed-take v s is b fall h f =
+      let d : Bool = f .side in
+      let i : ℕ = f .entry in
+      let x : ℕ = edge d i in
+      let y : ℕ = edge (not d) i in
+      let o : odd i = has-odd s is i h (f .has) in
+      let ib : i < m = o .below in
+      let w : ℕ = end Q (not d) i in
+      let wb : w < N = end-below l N m k s₀ g flag (not d) i ib in
+      let R₀ : ℕ → List ℕ = λ u. nodes Q u is in
+      let r₁ = ringed-less R₀ s v x b (edge-is l N m k s₀ g flag d i ib) (has-node Q d i v is (f .own) (f .has)) (λ u c. nodes-distinct Q u is fall) (h .rung) in
+      let t₁ : List ℕ = unlinkM l s x in
+      let R₁ : ℕ → List ℕ = λ u. without x (R₀ u) in
+      let far : Has y (R₁ w) =
+      has-kept (λ z. not (eqb x z)) y (R₀ w) (rw (ne-eqb x y (apart d i))) (has-node Q (not d) i w is refl (f .has)) in
+      let r₂ =
+      ringed-less R₁ t₁ w y wb (edge-is l N m k s₀ g flag (not d) i ib) far (λ u c. keep-distinct (λ z. not (eqb x z)) (R₀ u) (nodes-distinct Q u is fall))
+      (r₁ .0) in
+      let t₂ : List ℕ = unlinkM l t₁ y in
+      let first : prior (l .b) s x ≡ l .top + v =
+      subst (λ (ys : List ℕ). Chain (l .b) s (l .top + v) ys (l .top + v)) (f .nodes-is) (h .rung .rings v b) .1 in
+      let same : popM l s (l .top + v) x ≡ t₁ = pop-is s (l .top + v) x first in
+      let r : Rowed t₂ (without i is) =
       record {
-        keeps = keeps-trans (h .keeps) (a .keeps);
-        ends = λ u e. a .ends u e ∙ h .ends u e;
-        low = λ u e.
-            elim (ℕ-discrete u v) [
-              | yes q ↦ rw (q, a .cursor) (omega (arith, h .low v b))
-              | no q ↦ rw (a .cursors u e q) (h .low u e)
-            ];
-        high = λ u e.
-            elim (ℕ-discrete u v) [
-              | yes q ↦ rw (q, a .cursor) (omega arith)
-              | no q ↦ rw (a .cursors u e q) (h .high u e)
-            ];
-        infos = λ e j p. a .infos (at e j) ∙ h .infos e j p;
-        mates = λ e j p.
-            elim (ℕ-discrete (at e j) (at (not d) i)) [
-              | yes q ↦ inl (ap (λ (y : ℕ). word t (l .rows + 2 * y)) q ∙ w .zeroed)
-              | no q ↦ ⊎-elim (λ z. inl (w .other (at e j) q ∙ z)) (λ z. inr (w .other (at e j) q ∙ z)) (h .mates e j p)
-            ];
-        scans = λ u e.
-            elim (ℕ-discrete u v) [
-              | yes q ↦
-                  let old : scan l s c (suc (stop v - (c + 1))) ≡ row Q v is = rw (one-less c (stop v) less) at (h .scans v b) in
-                  let place : word s (l .rows + 2 * c + 1) / 2048 ≡ i =
-                  ap (λ (y : ℕ). word s (l .rows + 2 * y + 1) / 2048) here' ∙ places d i o in
-                  rw (q, a .cursor)
-                  (took v (c + 1) (stop v - (c + 1)) (λ y lo hi. standing-at v s is b h y (omega arith) (omega arith))
-                  (λ y lo hi z. omega arith)
-                  ∙ sym (without-first i (scan l s (c + 1) (stop v - (c + 1))))
-                  ∙ ap (without i) (sym (scan-free l s c (stop v - (c + 1)) free ∙ ap (λ (p : ℕ). p ∷ scan l s (c + 1) (stop v - (c + 1))) place) ∙ old)
-                  ∙ sym (row-without Q v i is))
-              | no q ↦
-                  rw (a .cursors u e q)
-                  (took u _ _ (λ y lo hi. standing-at u s is e h y lo (omega (arith, h .high u e)))
-                  (λ y lo hi z. q (elsewhere u y (standing-at u s is e h y lo (omega (arith, h .high u e))) z))
-                  ∙ ap (without i) (h .scans u e)
-                  ∙ sym (row-without Q u i is))
-            ];
-      }
+        rung =
+            record {
+              keeps = r₂ .0 .keeps;
+              rings = λ u c.
+                  subst (λ (ys : List ℕ). Chain (l .b) t₂ (l .top + u) ys (l .top + u)) (nodes-without Q d i u is) (r₂ .0 .rings u c);
+              edges = λ u c. subst (All Ed) (nodes-without Q d i u is) (r₂ .0 .edges u c);
+            };
+        leads = λ e j p.
+            let jb : j < m = p .below in
+            r₂ .1 .leads e j (omega (arith, g .entries)) ∙ r₁ .1 .leads e j (omega (arith, g .entries)) ∙ h .leads e j p;
+        below = keep-all (λ j. j < m) (λ z. not (eqb i z)) is (h .below);
+        odds = keep-all (λ j. C j % 2 ≡ 1) (λ z. not (eqb i z)) is (h .odds);
+      } in
+      let a : Aside l N m k s₀ g flag s t₂ = aside-trans l N m k s₀ g flag s t₁ t₂ (r₁ .1) (r₂ .1) in
+      subst (λ (t : List ℕ). Rowed (unlinkM l t y) (without i is) × Aside l N m k s₀ g flag s (unlinkM l t y)) (sym same) (r, a)
     where
-      places : (e : Bool) (j : ℕ) → odd j → word s (l .rows + 2 * at e j + 1) / 2048 ≡ j
-      places e j p = omega (arith, h .infos e j p, end-below N m (l .width) C F S (g .fit) (not e) j (p .below))
-
-      took :
-          (u x n : ℕ) → ((y : ℕ) → x ≤ y → y < x + n → Half-edge N m (l .width) C F S u y) →
-          ((y : ℕ) → x ≤ y → y < x + n → y ≡ at d i → ⊥) → scan l t x n ≡ without i (scan l s x n)
-      took u x n rows off = scan-taken l N m k s₀ g flag d i o s t w places u x n rows off
-
-      elsewhere : (u y : ℕ) → Half-edge N m (l .width) C F S u y → y ≡ at d i → u ≡ v
-      elsewhere u y e z =
-          sym (e .own)
-          ∙ pos-row N m (l .width) C F S (g .fit) (e .side) d (e .entry) i (e .odd) o (sym (e .here) ∙ z)
-          ∙ own
+      apart : (d : Bool) (i : ℕ) → edge d i ≡ edge (not d) i → ⊥
+      apart true i e = omega arith
+      apart false i e = omega arith

@@ -22,7 +22,7 @@ use Rattle.euler.specs.Model.{copiesM, firstM, secondM}
 use Rattle.euler.proofs.Taken.{ends}
 use Rattle.euler.proofs.Trail.{aslant}
 use Rattle.euler.proofs.Places.{keep, keep-all, descend, Falling, descend-below, descend-falling, keep-falling}
-use Rattle.euler.proofs.Positions.{hit, Ends-fit, odd-places}
+use Rattle.euler.proofs.Nodes.{Ends-fit, odd-places}
 use Rattle.euler.proofs.HalfLaws.{upto, held}
 use Rattle.euler.proofs.HalfWords.{entries-snoc}
 use Rattle.euler.proofs.SplitLaws.{rest-even}
@@ -107,27 +107,12 @@ module _ (l : Rows) (s : List ℕ) (N m : ℕ) (side : ℕ → ℕ) (d : ℕ) (r
       go false q = refl
       go true q = absurd (not-same i j b e n (joins-true (F i) (S i) (pair (F j) (S j) c f) q))
 
-  hit-le : (E : ℕ → ℕ) (v i : ℕ) → hit C E v i ≤ is v (E i)
-  hit-le E v i =
-      elim (ℕ-discrete (C i % 2) 1) [ yes o ↦ rw o (omega arith) | no n ↦ let z : C i % 2 ≡ 0 = omega arith in rw z (omega arith) ]
-
-  pub ends-fit :
-      (width : ℕ) → ((v : ℕ) → v < N → total (λ (p : Pair). names v (p .first) (p .second)) (entries s (l .ends) 0 (l .g) 0 m) ≤ width) →
-      Ends-fit N m width C F S
-  ends-fit width h =
+  pub ends-fit : Ends-fit N m F S
+  ends-fit =
       record {
         first-below = λ i b. across-at i b .first-below;
         second-below = λ i b. across-at i b .second-below;
         different = λ i b e. omega (arith, across-at i b .sides, ap side e);
-        fits = λ v b.
-            omega (
-              arith,
-              h v b,
-              entries-total (λ (p : Pair). names v (p .first) (p .second)) s (l .ends) 0 (l .g) m,
-              sum-below-add (λ i. is v (F i)) (λ i. is v (S i)) m,
-              sum-below-le {f = hit C F v} {g = λ i. is v (F i)} m (λ i c. hit-le F v i),
-              sum-below-le {f = hit C S v} {g = λ i. is v (S i)} m (λ i c. hit-le S v i),
-            );
       }
 
   -- ── the rest ──
@@ -184,9 +169,9 @@ module _ (l : Rows) (s : List ℕ) (N m : ℕ) (side : ℕ → ℕ) (d : ℕ) (r
           | no q ↦ rw (rest-not n q, ne-eqb (C n % 2) 1 q) (rest-places n)
         ]
 
-    pub rest-odd : (width : ℕ) → reverse (rest-of m) ≡ map Q (odd-places N m width C F S)
+    pub rest-odd : reverse (rest-of m) ≡ map Q (odd-places m C)
     unfolding odd-places
-    rest-odd width = rest-places m
+    rest-odd = rest-places m
 
     abbrev odd-ones : List ℕ
     odd-ones = keep (λ i. eqb (C i % 2) 1) (descend m)

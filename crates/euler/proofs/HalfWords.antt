@@ -86,12 +86,13 @@ pub record Ready (l : Rows) (m k u h n : ℕ) (s₀ s : List ℕ) (ws : List ℕ
   pub fits : (i : ℕ) → i < m → copiesM l s₀ i < 4294967296
   pub keeps : Keeps u s₀ s
   pub marks : (i : ℕ) → i < m → word s (l .b + 8 * i + 2) ≡ mark-of i ws
-  pub written : column l 4 s n ≡ ws
+  pub written : column l false s n ≡ ws
   pub places : All (λ (i : ℕ). i < m) ws
   pub once : (i : ℕ) → count i ws ≤ 1
   pub less : m < k
   pub above : u ≤ h
   pub under : h + 2 * k ≤ l .b
+  pub behind : l .b ≤ l .col
   pub inside : l .b ≤ length s
   pub small : length s ≤ 4294967296
 
@@ -238,7 +239,7 @@ module _ (l : Rows) (m k u h n pairs parity : ℕ) (s₀ s ws : List ℕ) (g : R
   read-front R cut zero j r = rw add-zero at r
   read-front R cut (suc d) j r =
       read-front R cut d j
-      (cut (read (j + d)) (word s (l .b + 8 * (parity + 2 * (j + d)) + 4) ∷ []) (rw add-suc at r))
+      (cut (read (j + d)) (word s (l .col + 2 * (parity + 2 * (j + d)) + 1) ∷ []) (rw add-suc at r))
 
   read-all : (j : ℕ) → j ≤ full → All (λ (i : ℕ). i < m) (read j)
   unfolding full
@@ -297,15 +298,15 @@ module _ (l : Rows) (m k u h n pairs parity : ℕ) (s₀ s ws : List ℕ) (g : R
       (small-last j i ∙ ap (λ (x : List ℕ). small C F S flag (read j) ++ x) (small-none C F S flag i two) ∙ append-nil (small C F S flag (read j)))
 
   single-pushed :
-      (j i : ℕ) (t : Pushed) → So-far t (both-parts j) → word s (l .b + 8 * (parity + 2 * j) + 4) ≡ i →
+      (j i : ℕ) (t : Pushed) → So-far t (both-parts j) → word s (l .col + 2 * (parity + 2 * j) + 1) ≡ i →
       All (λ (x : ℕ). x < m) (read j ++ (i ∷ [])) → ((x : ℕ) → count x (read j ++ (i ∷ [])) ≤ 1) →
       So-far (singleM l h t (parity + 2 * j)) (bigs C F S flag extra m ++ map (one C F S flag) (small C F S flag (read j ++ (i ∷ []))))
   single-pushed j i t f e all once =
-      let at : word (t .words) (l .b + 8 * (parity + 2 * j) + 4) ≡ i =
-      f .only .over (l .b + 8 * (parity + 2 * j) + 4) (omega arith) ∙ e in
+      let at : word (t .words) (l .col + 2 * (parity + 2 * j) + 1) ≡ i =
+      f .only .over (l .col + 2 * (parity + 2 * j) + 1) (omega arith) ∙ e in
       let ib : i < m = all-right (λ x. x < m) (read j) (i ∷ []) all .0 in
       let c : copiesM l (t .words) i ≡ C i = reads (t .words) (l .g + 3 + 2 * i) (f .only) (omega arith) in
-      let ct : copiesM l (t .words) (word (t .words) (l .b + 8 * (parity + 2 * j) + 4)) ≡ C i = ap (copiesM l (t .words)) at ∙ c in
+      let ct : copiesM l (t .words) (word (t .words) (l .col + 2 * (parity + 2 * j) + 1)) ≡ C i = ap (copiesM l (t .words)) at ∙ c in
       elim (decLt (C i) 2) [
         | yes z ↦
             let num : word (t .words) (l .g + 2 + 2 * i) ≡ word s₀ (l .g + 2 + 2 * i) =
@@ -322,7 +323,7 @@ module _ (l : Rows) (m k u h n pairs parity : ℕ) (s₀ s ws : List ℕ) (g : R
   unfolding picks keep
   no-singles = append-nil (bigs C F S flag extra m)
 
-  read-more : (j : ℕ) → read (suc j) ≡ read j ++ (word s (l .b + 8 * (parity + 2 * j) + 4) ∷ [])
+  read-more : (j : ℕ) → read (suc j) ≡ read j ++ (word s (l .col + 2 * (parity + 2 * j) + 1) ∷ [])
   unfolding picks
   read-more j = refl
 
@@ -330,7 +331,7 @@ module _ (l : Rows) (m k u h n pairs parity : ℕ) (s₀ s ws : List ℕ) (g : R
   unfolding singlesM
   singles-so-far zero b = rw no-singles (entries-so-far m (omega arith))
   singles-so-far (suc j) b =
-      let i : ℕ = word s (l .b + 8 * (parity + 2 * j) + 4) in
+      let i : ℕ = word s (l .col + 2 * (parity + 2 * j) + 1) in
       rw (read-more j)
       (single-pushed j i (stage j) (singles-so-far j (omega arith)) refl (rw (read-more j) at (read-all (suc j) b))
       (λ x. rw (read-more j) at (read-once (suc j) b x)))

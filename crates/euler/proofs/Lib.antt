@@ -8,9 +8,9 @@ pub mod SplitLaws
 pub mod ModelLaws
 pub mod Straight
 pub mod Places
-pub mod Positions
+pub mod Rings
+pub mod Nodes
 pub mod Filling
-pub mod Scans
 pub mod Following
 pub mod Stepping
 pub mod HalfLaws

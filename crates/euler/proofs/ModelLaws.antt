@@ -12,13 +12,20 @@ use Rattle.words.specs.Words.{word, put-word}
 use Rattle.words.proofs.Runs.{iterate-suc-out, iterate-rest, iterate-add}
 use Rattle.euler.specs.declared.Rows.{Rows}
 use Rattle.euler.specs.declared.Walk.{Walk}
-use Rattle.euler.specs.Model.{Stage, Pushed, Small, copiesM, firstM, secondM, startRowM, startM, rowFirstM, firstsM, linkM, rowSecondM, secondsM, takeM, backM, stepM, walkM, moreM, pushM, entryM, entriesM, singleM, singlesM, halfM}
+use Rattle.euler.specs.Model.{Stage, Pushed, Small, copiesM, firstM, secondM, appendM, startRowM, startM, rowFirstM, firstsM, rowSecondM, secondsM, popM, unlinkM, mateM, takeM, backM, stuckM, stepM, walkM, moreM, pushM, entryM, entriesM, singleM, singlesM, halfM}
 
 -- ── filling ──
 
-pub start-more : (l : Rows) (v : ℕ) (s : List ℕ) → startM l (v + 1) s ≡ startRowM l (startM l v s) v (v * l .width)
+pub start-more : (l : Rows) (v : ℕ) (s : List ℕ) → startM l (v + 1) s ≡ startRowM l (startM l v s) v
 unfolding startM
 start-more l v s = rw add-one
+
+pub append-so :
+    (l : Rows) (s : List ℕ) (v x p : ℕ) (t₁ t₂ t₃ t₄ : List ℕ) → p ≡ word s (l .b + 2 * (l .top + v) + 1) →
+    t₁ ≡ put-word s (l .b + 2 * p) x → t₂ ≡ put-word t₁ (l .b + 2 * x + 1) p → t₃ ≡ put-word t₂ (l .b + 2 * x) (l .top + v) →
+    t₄ ≡ put-word t₃ (l .b + 2 * (l .top + v) + 1) x → t₄ ≡ appendM l s v x
+unfolding appendM
+append-so l s v x p t₁ t₂ t₃ t₄ ep e₁ e₂ e₃ e₄ = rw (e₄, e₃, e₂, e₁, ep)
 
 pub first-even : (l : Rows) (s : List ℕ) (i : ℕ) → copiesM l s i % 2 ≡ 0 → rowFirstM l s i ≡ put-word s (l .b + 8 * i + 2) 0
 unfolding rowFirstM
@@ -27,11 +34,15 @@ first-even l s i e = rw (eq-eqb (copiesM l s i % 2) 0 e)
 pub first-odd :
     (l : Rows) (s : List ℕ) (i : ℕ) → (copiesM l s i % 2 ≡ 0 → ⊥) →
     rowFirstM l s i
-    ≡ put-word
-    (put-word (put-word s (l .b + 8 * i + 2) 0) (l .b + 8 * firstM l s i + 1) (word s (l .b + 8 * firstM l s i + 1) + 1))
-    (l .b + 8 * i + 5) (word s (l .b + 8 * firstM l s i + 1))
+    ≡ appendM l (put-word (put-word s (l .b + 8 * i + 2) 0) (l .b + 8 * i + 7) (firstM l s i)) (firstM l s i) (4 * i)
 unfolding rowFirstM
 first-odd l s i n = rw (ne-eqb (copiesM l s i % 2) 0 n)
+
+pub first-so :
+    (l : Rows) (s : List ℕ) (i c a : ℕ) (t u r : List ℕ) → c ≡ copiesM l s i → (c % 2 ≡ 0 → ⊥) → a ≡ firstM l s i →
+    t ≡ put-word s (l .b + 8 * i + 2) 0 → u ≡ put-word t (l .b + 8 * i + 7) a → r ≡ appendM l u a (4 * i) → r ≡ rowFirstM l s i
+first-so l s i c a t u r ec n ea et eu er =
+    rw (er, eu, et, ea) (sym (first-odd l s i (λ z. n (ap (λ (k : ℕ). k % 2) ec ∙ z))))
 
 pub firsts-more : (l : Rows) (m k : ℕ) (s : List ℕ) → firstsM l m (k + 1) s ≡ rowFirstM l (firstsM l m k s) (m - 1 - k)
 unfolding firstsM
@@ -43,11 +54,15 @@ second-even l s i e = rw (eq-eqb (copiesM l s i % 2) 0 e)
 
 pub second-odd :
     (l : Rows) (s : List ℕ) (i : ℕ) → (copiesM l s i % 2 ≡ 0 → ⊥) →
-    rowSecondM l s i
-    ≡ linkM l (put-word s (l .b + 8 * secondM l s i + 1) (word s (l .b + 8 * secondM l s i + 1) + 1)) i
-    (word s (l .b + 8 * i + 5)) (firstM l s i) (word s (l .b + 8 * secondM l s i + 1)) (secondM l s i)
+    rowSecondM l s i ≡ appendM l (put-word s (l .b + 8 * i + 3) (secondM l s i)) (secondM l s i) (4 * i + 2)
 unfolding rowSecondM
 second-odd l s i n = rw (ne-eqb (copiesM l s i % 2) 0 n)
+
+pub second-so :
+    (l : Rows) (s : List ℕ) (i c d : ℕ) (t r : List ℕ) → c ≡ copiesM l s i → (c % 2 ≡ 0 → ⊥) → d ≡ secondM l s i →
+    t ≡ put-word s (l .b + 8 * i + 3) d → r ≡ appendM l t d (4 * i + 2) → r ≡ rowSecondM l s i
+second-so l s i c d t r ec n ed et er =
+    rw (er, et, ed) (sym (second-odd l s i (λ z. n (ap (λ (k : ℕ). k % 2) ec ∙ z))))
 
 pub seconds-more : (l : Rows) (m k : ℕ) (s : List ℕ) → secondsM l m (k + 1) s ≡ rowSecondM l (secondsM l m k s) (m - 1 - k)
 unfolding secondsM
@@ -55,31 +70,36 @@ seconds-more l m k s = rw add-one
 
 -- ── the walk ──
 
-pub take-passes :
-    (l : Rows) (s : List ℕ) (w : Walk) (c : ℕ) → word s (l .rows + 2 * c) ≡ 0 →
-    takeM l s w c ≡ record { words = put-word s (l .b + 8 * w .at) (c + 1); walk = w }
-unfolding takeM
-take-passes l s w c e = rw (eq-eqb (word s (l .rows + 2 * c)) 0 e)
+pub pop-so :
+    (l : Rows) (s : List ℕ) (z x q : ℕ) (t u : List ℕ) → q ≡ word s (l .b + 2 * x) → t ≡ put-word s (l .b + 2 * z) q →
+    u ≡ put-word t (l .b + 2 * q + 1) z → u ≡ popM l s z x
+unfolding popM
+pop-so l s z x q t u eq et eu = rw (eu, et, eq)
 
-pub take-takes :
-    (l : Rows) (s : List ℕ) (w : Walk) (c : ℕ) → (word s (l .rows + 2 * c) ≡ 0 → ⊥) →
-    takeM l s w c
-    ≡ record {
-      words =
-          put-word
-          (put-word (put-word s (l .b + 8 * w .at) (c + 1)) (l .rows + 2 * (word s (l .rows + 2 * c) - 1)) 0)
-          (l .b + 8 * w .height + 3)
-          (word s (l .rows + 2 * c + 1) / 2048 * 2048 + w .at);
-      walk =
-          record {
-            next = w .next;
-            at = word s (l .rows + 2 * c + 1) % 2048;
-            height = w .height + 1;
-            written = w .written;
-          };
-    }
+pub unlink-so :
+    (l : Rows) (s : List ℕ) (x q p : ℕ) (t u : List ℕ) → q ≡ word s (l .b + 2 * x) → p ≡ word s (l .b + 2 * x + 1) →
+    t ≡ put-word s (l .b + 2 * p) q → u ≡ put-word t (l .b + 2 * q + 1) p → u ≡ unlinkM l s x
+unfolding unlinkM
+unlink-so l s x q p t u eq ep et eu = rw (eu, et, eq, ep)
+
+pub taken-so :
+    (l : Rows) (s : List ℕ) (w : Walk) (x to : ℕ) (t u v : List ℕ) → to ≡ word s (l .b + 2 * x + 3) →
+    t ≡ popM l s (l .top + w .at) x → u ≡ unlinkM l t (mateM x) → v ≡ put-word u (l .col + 2 * w .height) (x / 4 * 2048 + w .at) →
+    _≡_ {A = Stage}
+    (record { words = v; walk = record { next = w .next; at = to; height = w .height + 1; written = w .written } })
+    (takeM l s w x)
 unfolding takeM
-take-takes l s w c n = rw (ne-eqb (word s (l .rows + 2 * c)) 0 n)
+taken-so l s w x to t u v eo et eu ev = rw (ev, eu, et, eo)
+
+pub stuck-backs : (l : Rows) (s : List ℕ) (w : Walk) → 0 < w .height → stuckM l s w ≡ backM l s w
+unfolding stuckM
+stuck-backs l s w h = rw (lt-ltb 0 (w .height) h)
+
+pub stuck-next :
+    (l : Rows) (s : List ℕ) (w : Walk) → w .height ≤ 0 →
+    stuckM l s w ≡ record { words = s; walk = record { next = w .next + 1; at = w .next + 1; height = 0; written = w .written } }
+unfolding stuckM
+stuck-next l s w h = rw (le-ltb 0 (w .height) h)
 
 pub step-idle : (l : Rows) (parties : ℕ) (t : Stage) → parties ≤ t .walk .next → stepM l parties t ≡ t
 unfolding stepM
@@ -87,30 +107,18 @@ step-idle l parties t h = rw (le-leb parties (t .walk .next) h)
 
 pub step-takes :
     (l : Rows) (parties : ℕ) (s : List ℕ) (w : Walk) → w .next < parties →
-    word s (l .b + 8 * w .at) < word s (l .b + 8 * w .at + 1) →
-    stepM l parties (record { words = s; walk = w }) ≡ takeM l s w (word s (l .b + 8 * w .at))
+    (word s (l .b + 2 * (l .top + w .at)) ≡ l .top + w .at → ⊥) →
+    stepM l parties (record { words = s; walk = w }) ≡ takeM l s w (word s (l .b + 2 * (l .top + w .at)))
 unfolding stepM
 step-takes l parties s w n h =
-    rw (lt-leb parties (w .next) n, lt-ltb (word s (l .b + 8 * w .at)) (word s (l .b + 8 * w .at + 1)) h)
+    rw (lt-leb parties (w .next) n, ne-eqb (word s (l .b + 2 * (l .top + w .at))) (l .top + w .at) h)
 
-pub step-backs :
+pub step-stuck :
     (l : Rows) (parties : ℕ) (s : List ℕ) (w : Walk) → w .next < parties →
-    word s (l .b + 8 * w .at + 1) ≤ word s (l .b + 8 * w .at) → 0 < w .height →
-    stepM l parties (record { words = s; walk = w }) ≡ backM l s w
+    word s (l .b + 2 * (l .top + w .at)) ≡ l .top + w .at → stepM l parties (record { words = s; walk = w }) ≡ stuckM l s w
 unfolding stepM
-step-backs l parties s w n h k =
-    rw
-    (lt-leb parties (w .next) n, le-ltb (word s (l .b + 8 * w .at)) (word s (l .b + 8 * w .at + 1)) h, lt-ltb 0 (w .height) k)
-
-pub step-next :
-    (l : Rows) (parties : ℕ) (s : List ℕ) (w : Walk) → w .next < parties →
-    word s (l .b + 8 * w .at + 1) ≤ word s (l .b + 8 * w .at) → w .height ≤ 0 →
-    stepM l parties (record { words = s; walk = w })
-    ≡ record { words = s; walk = record { next = w .next + 1; at = w .next + 1; height = 0; written = w .written } }
-unfolding stepM
-step-next l parties s w n h k =
-    rw
-    (lt-leb parties (w .next) n, le-ltb (word s (l .b + 8 * w .at)) (word s (l .b + 8 * w .at + 1)) h, le-ltb 0 (w .height) k)
+step-stuck l parties s w n h =
+    rw (lt-leb parties (w .next) n, eq-eqb (word s (l .b + 2 * (l .top + w .at))) (l .top + w .at) h)
 
 pub walk-more : (l : Rows) (parties k : ℕ) (t : Stage) → walkM l parties (k + 1) t ≡ stepM l parties (walkM l parties k t)
 walk-more l parties k t = rw add-one (iterate-suc-out k (stepM l parties) t)
@@ -128,34 +136,28 @@ walk-rests l parties bound k t u h e n =
     more : bound ≡ k + (bound - k)
     more = omega arith
 
-small-take : (l : Rows) (k : ℕ) (s : List ℕ) (w : Walk) (c : ℕ) → Small k w → Small (k + 1) (takeM l s w c .walk)
-unfolding takeM
-small-take l k s w c h = go (eqb (word s (l .rows + 2 * c)) 0)
+small-stuck : (l : Rows) (k : ℕ) (s : List ℕ) (w : Walk) → Small k w → Small (k + 1) (stuckM l s w .walk)
+unfolding stuckM backM
+small-stuck l k s w h = go (ltb 0 (w .height))
   where
-    t : List ℕ
-    t = put-word s (l .b + 8 * w .at) (c + 1)
-
-    u : List ℕ
-    u =
-        put-word (put-word t (l .rows + 2 * (word s (l .rows + 2 * c) - 1)) 0) (l .b + 8 * w .height + 3)
-        (word s (l .rows + 2 * c + 1) / 2048 * 2048 + w .at)
-
-    x : ℕ
-    x = word s (l .rows + 2 * c + 1) % 2048
-
     go :
-        (b : Bool) →
+        (c : Bool) →
         Small (k + 1)
-        (pick {A = Stage} b (record { words = t; walk = w })
-        (record { words = u; walk = record { next = w .next; at = x; height = w .height + 1; written = w .written } }) .walk)
+        (pick c (backM l s w)
+        (record {
+          words = s;
+          walk = record { next = w .next + 1; at = w .next + 1; height = 0; written = w .written };
+        }) .walk)
     go true = omega arith
     go false = omega arith
 
--- the numbers of a walk grow by at most 1 a step
-pub small-step : (l : Rows) (parties k : ℕ) (t : Stage) → Small k (t .walk) → Small (k + 1) (stepM l parties t .walk)
-unfolding stepM backM
-small-step l parties k t h =
-    go (leb parties (w .next)) (ltb (word s (l .b + 8 * w .at)) (word s (l .b + 8 * w .at + 1))) (ltb 0 (w .height))
+-- the numbers of a walk grow by at most 1 a step, but for the party, which is a word
+pub small-step :
+    (l : Rows) (parties k : ℕ) (t : Stage) → ((i : ℕ) → word (t .words) i < 4294967296) → Small k (t .walk) →
+    Small (k + 1) (stepM l parties t .walk)
+unfolding stepM takeM
+small-step l parties k t fit h =
+    go (leb parties (w .next)) (eqb (word s (l .b + 2 * (l .top + w .at))) (l .top + w .at))
   where
     s : List ℕ
     s = t .words
@@ -164,19 +166,11 @@ small-step l parties k t h =
     w = t .walk
 
     go :
-        (a b c : Bool) →
-        Small (k + 1)
-        (pick a t
-        (pick b (takeM l s w (word s (l .b + 8 * w .at)))
-        (pick c (backM l s w)
-        (record {
-          words = s;
-          walk = record { next = w .next + 1; at = w .next + 1; height = 0; written = w .written };
-        }))) .walk)
-    go true b c = omega arith
-    go false true c = small-take l k s w (word s (l .b + 8 * w .at)) h
-    go false false true = omega arith
-    go false false false = omega arith
+        (a b : Bool) →
+        Small (k + 1) (pick a t (pick b (stuckM l s w) (takeM l s w (word s (l .b + 2 * (l .top + w .at))))) .walk)
+    go true b = omega arith
+    go false true = small-stuck l k s w h
+    go false false = omega (arith, fit (l .b + 2 * word s (l .b + 2 * (l .top + w .at)) + 3))
 
 -- ── the halves ──
 
@@ -215,19 +209,19 @@ entry-count l h parity t i = go (ltb (copiesM l (t .words) i) 2)
     go true = omega arith
     go false = omega arith
 
-pub single-big : (l : Rows) (h : ℕ) (t : Pushed) (j : ℕ) → 2 ≤ copiesM l (t .words) (word (t .words) (l .b + 8 * j + 4)) → singleM l h t j ≡ t
+pub single-big : (l : Rows) (h : ℕ) (t : Pushed) (j : ℕ) → 2 ≤ copiesM l (t .words) (word (t .words) (l .col + 2 * j + 1)) → singleM l h t j ≡ t
 unfolding singleM
-single-big l h t j e = rw (le-leb 2 (copiesM l (t .words) (word (t .words) (l .b + 8 * j + 4))) e)
+single-big l h t j e = rw (le-leb 2 (copiesM l (t .words) (word (t .words) (l .col + 2 * j + 1))) e)
 
 pub single-small :
-    (l : Rows) (h : ℕ) (t : Pushed) (j : ℕ) → copiesM l (t .words) (word (t .words) (l .b + 8 * j + 4)) < 2 →
+    (l : Rows) (h : ℕ) (t : Pushed) (j : ℕ) → copiesM l (t .words) (word (t .words) (l .col + 2 * j + 1)) < 2 →
     singleM l h t j
     ≡ record {
-      words = pushM h (t .words) (t .count) (word (t .words) (l .g + 2 + 2 * word (t .words) (l .b + 8 * j + 4))) 1;
+      words = pushM h (t .words) (t .count) (word (t .words) (l .g + 2 + 2 * word (t .words) (l .col + 2 * j + 1))) 1;
       count = t .count + 1;
     }
 unfolding singleM
-single-small l h t j e = rw (lt-leb 2 (copiesM l (t .words) (word (t .words) (l .b + 8 * j + 4))) e)
+single-small l h t j e = rw (lt-leb 2 (copiesM l (t .words) (word (t .words) (l .col + 2 * j + 1))) e)
 
 pub singles-more :
     (l : Rows) (h parity k : ℕ) (t : Pushed) →
@@ -237,10 +231,10 @@ singles-more l h parity k t = rw add-one
 
 pub single-count : (l : Rows) (h : ℕ) (t : Pushed) (j : ℕ) → singleM l h t j .count ≤ t .count + 1
 unfolding singleM
-single-count l h t j = go (leb 2 (copiesM l (t .words) (word (t .words) (l .b + 8 * j + 4))))
+single-count l h t j = go (leb 2 (copiesM l (t .words) (word (t .words) (l .col + 2 * j + 1))))
   where
     u : List ℕ
-    u = pushM h (t .words) (t .count) (word (t .words) (l .g + 2 + 2 * word (t .words) (l .b + 8 * j + 4))) 1
+    u = pushM h (t .words) (t .count) (word (t .words) (l .g + 2 + 2 * word (t .words) (l .col + 2 * j + 1))) 1
 
     go : (b : Bool) → pick b t (record { words = u; count = t .count + 1 }) .count ≤ t .count + 1
     go true = omega arith
@@ -248,29 +242,8 @@ single-count l h t j = go (leb 2 (copiesM l (t .words) (word (t .words) (l .b + 
 
 -- ── whole functions, from what each of their calls gives ──
 
-pub taken-so :
-    (l : Rows) (s : List ℕ) (w : Walk) (c mate x : ℕ) (t u v : List ℕ) →
-    mate ≡ word s (l .rows + 2 * c) → x ≡ word s (l .rows + 2 * c + 1) → t ≡ put-word s (l .b + 8 * w .at) (c + 1) →
-    (mate ≡ 0 → ⊥) → u ≡ put-word t (l .rows + 2 * (mate - 1)) 0 →
-    v ≡ put-word u (l .b + 8 * w .height + 3) (x / 2048 * 2048 + w .at) →
-    _≡_ {A = Stage}
-    (record {
-      words = v;
-      walk = record { next = w .next; at = x % 2048; height = w .height + 1; written = w .written };
-    })
-    (takeM l s w c)
-taken-so l s w c mate x t u v em ex et n eu ev =
-    rw (ev, eu, et, ex, em) (sym (take-takes l s w c (λ z. n (em ∙ z))))
-
-pub second-so :
-    (l : Rows) (s : List ℕ) (i c a d h x : ℕ) (t u : List ℕ) → c ≡ copiesM l s i → (c % 2 ≡ 0 → ⊥) → a ≡ firstM l s i →
-    d ≡ secondM l s i → h ≡ word s (l .b + 8 * d + 1) → x ≡ word s (l .b + 8 * i + 5) →
-    t ≡ put-word s (l .b + 8 * d + 1) (h + 1) → u ≡ linkM l t i x a h d → u ≡ rowSecondM l s i
-second-so l s i c a d h x t u ec n ea ed eh ex et eu =
-    rw (eu, et, ex, eh, ed, ea) (sym (second-odd l s i (λ z. n (ap (λ (k : ℕ). k % 2) ec ∙ z))))
-
 pub single-so :
-    (l : Rows) (h : ℕ) (s : List ℕ) (at j i c e : ℕ) (t : List ℕ) (r : ℕ) → i ≡ word s (l .b + 8 * j + 4) →
+    (l : Rows) (h : ℕ) (s : List ℕ) (at j i c e : ℕ) (t : List ℕ) (r : ℕ) → i ≡ word s (l .col + 2 * j + 1) →
     c ≡ copiesM l s i → c < 2 → e ≡ word s (l .g + 2 + 2 * i) → t ≡ pushM h s at e 1 → r ≡ at + 1 →
     _≡_ {A = Pushed} (record { words = t; count = r }) (singleM l h (record { words = s; count = at }) j)
 single-so l h s at j i c e t r ei ec n ee et er =

@@ -137,27 +137,27 @@ every-other-dealt f b (x ∷ ws) =
 -- every other place written, from `parity` on
 unfoldable pub picks : Rows → List ℕ → ℕ → ℕ → List ℕ
 picks l s parity zero = []
-picks l s parity (suc k) = picks l s parity k ++ (word s (l .b + 8 * (parity + 2 * k) + 4) ∷ [])
+picks l s parity (suc k) = picks l s parity k ++ (word s (l .col + 2 * (parity + 2 * k) + 1) ∷ [])
 
 pub picks-dealt :
     (l : Rows) (s : List ℕ) (parity n : ℕ) → parity < 2 →
-    picks l s parity ((n + 1 - parity) / 2) ≡ dealt parity (column l 4 s n)
+    picks l s parity ((n + 1 - parity) / 2) ≡ dealt parity (column l false s n)
 unfolding picks column dealt
 picks-dealt l s parity zero b = let e : (0 + 1 - parity) / 2 ≡ 0 = omega arith in rw e
 picks-dealt l s parity (suc n) b =
-    let len : length (column l 4 s n) ≡ n = column-length l 4 s n in
+    let len : length (column l false s n) ≡ n = column-length l false s n in
     elim (ℕ-discrete (n % 2) parity) [
       | yes q ↦
           let k : ℕ = (n + 1 - parity) / 2 in
           let e : (suc n + 1 - parity) / 2 ≡ suc k = omega arith in
           let at : parity + 2 * k ≡ n = omega arith in
           ap (picks l s parity) e
-          ∙ ap (λ (j : ℕ). picks l s parity k ++ (word s (l .b + 8 * j + 4) ∷ [])) at
-          ∙ ap (λ (xs : List ℕ). xs ++ (word s (l .b + 8 * n + 4) ∷ [])) (picks-dealt l s parity n b)
-          ∙ sym (dealt-yes parity (word s (l .b + 8 * n + 4)) (column l 4 s n) (ap (λ (k : ℕ). k % 2) len ∙ q))
+          ∙ ap (λ (j : ℕ). picks l s parity k ++ (word s (l .col + 2 * j + 1) ∷ [])) at
+          ∙ ap (λ (xs : List ℕ). xs ++ (word s (l .col + 2 * n + 1) ∷ [])) (picks-dealt l s parity n b)
+          ∙ sym (dealt-yes parity (word s (l .col + 2 * n + 1)) (column l false s n) (ap (λ (k : ℕ). k % 2) len ∙ q))
       | no q ↦
           let e : (suc n + 1 - parity) / 2 ≡ (n + 1 - parity) / 2 = omega arith in
           ap (picks l s parity) e
           ∙ picks-dealt l s parity n b
-          ∙ sym (dealt-no parity (word s (l .b + 8 * n + 4)) (column l 4 s n) (λ z. q (ap (λ (k : ℕ). k % 2) (sym len) ∙ z)))
+          ∙ sym (dealt-no parity (word s (l .col + 2 * n + 1)) (column l false s n) (λ z. q (ap (λ (k : ℕ). k % 2) (sym len) ∙ z)))
     ]

@@ -49,7 +49,7 @@ module _ (s : List ℕ) (u ends g n width : ℕ) (q : Splits s u ends g n width)
   m = word s (g + 1)
 
   abbrev l : Rows
-  l = laid u k ends g width
+  l = laid u k ends g
 
   abbrev h₂ : ℕ
   h₂ = u + 2 * k
@@ -67,16 +67,16 @@ module _ (s : List ℕ) (u ends g n width : ℕ) (q : Splits s u ends g n width)
       let two : n * 2 ≤ n * width = mul-le-mul-left n (q .two) in
       record {
         place = refl;
-        room = omega arith;
+        column = refl;
+        room = omega (arith, q .room);
         small = q .short;
         parties = omega arith;
         few = q .few;
-        entries = omega arith;
-        short = omega arith;
-        wide = omega (arith, mul-assoc 2 n width);
-        graph = omega arith;
+        entries = omega (arith, q .pairs, q .some);
+        short = omega (arith, q .pairs, q .size);
+        graph = omega (arith, q .graph);
         table = λ i b. omega (arith, q .table i b);
-        fit = ends-fit l s N m (q .side) (2 * q .half) reg width (q .wide);
+        fit = ends-fit l s N m (q .side) (2 * q .half) reg;
       }
 
   module _ (pairs : ℕ) where
@@ -108,15 +108,15 @@ module _ (s : List ℕ) (u ends g n width : ℕ) (q : Splits s u ends g n width)
 
     -- the walk on words, from filled rows
     abbrev walked : Stage
-    walked = walkM l N (3 * m + N) (begun (fillM l m N s))
+    walked = walkM l N (2 * m + N) (begun (fillM l m N s))
 
     walk-done :
         Walked-all l N m k s grounds flag r (q .side) (rest-slant l s N m (q .side) (2 * q .half) reg pairs)
         (rest-evens l s N m (q .side) (2 * q .half) reg pairs (q .half) refl) walked
     walk-done =
         walked-all l N m k s grounds flag r (q .side) (rest-slant l s N m (q .side) (2 * q .half) reg pairs)
-        (rest-evens l s N m (q .side) (2 * q .half) reg pairs (q .half) refl) (fillM l m N s) (filled l N m k s grounds)
-        (rest-odd l s N m (q .side) (2 * q .half) reg pairs width)
+        (rest-evens l s N m (q .side) (2 * q .half) reg pairs (q .half) refl) (fillM l m N s) (filled l N m k s grounds flag)
+        (rest-odd l s N m (q .side) (2 * q .half) reg pairs)
 
     abbrev ws : List ℕ
     ws = walk-done .ws
@@ -206,6 +206,7 @@ module _ (s : List ℕ) (u ends g n width : ℕ) (q : Splits s u ends g n width)
           less = less;
           above = omega arith;
           under = omega arith;
+          behind = omega arith;
           inside = omega (arith, q .room);
           small = omega (arith, q .short);
         }
@@ -223,12 +224,13 @@ module _ (s : List ℕ) (u ends g n width : ℕ) (q : Splits s u ends g n width)
           fits = λ i b. fit (g + 3 + 2 * i);
           keeps = keeps-trans (ready-first .keeps) (record { len = o .len; same = o .under });
           marks = λ i b. o .over (l .b + 8 * i + 2) (omega arith) ∙ walk-done .marks i b;
-          written = column-same l 4 s₂ s₃ wr (λ j b. o .over (l .b + 8 * j + 4) (omega arith)) ∙ walk-done .written;
+          written = column-same l false s₂ s₃ wr (λ j b. o .over (l .col + 2 * j + 1) (omega arith)) ∙ walk-done .written;
           places = walk-done .places;
           once = once;
           less = less;
           above = omega arith;
           under = omega arith;
+          behind = omega arith;
           inside = omega (arith, q .room);
           small = omega (arith, q .short);
         }
@@ -301,7 +303,7 @@ width-small s u ends g n width q =
 
 pub split-asks :
     (s : List ℕ) (u ends g n width m : ℕ) → Splits s u ends g n width → m < 4294967296 →
-    Fits (laid u (n * (width + 1)) ends g width)
+    Fits (laid u (n * (width + 1)) ends g)
     × (u < 4294967296)
     × (u + 2 * (n * (width + 1)) < 4294967296)
     × (m < 4294967296)
@@ -311,9 +313,9 @@ split-asks s u ends g n width m q b =
       record {
         graph = omega (arith, q .graph, q .room, q .short);
         table = omega (arith, q .base, q .room, q .short);
+        rings = omega (arith, q .room, q .short);
+        parties = omega (arith, q .size);
         columns = omega (arith, q .room, q .short);
-        rows = omega (arith, q .room, q .short);
-        width = omega (arith, q .size);
       },
       omega (arith, q .room, q .short),
       omega (arith, q .room, q .short),
@@ -323,8 +325,8 @@ split-asks s u ends g n width m q b =
 
 pub split-so :
     (l : Rows) (h₁ h₂ m parties wr : ℕ) (s t₁ t₂ t₃ t₄ : List ℕ) → t₁ ≡ fillM l m parties s →
-    t₂ ≡ walkM l parties (3 * m + parties) (begun t₁) .words →
-    wr ≡ walkM l parties (3 * m + parties) (begun t₁) .walk .written → t₃ ≡ halfM l h₁ 0 m wr t₂ → t₄ ≡ halfM l h₂ 1 m wr t₃ →
+    t₂ ≡ walkM l parties (2 * m + parties) (begun t₁) .words →
+    wr ≡ walkM l parties (2 * m + parties) (begun t₁) .walk .written → t₃ ≡ halfM l h₁ 0 m wr t₂ → t₄ ≡ halfM l h₂ 1 m wr t₃ →
     t₄ ≡ splitM l h₁ h₂ m parties s
 unfolding splitM
 split-so l h₁ h₂ m parties wr s t₁ t₂ t₃ t₄ e₁ e₂ e₃ e₄ e₅ = rw (e₅, e₄, e₃, e₂, e₁)

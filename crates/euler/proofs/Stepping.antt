@@ -1,5 +1,5 @@
--- The walk on words follows the walk of the definition, step for step, but for the steps that pass a used half-edge; and each
--- step lowers one number, so that it ends in time. Assumes nothing.
+-- The walk on words follows the walk of the definition, step for step, and each step lowers one number, so that it ends in
+-- time. Assumes nothing.
 use Prim.Native.Nat.{ℕ, zero, suc, _+_, _*_, _-_, _/_, _%_, _≤_, _<_}
 use mathlib.Core.Path.{_≡_, refl, sym, _∙_, ap, subst}
 use mathlib.Core.Bool.{Bool, true, false, not}
@@ -11,26 +11,25 @@ use native.Mathlib.Decide.{ℕ-discrete, decLt}
 use borrow.Author.Tests.{eq-eqb, ne-eqb}
 use lib.Dec.{eqb}
 use lib.ListN.{length}
-use Rattle.words.specs.Basics.{is, sum-below, total, All, iterate}
+use Rattle.words.specs.Basics.{total, All, iterate}
 use Rattle.words.specs.Words.{word, put-word}
 use Rattle.words.specs.Frames.{Keeps}
-use Rattle.words.proofs.Sums.{is-eq, is-ne, sum-below-cong, sum-below-add, sum-below-is, sum-below-swap, sum-below-le, sum-below-mul, sum-below-const}
-use Rattle.words.proofs.Frames.{here, away, length-put, keeps-refl, keeps-then-put}
+use Rattle.words.proofs.Frames.{here, away, length-put}
 use Rattle.words.proofs.Runs.{iterate-suc-out, iterate-ends, iterate-keeps}
 use Rattle.multigraph.specs.Multigraph.{Pair, pair}
 use Rattle.euler.specs.declared.Rows.{Rows}
 use Rattle.euler.specs.declared.Walk.{Walk}
 use Rattle.euler.specs.Euler.{taken, none, first-pair, other-node, Step, Walking, standing, walk-step}
-use Rattle.euler.specs.Model.{Stage, copiesM, firstM, secondM, takeM, backM, stepM, walkM}
+use Rattle.euler.specs.Model.{Stage, copiesM, popM, unlinkM, mateM, takeM, backM, stuckM, stepM, walkM}
 use Rattle.euler.proofs.Taken.{ends}
 use Rattle.euler.proofs.Trail.{aslant}
 use Rattle.euler.proofs.Straight.{straight, straight-ended, rests-same, ended-rests}
-use Rattle.euler.proofs.Places.{descend, descend-falling, keep-length, descend-length, without, Falling, keep-falling, row, first-taken, first-none, without-shorter}
-use Rattle.euler.proofs.Positions.{hit, end, pos, fin, Odd, end-below, pos-bound, fin-high, Half-edge, odd-places}
-use Rattle.euler.proofs.ModelLaws.{take-passes, take-takes, step-idle, step-takes, step-backs, step-next}
-use Rattle.euler.proofs.Filling.{Laid, Filled, away2, away3}
-use Rattle.euler.proofs.Scans.{scan, scan-free, scan-filled, Taken-at, P}
-use Rattle.euler.proofs.Following.{column, column-same, mark-of, Rowed, Same-rows, rowed-same, Advanced, rowed-pass, rowed-take, standing-at}
+use Rattle.euler.proofs.Places.{keep, keep-yes, keep-no, keep-all, descend, descend-below, descend-falling, keep-length, descend-length, without, Falling, keep-falling, row, first-taken, first-none, without-shorter}
+use Rattle.euler.proofs.Rings.{Chain}
+use Rattle.euler.proofs.Nodes.{Odd, odds, odd-places, edge, end, nodes, First, first-node}
+use Rattle.euler.proofs.ModelLaws.{step-idle, step-takes, step-stuck, stuck-backs, stuck-next}
+use Rattle.euler.proofs.Filling.{Laid, P, Filled, Same-nodes, same-mark, same-high, same-trans, edge-is, end-below, Aside, away2}
+use Rattle.euler.proofs.Following.{slot, column, column-same, mark-of, Rowed, rowed-same, has-odd, rowed-take}
 
 iterate-zero {ℓ} : {A : Type ℓ} (f : A → A) (a : A) → iterate 0 f a ≡ a
 unfolding iterate
@@ -43,17 +42,17 @@ straight-more-is v r = refl
 
 -- ── columns ──
 
-pub column-more : (l : Rows) (c : ℕ) (s : List ℕ) (n : ℕ) → column l c s (n + 1) ≡ word s (l .b + 8 * n + c) ∷ column l c s n
+pub column-more : (l : Rows) (c : Bool) (s : List ℕ) (n : ℕ) → column l c s (n + 1) ≡ word s (slot c l n) ∷ column l c s n
 unfolding column
 column-more l c s n = rw add-one
 
 pub column-first :
-    (l : Rows) (c : ℕ) (s : List ℕ) (n : ℕ) → 0 < n → column l c s n ≡ word s (l .b + 8 * (n - 1) + c) ∷ column l c s (n - 1)
+    (l : Rows) (c : Bool) (s : List ℕ) (n : ℕ) → 0 < n → column l c s n ≡ word s (slot c l (n - 1)) ∷ column l c s (n - 1)
 unfolding column
 column-first l c s zero h = absurd (omega arith)
 column-first l c s (suc n) h = let e : suc n - 1 ≡ n = omega arith in rw e
 
-pub column-length : (l : Rows) (c : ℕ) (s : List ℕ) (n : ℕ) → length (column l c s n) ≡ n
+pub column-length : (l : Rows) (c : Bool) (s : List ℕ) (n : ℕ) → length (column l c s n) ≡ n
 unfolding column
 column-length l c s zero = refl
 column-length l c s (suc n) = ap suc (column-length l c s n)
@@ -70,29 +69,18 @@ module _ (l : Rows) (N m k : ℕ) (s₀ : List ℕ) (g : Laid l N m k s₀) (fla
   abbrev C : ℕ → ℕ
   C i = copiesM l s₀ i
 
-  abbrev F : ℕ → ℕ
-  F i = firstM l s₀ i
-
-  abbrev S : ℕ → ℕ
-  S i = secondM l s₀ i
-
-  abbrev at : Bool → ℕ → ℕ
-  at d i = pos N m (l .width) C F S d i
-
-  abbrev far : Bool → ℕ → ℕ
-  far d i = end N m (l .width) C F S (not d) i
-
   abbrev odd : ℕ → Type 0
-  odd i = Odd N m (l .width) C F S i
-
-  abbrev stop : ℕ → ℕ
-  stop v = fin N m (l .width) C F S v
+  odd i = Odd m C i
 
   abbrev Q : ℕ → Pair
   Q i = P l N m k s₀ g flag i
 
+  -- the party to which a half-edge leads
+  abbrev far : Bool → ℕ → ℕ
+  far d i = end Q (not d) i
+
   abbrev places-all : List ℕ
-  places-all = odd-places N m (l .width) C F S
+  places-all = odd-places m C
 
   -- at most as many places as entries
   few-places : length places-all ≤ m
@@ -153,8 +141,8 @@ module _ (l : Rows) (N m k : ℕ) (s₀ : List ℕ) (g : Laid l N m k s₀) (fla
   module _ (r : List Pair) (side : ℕ → ℕ) (slant : total (aslant side) r ≡ 0) (evens : (v : ℕ) → total (ends v) r % 2 ≡ 0) where
     pub record Live (s : List ℕ) (w : Walk) (xs ws is : List ℕ) : Type 0 where
       pub rows : Rowed l N m k s₀ g flag s is
-      pub stack : column l 3 s (w .height) ≡ xs
-      pub written : column l 4 s (w .written) ≡ ws
+      pub stack : column l true s (w .height) ≡ xs
+      pub written : column l false s (w .written) ≡ ws
       pub marks : (i : ℕ) → i < m → word s (l .b + 8 * i + 2) ≡ mark-of i ws
       pub falling : Falling is
       pub size : length is + w .height + w .written ≡ length places-all
@@ -165,29 +153,12 @@ module _ (l : Rows) (N m k : ℕ) (s₀ : List ℕ) (g : Laid l N m k s₀) (fla
       pub reached : (j : ℕ) × (walking (w .at) xs is ws ≡ iterate j (walk-step (w .next)) (straight (w .next) r))
       pub done : N ≤ w .next → walking (w .at) xs is ws ≡ straight (w .next) r
 
-    -- half-edges not passed, places not written, parties to come
+    -- places not taken, places not written, parties to come
     unfoldable pub measure : Stage → ℕ
     measure t =
-        sum-below (λ v. stop v - word (t .words) (l .b + 8 * v)) N
+        (length places-all - (t .walk .height + t .walk .written))
         + (length places-all - t .walk .written)
         + (N - t .walk .next)
-
-    -- one party's cursor moved on
-    passed :
-        (v : ℕ) (s t : List ℕ) → v < N → word s (l .b + 8 * v) < stop v →
-        Advanced l N m k s₀ g flag v (word s (l .b + 8 * v)) s t →
-        sum-below (λ u. stop u - word s (l .b + 8 * u)) N ≡ sum-below (λ u. stop u - word t (l .b + 8 * u)) N + 1
-    passed v s t b less a =
-        sum-below-cong N each
-        ∙ sum-below-add (λ u. stop u - word t (l .b + 8 * u)) (λ u. is u v) N
-        ∙ ap (λ (x : ℕ). sum-below (λ u. stop u - word t (l .b + 8 * u)) N + x) (sum-below-is v N b)
-      where
-        each : (u : ℕ) → u < N → stop u - word s (l .b + 8 * u) ≡ stop u - word t (l .b + 8 * u) + is u v
-        each u c =
-            elim (ℕ-discrete u v) [
-              | yes e ↦ rw (e, a .cursor) (omega (arith, is-eq {u = v} refl))
-              | no n ↦ omega (arith, a .cursors u c n, is-ne {u = u} {v = v} n)
-            ]
 
     -- what a step comes to
     pub record Moved (t u : Stage) : Type 0 where
@@ -197,213 +168,107 @@ module _ (l : Rows) (N m k : ℕ) (s₀ : List ℕ) (g : Laid l N m k s₀) (fla
       pub live : Live (u .words) (u .walk) xs ws is
       pub less : measure u < measure t
 
-    -- ── a used half-edge is passed ──
+    -- ── a half-edge is taken ──
 
-    live-pass :
-        (s : List ℕ) (w : Walk) (xs ws is : List ℕ) → Live s w xs ws is → w .next < N →
-        word s (l .b + 8 * w .at) < stop (w .at) → word s (l .rows + 2 * word s (l .b + 8 * w .at)) ≡ 0 →
-        Moved (record { words = s; walk = w })
-        (record { words = put-word s (l .b + 8 * w .at) (word s (l .b + 8 * w .at) + 1); walk = w })
-    unfolding measure
-    live-pass s w xs ws is h b less z =
-        let v : ℕ = w .at in
-        let vb : v < N = sound-here v xs (h .sound b) in
-        let len : length s ≡ length s₀ = h .rows .keeps .len in
-        let c : ℕ = word s (l .b + 8 * v) in
-        let t : List ℕ = put-word s (l .b + 8 * v) (c + 1) in
-        let small : c + 1 < 4294967296 = omega (arith, fin-high N m (l .width) C F S (g .fit) v vb) in
-        let a : Advanced l N m k s₀ g flag v c s t =
-        record {
-          keeps = keeps-then-put (l .b + 8 * v) (c + 1) (omega arith) (keeps-refl (l .b) s);
-          cursor = here s (l .b + 8 * v) (c + 1) (omega arith) small;
-          cursors = λ u e n. away s (l .b + 8 * v) (l .b + 8 * u) (c + 1) (λ q. n (omega arith));
-          ends = λ u e. away s (l .b + 8 * v) (l .b + 8 * u + 1) (c + 1) (λ q. omega arith);
-          infos = λ y. away s (l .b + 8 * v) (l .rows + 2 * y + 1) (c + 1) (λ q. omega arith);
-        } in
-        record {
-          xs = xs;
-          ws = ws;
-          is = is;
-          live =
-              record {
-                rows =
-                    rowed-pass l N m k s₀ g flag v s t is vb (h .rows) less z a
-                    (λ y. away s (l .b + 8 * v) (l .rows + 2 * y) (c + 1) (λ q. omega arith));
-                stack =
-                    column-same l 3 s t (w .height) (λ j e. away s (l .b + 8 * v) (l .b + 8 * j + 3) (c + 1) (λ q. omega arith))
-                    ∙ h .stack;
-                written =
-                    column-same l 4 s t (w .written) (λ j e. away s (l .b + 8 * v) (l .b + 8 * j + 4) (c + 1) (λ q. omega arith))
-                    ∙ h .written;
-                marks = λ i e. away s (l .b + 8 * v) (l .b + 8 * i + 2) (c + 1) (λ q. omega arith) ∙ h .marks i e;
-                falling = h .falling;
-                size = h .size;
-                rooted = h .rooted;
-                sound = h .sound;
-                places = h .places;
-                inside = h .inside;
-                reached = h .reached;
-                done = h .done;
-              };
-          less = omega (arith, passed v s t vb less a);
-        }
+    mate-is : (d : Bool) (i : ℕ) → mateM (edge d i) ≡ edge (not d) i
+    mate-is true i = omega arith
+    mate-is false i = omega arith
 
-    -- ── an unused half-edge is taken ──
-
-    take-form :
-        (s : List ℕ) (w : Walk) (c y i f : ℕ) → word s (l .rows + 2 * c) ≡ y + 1 →
-        word s (l .rows + 2 * c + 1) ≡ i * 2048 + f → f < 2048 →
-        takeM l s w c
-        ≡ record {
-          words =
-              put-word (put-word (put-word s (l .b + 8 * w .at) (c + 1)) (l .rows + 2 * y) 0) (l .b + 8 * w .height + 3)
-              (i * 2048 + w .at);
-          walk = record { next = w .next; at = f; height = w .height + 1; written = w .written };
-        }
-    take-form s w c y i f em ei b =
-        let e₁ : (i * 2048 + f) / 2048 ≡ i = omega arith in
-        let e₂ : (i * 2048 + f) % 2048 ≡ f = omega arith in
-        let e₃ : y + 1 - 1 ≡ y = omega arith in
-        take-takes l s w c (λ z. omega arith) ∙ shape (word s (l .rows + 2 * c)) (word s (l .rows + 2 * c + 1)) em ei e₁ e₂ e₃
-      where
-        shape :
-            (mate x : ℕ) → mate ≡ y + 1 → x ≡ i * 2048 + f → (i * 2048 + f) / 2048 ≡ i → (i * 2048 + f) % 2048 ≡ f →
-            y + 1 - 1 ≡ y →
-            _≡_ {A = Stage}
-            (record {
-              words =
-                  put-word (put-word (put-word s (l .b + 8 * w .at) (c + 1)) (l .rows + 2 * (mate - 1)) 0)
-                  (l .b + 8 * w .height + 3)
-                  (x / 2048 * 2048 + w .at);
-              walk = record { next = w .next; at = x % 2048; height = w .height + 1; written = w .written };
-            })
-            (record {
-              words =
-                  put-word (put-word (put-word s (l .b + 8 * w .at) (c + 1)) (l .rows + 2 * y) 0) (l .b + 8 * w .height + 3)
-                  (i * 2048 + w .at);
-              walk = record { next = w .next; at = f; height = w .height + 1; written = w .written };
-            })
-        shape mate x em ei e₁ e₂ e₃ = rw (em, ei, e₁, e₂, e₃)
+    entry-is : (d : Bool) (i : ℕ) → edge d i / 4 ≡ i
+    entry-is true i = omega arith
+    entry-is false i = omega arith
 
     -- the other party of the half-edge (d, i)
-    other-party : (d : Bool) (i v : ℕ) → i < m → end N m (l .width) C F S d i ≡ v → other-node (Q i) v ≡ far d i
-    other-party true i v b e = rw (eq-eqb v (F i) (sym e))
-    other-party false i v b e = rw (ne-eqb v (F i) (λ q. g .fit .different i b (sym q ∙ sym e)))
+    other-party : (d : Bool) (i v : ℕ) → i < m → end Q d i ≡ v → other-node (Q i) v ≡ far d i
+    other-party true i v b e = rw (eq-eqb v (Q i .first) (sym e))
+    other-party false i v b e = rw (ne-eqb v (Q i .first) (λ q. g .fit .different i b (sym q ∙ sym e)))
+
+    -- both half-edges of an entry taken out
+    abbrev out : List ℕ → ℕ → Bool → ℕ → List ℕ
+    out s v d i = unlinkM l (popM l s (l .top + v) (edge d i)) (edge (not d) i)
 
     -- the words after taking
-    abbrev took : List ℕ → Walk → ℕ → ℕ → ℕ → List ℕ
-    took s w c y i =
-        put-word (put-word (put-word s (l .b + 8 * w .at) (c + 1)) (l .rows + 2 * y) 0) (l .b + 8 * w .height + 3)
-        (i * 2048 + w .at)
+    abbrev took : List ℕ → Walk → Bool → ℕ → List ℕ
+    took s w d i = put-word (out s (w .at) d i) (l .col + 2 * w .height) (i * 2048 + w .at)
 
-    took-away :
-        (s : List ℕ) (w : Walk) (c y i a : ℕ) → (a ≡ l .b + 8 * w .at → ⊥) → (a ≡ l .rows + 2 * y → ⊥) →
-        (a ≡ l .b + 8 * w .height + 3 → ⊥) → word (took s w c y i) a ≡ word s a
-    took-away s w c y i a p q r =
-        away3 s (l .b + 8 * w .at) (c + 1) (l .rows + 2 * y) 0 (l .b + 8 * w .height + 3) (i * 2048 + w .at) a p q r
-
-    took-advanced :
-        (s : List ℕ) (w : Walk) (c y i : ℕ) → length s ≡ length s₀ → w .at < N → w .height < k → c + 1 < 4294967296 →
-        Advanced l N m k s₀ g flag (w .at) c s (took s w c y i)
-    took-advanced s w c y i len vb hb small =
-        record {
-          keeps =
-              keeps-then-put (l .b + 8 * w .height + 3) (i * 2048 + w .at) (omega arith)
-              (keeps-then-put (l .rows + 2 * y) 0 (omega arith)
-              (keeps-then-put (l .b + 8 * w .at) (c + 1) (omega arith) (keeps-refl (l .b) s)));
-          cursor =
-              away2 (put-word s (l .b + 8 * w .at) (c + 1)) (l .rows + 2 * y) 0 (l .b + 8 * w .height + 3) (i * 2048 + w .at)
-              (l .b + 8 * w .at) (λ q. omega arith) (λ q. omega arith)
-              ∙ here s (l .b + 8 * w .at) (c + 1) (omega arith) small;
-          cursors = λ u e n. took-away s w c y i (l .b + 8 * u) (λ q. n (omega arith)) (λ q. omega arith) (λ q. omega arith);
-          ends = λ u e. took-away s w c y i (l .b + 8 * u + 1) (λ q. omega arith) (λ q. omega arith) (λ q. omega arith);
-          infos = λ z. took-away s w c y i (l .rows + 2 * z + 1) (λ q. omega arith) (λ q. omega arith) (λ q. omega arith);
+    take-form :
+        (s : List ℕ) (w : Walk) (d : Bool) (i x : ℕ) → x ≡ edge d i → word s (l .b + 2 * edge d i + 3) ≡ far d i →
+        takeM l s w x
+        ≡ record {
+          words = took s w d i;
+          walk = record { next = w .next; at = far d i; height = w .height + 1; written = w .written };
         }
-
-    took-taken :
-        (s : List ℕ) (w : Walk) (c : ℕ) (d : Bool) (i : ℕ) → length s ≡ length s₀ → w .at < N → w .height < k → odd i →
-        Taken-at l N m k s₀ g flag d i s (took s w c (at (not d) i) i)
-    took-taken s w c d i len vb hb o =
-        let y : ℕ = at (not d) i in
-        let yb : y < N * l .width = pos-bound N m (l .width) C F S (g .fit) (not d) i o in
-        let s₁ : List ℕ = put-word s (l .b + 8 * w .at) (c + 1) in
-        let l₁ : length s₁ ≡ length s = length-put s (l .b + 8 * w .at) (c + 1) in
-        record {
-          zeroed =
-              away (put-word s₁ (l .rows + 2 * y) 0) (l .b + 8 * w .height + 3) (l .rows + 2 * y) (i * 2048 + w .at) (λ q. omega arith)
-              ∙ here s₁ (l .rows + 2 * y) 0 (omega arith) (omega arith);
-          other = λ z n. took-away s w c y i (l .rows + 2 * z) (λ q. omega arith) (λ q. n (omega arith)) (λ q. omega arith);
-          infos = λ z. took-away s w c y i (l .rows + 2 * z + 1) (λ q. omega arith) (λ q. omega arith) (λ q. omega arith);
-        }
+    unfolding takeM
+    take-form s w d i x e f = rw (e, f, mate-is d i, entry-is d i)
 
     -- the stack after taking
     took-stack :
-        (s : List ℕ) (w : Walk) (c y i : ℕ) → length s ≡ length s₀ → w .at < N → w .height < k → i < m →
-        column l 3 (took s w c y i) (w .height + 1) ≡ (i * 2048 + w .at) ∷ column l 3 s (w .height)
-    took-stack s w c y i len vb hb ib =
-        let s₁ : List ℕ = put-word s (l .b + 8 * w .at) (c + 1) in
-        let s₂ : List ℕ = put-word s₁ (l .rows + 2 * y) 0 in
-        let l₁ : length s₁ ≡ length s = length-put s (l .b + 8 * w .at) (c + 1) in
-        let l₂ : length s₂ ≡ length s₁ = length-put s₁ (l .rows + 2 * y) 0 in
-        let top : word (took s w c y i) (l .b + 8 * w .height + 3) ≡ i * 2048 + w .at =
-        here s₂ (l .b + 8 * w .height + 3) (i * 2048 + w .at) (omega arith) (omega arith) in
-        let under : column l 3 (took s w c y i) (w .height) ≡ column l 3 s (w .height) =
-        column-same l 3 s (took s w c y i) (w .height)
-        (λ j e. took-away s w c y i (l .b + 8 * j + 3) (λ q. omega arith) (λ q. omega arith) (λ q. omega arith)) in
-        column-more l 3 (took s w c y i) (w .height) ∙ rw (top, under)
+        (s : List ℕ) (w : Walk) (d : Bool) (i : ℕ) → length (out s (w .at) d i) ≡ length s₀ → w .at < N → w .height < k → i < m →
+        Aside l N m k s₀ g flag s (out s (w .at) d i) →
+        column l true (took s w d i) (w .height + 1) ≡ (i * 2048 + w .at) ∷ column l true s (w .height)
+    took-stack s w d i len vb hb ib a =
+        let u : List ℕ = out s (w .at) d i in
+        let top : word (took s w d i) (l .col + 2 * w .height) ≡ i * 2048 + w .at =
+        here u (l .col + 2 * w .height) (i * 2048 + w .at) (omega (arith, g .column, g .room)) (omega (arith, g .short, g .few)) in
+        let under : column l true (took s w d i) (w .height) ≡ column l true s (w .height) =
+        column-same l true s (took s w d i) (w .height)
+        (λ j e.
+        away u (l .col + 2 * w .height) (l .col + 2 * j) (i * 2048 + w .at) (λ q. omega arith)
+        ∙ a .high (l .col + 2 * j) (omega (arith, g .column))) in
+        column-more l true (took s w d i) (w .height) ∙ rw (top, under)
 
-    live-took :
-        (s : List ℕ) (w : Walk) (xs ws is : List ℕ) → Live s w xs ws is → w .next < N →
-        word s (l .b + 8 * w .at) < stop (w .at) → (word s (l .rows + 2 * word s (l .b + 8 * w .at)) ≡ 0 → ⊥) →
-        (d : Bool) (i : ℕ) → odd i → end N m (l .width) C F S d i ≡ w .at → word s (l .b + 8 * w .at) ≡ at d i →
+    edge-low : (e : Bool) (j : ℕ) → j < m → edge e j < 4 * m
+    edge-low true j c = omega arith
+    edge-low false j c = omega arith
+
+    live-take :
+        (s : List ℕ) (w : Walk) (xs ws is : List ℕ) → Live s w xs ws is → w .next < N → (f : First Q (w .at) is) →
         Moved (record { words = s; walk = w })
         (record {
-          words = took s w (word s (l .b + 8 * w .at)) (at (not d) i) i;
-          walk = record { next = w .next; at = far d i; height = w .height + 1; written = w .written };
+          words = took s w (f .side) (f .entry);
+          walk = record { next = w .next; at = far (f .side) (f .entry); height = w .height + 1; written = w .written };
         })
     unfolding measure
-    live-took s w xs ws is h b less free d i o own here' =
+    live-take s w xs ws is h b f =
         let v : ℕ = w .at in
         let vb : v < N = sound-here v xs (h .sound b) in
-        let len : length s ≡ length s₀ = h .rows .keeps .len in
-        let c : ℕ = word s (l .b + 8 * v) in
-        let y : ℕ = at (not d) i in
-        let t : List ℕ = took s w c y i in
+        let d : Bool = f .side in
+        let i : ℕ = f .entry in
+        let o : odd i = has-odd l N m k s₀ g flag s is i (h .rows) (f .has) in
         let ib : i < m = o .below in
-        let fb : far d i < N = end-below N m (l .width) C F S (g .fit) (not d) i ib in
-        let small : c + 1 < 4294967296 = omega (arith, fin-high N m (l .width) C F S (g .fit) v vb) in
-        let place : word s (l .rows + 2 * c + 1) / 2048 ≡ i =
-        ap (λ (z : ℕ). word s (l .rows + 2 * z + 1) / 2048) here' ∙ omega (arith, h .rows .infos d i o) in
-        let whole : scan l s c (suc (stop v - (c + 1))) ≡ row Q v is =
-        ap (scan l s c) (omega arith) ∙ h .rows .scans v vb in
-        let head : row Q v is ≡ i ∷ scan l s (c + 1) (stop v - (c + 1)) =
-        sym whole ∙ scan-free l s c (stop v - (c + 1)) free ∙ ap (λ (p : ℕ). p ∷ scan l s (c + 1) (stop v - (c + 1))) place in
-        let shorter : length is ≡ suc (length (without i is)) =
-        without-shorter Q v i is (scan l s (c + 1) (stop v - (c + 1))) (h .falling) head in
-        let hb : w .height < k = omega (arith, h .size, few-places) in
-        let a : Advanced l N m k s₀ g flag v c s t = took-advanced s w c y i len vb hb small in
-        let on : walk-step (w .next) (walking v xs is ws) ≡ walking (far d i) ((i * 2048 + v) ∷ xs) (without i is) ws =
-        step-on (w .next) v i (far d i) xs is (scan l s (c + 1) (stop v - (c + 1))) ws (h .rooted) (h .falling) head
-        (omega arith) (omega arith) (other-party d i v ib own) in
-        let q₁ : (i * 2048 + v) / 2048 ≡ i = omega arith in
-        let q₂ : (i * 2048 + v) % 2048 ≡ v = omega arith in
+        let fb : far d i < N = end-below l N m k s₀ g flag (not d) i ib in
+        let out-is = rowed-take l N m k s₀ g flag v s is vb (h .falling) (h .rows) f in
+        let u : List ℕ = out s v d i in
+        let a : ℕ = l .col + 2 * w .height in
+        let x : ℕ = i * 2048 + v in
+        let shorter : length is ≡ suc (length (without i is)) = without-shorter Q v i is (f .row-left) (h .falling) (f .row-is) in
+        let hb : w .height < k = omega (arith, h .size, few-places, g .entries) in
+        let on : walk-step (w .next) (walking v xs is ws) ≡ walking (far d i) (x ∷ xs) (without i is) ws =
+        step-on (w .next) v i (far d i) xs is (f .row-left) ws (h .rooted) (h .falling) (f .row-is)
+        (omega (arith, g .few)) (omega (arith, g .few)) (other-party d i v ib (f .own)) in
+        let q₁ : x / 2048 ≡ i = omega (arith, g .few) in
+        let q₂ : x % 2048 ≡ v = omega (arith, g .few) in
         record {
-          xs = (i * 2048 + v) ∷ xs;
+          xs = x ∷ xs;
           ws = ws;
           is = without i is;
           live =
               record {
                 rows =
-                    rowed-take l N m k s₀ g flag v s t is d i vb (h .rows) less o own here' free a (took-taken s w c d i len vb hb o);
-                stack = took-stack s w c y i len vb hb ib ∙ ap (λ (z : List ℕ). (i * 2048 + v) ∷ z) (h .stack);
+                    rowed-same l N m k s₀ g flag u (took s w d i) (without i is)
+                    (same-high l N m k s₀ g flag u a x (omega (arith, g .column)))
+                    (λ e j c. away u a (l .b + 2 * edge e j + 3) x (λ q. omega (arith, g .column, g .entries, edge-low e j c))) (out-is .0);
+                stack =
+                    took-stack s w d i (out-is .0 .rung .keeps .len) vb hb ib (out-is .1) ∙ ap (λ (z : List ℕ). x ∷ z) (h .stack);
                 written =
-                    column-same l 4 s t (w .written)
+                    column-same l false s (took s w d i) (w .written)
                     (λ j e.
-                    took-away s w c y i (l .b + 8 * j + 4) (λ q. omega arith)
-                    (λ q. omega (arith, h .size, few-places)) (λ q. omega arith))
+                    away u a (l .col + 2 * j + 1) x (λ q. omega arith) ∙ out-is .1 .high (l .col + 2 * j + 1) (omega (arith, g .column)))
                     ∙ h .written;
                 marks = λ j e.
-                    took-away s w c y i (l .b + 8 * j + 2) (λ q. omega arith) (λ q. omega arith) (λ q. omega arith) ∙ h .marks j e;
+                    away u a (l .b + 8 * j + 2) x (λ q. omega (arith, g .column, g .entries))
+                    ∙ out-is .1 .marks j (omega (arith, g .entries))
+                    ∙ h .marks j e;
                 falling = keep-falling (λ z. not (eqb i z)) is (h .falling);
                 size = omega (arith, h .size);
                 rooted = rw q₂ (h .rooted);
@@ -417,62 +282,48 @@ module _ (l : Rows) (N m k : ℕ) (s₀ : List ℕ) (g : Laid l N m k s₀) (fla
                 );
                 done = λ e. absurd (omega arith);
               };
-          less = omega (arith, passed v s t vb less a);
+          less = omega (arith, h .size);
         }
-
-    live-take :
-        (s : List ℕ) (w : Walk) (xs ws is : List ℕ) → Live s w xs ws is → w .next < N →
-        word s (l .b + 8 * w .at) < stop (w .at) → (word s (l .rows + 2 * word s (l .b + 8 * w .at)) ≡ 0 → ⊥) →
-        Moved (record { words = s; walk = w }) (takeM l s w (word s (l .b + 8 * w .at)))
-    live-take s w xs ws is h b less free =
-        let v : ℕ = w .at in
-        let vb : v < N = sound-here v xs (h .sound b) in
-        let c : ℕ = word s (l .b + 8 * v) in
-        let e : Half-edge N m (l .width) C F S v c = standing-at l N m k s₀ g flag v s is vb (h .rows) c (omega arith) less in
-        let d : Bool = e .side in
-        let i : ℕ = e .entry in
-        let mate : word s (l .rows + 2 * c) ≡ at (not d) i + 1 =
-        ⊎-elim (λ z. absurd (free (ap (λ (y : ℕ). word s (l .rows + 2 * y)) (e .here) ∙ z)))
-        (λ z. ap (λ (y : ℕ). word s (l .rows + 2 * y)) (e .here) ∙ z)
-        (h .rows .mates d i (e .odd)) in
-        let info : word s (l .rows + 2 * c + 1) ≡ i * 2048 + far d i =
-        ap (λ (y : ℕ). word s (l .rows + 2 * y + 1)) (e .here) ∙ h .rows .infos d i (e .odd) in
-        let fb : far d i < 2048 = omega (arith, end-below N m (l .width) C F S (g .fit) (not d) i (e .odd .below)) in
-        subst (Moved (record { words = s; walk = w })) (sym (take-form s w c (at (not d) i) i (far d i) mate info fb))
-        (live-took s w xs ws is h b less free d i (e .odd) (e .own) (e .here))
 
     -- ── stuck ──
 
-    -- past its cursor a row is empty
+    -- the ring of the party at which the walk stands
+    ring-here : (s : List ℕ) (w : Walk) (xs ws is : List ℕ) → Live s w xs ws is → w .at < N → (ys : List ℕ) → nodes Q (w .at) is ≡ ys → Chain (l .b) s (l .top + w .at) ys (l .top + w .at)
+    ring-here s w xs ws is h vb ys e =
+        subst (λ (zs : List ℕ). Chain (l .b) s (l .top + w .at) zs (l .top + w .at)) e (h .rows .rung .rings (w .at) vb)
+
+    -- a party's own node comes after itself only where no place remains
     stuck-row :
         (s : List ℕ) (w : Walk) (xs ws is : List ℕ) → Live s w xs ws is → w .at < N →
-        word s (l .b + 8 * w .at + 1) ≤ word s (l .b + 8 * w .at) → row Q (w .at) is ≡ []
-    unfolding scan
+        word s (l .b + 2 * (l .top + w .at)) ≡ l .top + w .at → row Q (w .at) is ≡ []
     stuck-row s w xs ws is h vb q =
-        let v : ℕ = w .at in
-        let c : ℕ = word s (l .b + 8 * v) in
-        let z : stop v - c ≡ 0 = omega (arith, h .rows .ends v vb) in
-        sym (h .rows .scans v vb) ∙ ap (scan l s c) z
+        ⊎-elim (λ e. e .0)
+        (λ f.
+        let o : odd (f .entry) = has-odd l N m k s₀ g flag s is (f .entry) (h .rows) (f .has) in
+        let low = edge-is l N m k s₀ g flag (f .side) (f .entry) (o .below) in
+        absurd (omega (arith, low .0, ring-here s w xs ws is h vb (edge (f .side) (f .entry) ∷ f .nodes-left) (f .nodes-is) .0)))
+        (first-node Q (w .at) is)
 
     -- the words after stepping back
     abbrev wrote : List ℕ → Walk → ℕ → List ℕ
-    wrote s w i = put-word (put-word s (l .b + 8 * i + 2) (2 + w .written % 2)) (l .b + 8 * w .written + 4) i
+    wrote s w i = put-word (put-word s (l .b + 8 * i + 2) (2 + w .written % 2)) (l .col + 2 * w .written + 1) i
 
     wrote-away :
-        (s : List ℕ) (w : Walk) (i a : ℕ) → (a ≡ l .b + 8 * i + 2 → ⊥) → (a ≡ l .b + 8 * w .written + 4 → ⊥) →
+        (s : List ℕ) (w : Walk) (i a : ℕ) → (a ≡ l .b + 8 * i + 2 → ⊥) → (a ≡ l .col + 2 * w .written + 1 → ⊥) →
         word (wrote s w i) a ≡ word s a
-    wrote-away s w i a p q = away2 s (l .b + 8 * i + 2) (2 + w .written % 2) (l .b + 8 * w .written + 4) i a p q
+    wrote-away s w i a p q = away2 s (l .b + 8 * i + 2) (2 + w .written % 2) (l .col + 2 * w .written + 1) i a p q
 
-    wrote-rows : (s : List ℕ) (w : Walk) (i : ℕ) → i < k → w .written < k → Same-rows l N m k s₀ g flag s (wrote s w i)
-    wrote-rows s w i ib wb =
-        record {
-          keeps =
-              keeps-then-put (l .b + 8 * w .written + 4) i (omega arith)
-              (keeps-then-put (l .b + 8 * i + 2) (2 + w .written % 2) (omega arith) (keeps-refl (l .b) s));
-          cursors = λ v b. wrote-away s w i (l .b + 8 * v) (λ q. omega arith) (λ q. omega arith);
-          ends = λ v b. wrote-away s w i (l .b + 8 * v + 1) (λ q. omega arith) (λ q. omega arith);
-          words = λ y c b. wrote-away s w i (l .rows + 2 * y + c) (λ q. omega arith) (λ q. omega arith);
-        }
+    wrote-rows :
+        (s : List ℕ) (w : Walk) (i : ℕ) (is : List ℕ) → i < k → w .written < k → Rowed l N m k s₀ g flag s is →
+        Rowed l N m k s₀ g flag (wrote s w i) is
+    wrote-rows s w i is ib wb h =
+        let t : List ℕ = put-word s (l .b + 8 * i + 2) (2 + w .written % 2) in
+        rowed-same l N m k s₀ g flag s (wrote s w i) is
+        (same-trans l N m k s₀ g flag s t (wrote s w i) (same-mark l N m k s₀ g flag s i (2 + w .written % 2) ib)
+        (same-high l N m k s₀ g flag t (l .col + 2 * w .written + 1) i (omega (arith, g .column))))
+        (λ e j c.
+        wrote-away s w i (l .b + 2 * edge e j + 3) (λ q. omega arith) (λ q. omega (arith, g .column, g .entries, edge-low e j c)))
+        h
 
     wrote-marks :
         (s : List ℕ) (w : Walk) (ws : List ℕ) (i : ℕ) → length s ≡ length s₀ → i < k → w .written < k →
@@ -483,29 +334,29 @@ module _ (l : Rows) (N m k : ℕ) (s₀ : List ℕ) (g : Laid l N m k s₀) (fla
           | yes e ↦
               let t : List ℕ = put-word s (l .b + 8 * i + 2) (2 + w .written % 2) in
               let own : word (wrote s w i) (l .b + 8 * i + 2) ≡ 2 + w .written % 2 =
-              away t (l .b + 8 * w .written + 4) (l .b + 8 * i + 2) i (λ q. omega arith)
-              ∙ here s (l .b + 8 * i + 2) (2 + w .written % 2) (omega arith) (omega arith) in
+              away t (l .col + 2 * w .written + 1) (l .b + 8 * i + 2) i (λ q. omega (arith, g .column))
+              ∙ here s (l .b + 8 * i + 2) (2 + w .written % 2) (omega (arith, g .room)) (omega arith) in
               ap (λ (z : ℕ). word (wrote s w i) (l .b + 8 * z + 2)) e ∙ own ∙ sym (mark-same j i ws e ∙ rw lw)
           | no n ↦
-              wrote-away s w i (l .b + 8 * j + 2) (λ q. n (omega arith)) (λ q. omega arith) ∙ old j jb ∙ sym (mark-other j i ws n)
+              wrote-away s w i (l .b + 8 * j + 2) (λ q. n (omega arith)) (λ q. omega (arith, g .column, g .entries)) ∙ old j jb ∙ sym (mark-other j i ws n)
         ]
 
     wrote-written :
         (s : List ℕ) (w : Walk) (i : ℕ) → length s ≡ length s₀ → i < k → w .written < k →
-        column l 4 (wrote s w i) (w .written + 1) ≡ i ∷ column l 4 s (w .written)
+        column l false (wrote s w i) (w .written + 1) ≡ i ∷ column l false s (w .written)
     wrote-written s w i len ib wb =
         let t : List ℕ = put-word s (l .b + 8 * i + 2) (2 + w .written % 2) in
         let lt : length t ≡ length s = length-put s (l .b + 8 * i + 2) (2 + w .written % 2) in
-        let top : word (wrote s w i) (l .b + 8 * w .written + 4) ≡ i =
-        here t (l .b + 8 * w .written + 4) i (omega arith) (omega arith) in
-        let under : column l 4 (wrote s w i) (w .written) ≡ column l 4 s (w .written) =
-        column-same l 4 s (wrote s w i) (w .written)
-        (λ j e. wrote-away s w i (l .b + 8 * j + 4) (λ q. omega arith) (λ q. omega arith)) in
-        column-more l 4 (wrote s w i) (w .written) ∙ rw (top, under)
+        let top : word (wrote s w i) (l .col + 2 * w .written + 1) ≡ i =
+        here t (l .col + 2 * w .written + 1) i (omega arith) (omega arith) in
+        let under : column l false (wrote s w i) (w .written) ≡ column l false s (w .written) =
+        column-same l false s (wrote s w i) (w .written)
+        (λ j e. wrote-away s w i (l .col + 2 * j + 1) (λ q. omega arith) (λ q. omega arith)) in
+        column-more l false (wrote s w i) (w .written) ∙ rw (top, under)
 
     live-wrote :
         (s : List ℕ) (w : Walk) (x : ℕ) (xs ws is : List ℕ) → Live s w (x ∷ xs) ws is → w .next < N → 0 < w .height →
-        column l 3 s (w .height - 1) ≡ xs → word s (l .b + 8 * w .at + 1) ≤ word s (l .b + 8 * w .at) →
+        column l true s (w .height - 1) ≡ xs → word s (l .b + 2 * (l .top + w .at)) ≡ l .top + w .at →
         Moved (record { words = s; walk = w })
         (record {
           words = wrote s w (x / 2048);
@@ -514,26 +365,23 @@ module _ (l : Rows) (N m k : ℕ) (s₀ : List ℕ) (g : Laid l N m k s₀) (fla
     unfolding measure
     live-wrote s w x xs ws is h b pos' under q =
         let i : ℕ = x / 2048 in
-        let len : length s ≡ length s₀ = h .rows .keeps .len in
+        let len : length s ≡ length s₀ = h .rows .rung .keeps .len in
         let vb : w .at < N = h .sound b .0 in
         let im : i < m = h .sound b .1 in
         let wb : w .written < k = omega (arith, h .size, few-places) in
-        let lw : length ws ≡ w .written = ap length (sym (h .written)) ∙ column-length l 4 s (w .written) in
-        let same : Same-rows l N m k s₀ g flag s (wrote s w i) = wrote-rows s w i (omega arith) wb in
+        let lw : length ws ≡ w .written = ap length (sym (h .written)) ∙ column-length l false s (w .written) in
         let off : walk-step (w .next) (walking (w .at) (x ∷ xs) is ws) ≡ walking (x % 2048) xs is (i ∷ ws) =
         step-off (w .next) (w .at) x xs is ws (h .falling) (stuck-row s w (x ∷ xs) ws is h vb q) in
-        let cursors : sum-below (λ v. stop v - word (wrote s w i) (l .b + 8 * v)) N ≡ sum-below (λ v. stop v - word s (l .b + 8 * v)) N =
-        sum-below-cong N (λ v e. ap (λ (z : ℕ). stop v - z) (same .cursors v e)) in
         record {
           xs = xs;
           ws = i ∷ ws;
           is = is;
           live =
               record {
-                rows = rowed-same l N m k s₀ g flag s (wrote s w i) is same (h .rows);
+                rows = wrote-rows s w i is (omega (arith, g .entries)) wb (h .rows);
                 stack =
-                    column-same l 3 s (wrote s w i) (w .height - 1)
-                    (λ j e. wrote-away s w i (l .b + 8 * j + 3) (λ z. omega arith) (λ z. omega arith))
+                    column-same l true s (wrote s w i) (w .height - 1)
+                    (λ j e. wrote-away s w i (l .col + 2 * j) (λ z. omega arith) (λ z. omega arith))
                     ∙ under;
                 written = wrote-written s w i len (omega arith) wb ∙ ap (λ (z : List ℕ). i ∷ z) (h .written);
                 marks = wrote-marks s w ws i len (omega arith) wb lw (h .marks);
@@ -550,30 +398,30 @@ module _ (l : Rows) (N m k : ℕ) (s₀ : List ℕ) (g : Laid l N m k s₀) (fla
                 );
                 done = λ e. absurd (omega arith);
               };
-          less = omega (arith, h .size, cursors);
+          less = omega (arith, h .size);
         }
 
     live-back :
         (s : List ℕ) (w : Walk) (xs ws is : List ℕ) → Live s w xs ws is → w .next < N → 0 < w .height →
-        word s (l .b + 8 * w .at + 1) ≤ word s (l .b + 8 * w .at) →
+        word s (l .b + 2 * (l .top + w .at)) ≡ l .top + w .at →
         Moved (record { words = s; walk = w }) (backM l s w)
     unfolding backM
     live-back s w xs ws is h b pos' q =
-        let x : ℕ = word s (l .b + 8 * (w .height - 1) + 3) in
-        let e : xs ≡ x ∷ column l 3 s (w .height - 1) = sym (h .stack) ∙ column-first l 3 s (w .height) pos' in
-        live-wrote s w x (column l 3 s (w .height - 1)) ws is (subst (λ (z : List ℕ). Live s w z ws is) e h) b pos' refl q
+        let x : ℕ = word s (l .col + 2 * (w .height - 1)) in
+        let e : xs ≡ x ∷ column l true s (w .height - 1) = sym (h .stack) ∙ column-first l true s (w .height) pos' in
+        live-wrote s w x (column l true s (w .height - 1)) ws is (subst (λ (z : List ℕ). Live s w z ws is) e h) b pos' refl q
 
     -- ── on to the next party ──
 
     live-next :
         (s : List ℕ) (w : Walk) (xs ws is : List ℕ) → Live s w xs ws is → w .next < N → w .height ≤ 0 →
-        word s (l .b + 8 * w .at + 1) ≤ word s (l .b + 8 * w .at) →
+        word s (l .b + 2 * (l .top + w .at)) ≡ l .top + w .at →
         Moved (record { words = s; walk = w })
         (record { words = s; walk = record { next = w .next + 1; at = w .next + 1; height = 0; written = w .written } })
     unfolding measure column steps
     live-next s w xs ws is h b z q =
         let flat : w .height ≡ 0 = omega arith in
-        let bare : xs ≡ [] = sym (h .stack) ∙ ap (column l 3 s) flat in
+        let bare : xs ≡ [] = sym (h .stack) ∙ ap (column l true s) flat in
         let home : w .at ≡ w .next = ap (bottom (w .at)) (sym bare) ∙ h .rooted in
         let vb : w .at < N = omega arith in
         let empty : first-pair (w .next) (map Q is) ≡ none =
@@ -627,25 +475,27 @@ module _ (l : Rows) (N m k : ℕ) (s₀ : List ℕ) (g : Laid l N m k s₀) (fla
         Moved (record { words = s; walk = w }) (stepM l N (record { words = s; walk = w }))
     live-step s w xs ws is h b =
         let t : Stage = record { words = s; walk = w } in
-        let c : ℕ = word s (l .b + 8 * w .at) in
-        let e : ℕ = word s (l .b + 8 * w .at + 1) in
         let vb : w .at < N = sound-here (w .at) xs (h .sound b) in
-        elim (decLt c e) [
-          | yes less ↦
-              let in' : c < stop (w .at) = omega (arith, h .rows .ends (w .at) vb) in
-              subst (Moved t) (sym (step-takes l N s w b less))
-              (elim (ℕ-discrete (word s (l .rows + 2 * c)) 0) [
-                | yes z ↦ subst (Moved t) (sym (take-passes l s w c z)) (live-pass s w xs ws is h b in' z)
-                | no n ↦ live-take s w xs ws is h b in' n
-              ])
-          | no n ↦
-              let past : e ≤ c = omega arith in
-              elim (decLt 0 (w .height)) [
-                | yes p ↦ subst (Moved t) (sym (step-backs l N s w b past p)) (live-back s w xs ws is h b p past)
+        let x : ℕ = word s (l .b + 2 * (l .top + w .at)) in
+        elim (ℕ-discrete x (l .top + w .at)) [
+          | yes e ↦
+              subst (Moved t) (sym (step-stuck l N s w b e))
+              (elim (decLt 0 (w .height)) [
+                | yes p ↦ subst (Moved t) (sym (stuck-backs l s w p)) (live-back s w xs ws is h b p e)
                 | no p ↦
                     let z : w .height ≤ 0 = omega arith in
-                    subst (Moved t) (sym (step-next l N s w b past z)) (live-next s w xs ws is h b z past)
-              ]
+                    subst (Moved t) (sym (stuck-next l s w z)) (live-next s w xs ws is h b z e)
+              ])
+          | no n ↦
+              ⊎-elim (λ e. absurd (n (ring-here s w xs ws is h vb [] (e .1) .0)))
+              (λ f.
+              let o : odd (f .entry) = has-odd l N m k s₀ g flag s is (f .entry) (h .rows) (f .has) in
+              let first : x ≡ edge (f .side) (f .entry) =
+              ring-here s w xs ws is h vb (edge (f .side) (f .entry) ∷ f .nodes-left) (f .nodes-is) .0 in
+              subst (Moved t)
+              (sym (step-takes l N s w b n ∙ take-form s w (f .side) (f .entry) x first (h .rows .leads (f .side) (f .entry) o)))
+              (live-take s w xs ws is h b f))
+              (first-node Q (w .at) is)
         ]
 
     alive-step : (t : Stage) → Alive t → (N ≤ t .walk .next) ⊎ Moved t (stepM l N t)
@@ -673,23 +523,25 @@ module _ (l : Rows) (N m k : ℕ) (s₀ : List ℕ) (g : Laid l N m k s₀) (fla
 
     -- ── the start ──
 
-    start-rows : (s : List ℕ) → Filled l N m k s₀ g s → Rowed l N m k s₀ g flag s places-all
-    unfolding fin
+    odds-odd : (xs : List ℕ) → All (λ (i : ℕ). C i % 2 ≡ 1) (odds C xs)
+    unfolding keep
+    odds-odd [] = tt
+    odds-odd (x ∷ xs) =
+        elim (ℕ-discrete (C x % 2) 1)
+        [ yes e ↦ rw (eq-eqb (C x % 2) 1 e) (e, odds-odd xs) | no n ↦ rw (ne-eqb (C x % 2) 1 n) (odds-odd xs) ]
+
+    start-rows : (s : List ℕ) → Filled l N m k s₀ g flag s → Rowed l N m k s₀ g flag s places-all
+    unfolding odd-places
     start-rows s f =
         record {
-          keeps = f .keeps;
-          ends = f .ends;
-          low = λ v b. omega (arith, f .cursors v b);
-          high = λ v b. omega (arith, f .cursors v b);
-          infos = f .infos;
-          mates = λ d i o. inr (f .mates d i o);
-          scans = λ v b.
-              let e : stop v - v * l .width ≡ sum-below (hit C F v) m + sum-below (hit C S v) m = omega arith in
-              rw (f .cursors v b, e) (scan-filled l N m k s₀ g flag s f v);
+          rung = f .rung;
+          leads = f .leads;
+          below = keep-all (λ i. i < m) (λ i. eqb (C i % 2) 1) (descend m) (descend-below m);
+          odds = odds-odd (descend m);
         }
 
     start-live :
-        (s : List ℕ) → Filled l N m k s₀ g s → reverse r ≡ map Q places-all →
+        (s : List ℕ) → Filled l N m k s₀ g flag s → reverse r ≡ map Q places-all →
         Live s (record { next = 0; at = 0; height = 0; written = 0 }) [] [] places-all
     unfolding column mark-of steps straight odd-places
     start-live s f e =
@@ -710,55 +562,34 @@ module _ (l : Rows) (N m k : ℕ) (s₀ : List ℕ) (g : Laid l N m k s₀) (fla
           done = λ b. on;
         }
 
-    -- each odd entry is hit once by its end
-    hits : (E : ℕ → ℕ) → ((i : ℕ) → i < m → E i < N) → sum-below (λ v. sum-below (hit C E v) m) N ≤ m
-    hits E b =
-        let e : sum-below (λ v. sum-below (hit C E v) m) N ≡ sum-below (λ i. sum-below (λ v. hit C E v i) N) m =
-        sum-below-swap (λ v i. hit C E v i) N m in
-        let one : sum-below (λ i. sum-below (λ v. hit C E v i) N) m ≤ sum-below (λ i. 1) m =
-        sum-below-le m (λ i c. omega (arith, sum-below-mul (C i % 2) (λ v. is v (E i)) N, ap (λ (x : ℕ). C i % 2 * x) (sum-below-is (E i) N (b i c)))) in
-        omega (arith, sum-below-const 1 m)
+    start-measure : (s : List ℕ) → measure (record { words = s; walk = record { next = 0; at = 0; height = 0; written = 0 } }) ≤ 2 * m + N
+    unfolding measure
+    start-measure s = omega (arith, few-places)
 
-    start-measure :
-        (s : List ℕ) → Filled l N m k s₀ g s →
-        measure (record { words = s; walk = record { next = 0; at = 0; height = 0; written = 0 } }) ≤ 3 * m + N
-    unfolding measure fin
-    start-measure s f =
-        let e : sum-below (λ v. stop v - word s (l .b + 8 * v)) N
-        ≡ sum-below (λ v. sum-below (hit C F v) m + sum-below (hit C S v) m) N =
-        sum-below-cong N (λ v b. omega (arith, f .cursors v b)) in
-        omega (
-          arith,
-          sum-below-add (λ v. sum-below (hit C F v) m) (λ v. sum-below (hit C S v) m) N,
-          hits F (g .fit .first-below),
-          hits S (g .fit .second-below),
-          few-places,
-        )
-
-    -- The walk over filled rows has ended in time, and has written what the straight walk has.
+    -- The walk over filled rings has ended in time, and has written what the straight walk has.
     pub record Walked-all (t : Stage) : Type 0 where
       pub ws : List ℕ
       pub keeps : Keeps (l .b) s₀ (t .words)
-      pub written : column l 4 (t .words) (t .walk .written) ≡ ws
+      pub written : column l false (t .words) (t .walk .written) ≡ ws
       pub marks : (i : ℕ) → i < m → word (t .words) (l .b + 8 * i + 2) ≡ mark-of i ws
       pub places : All (λ (i : ℕ). i < m) ws
       pub few : t .walk .written ≤ m
       pub same : map Q ws ≡ straight N r .written
 
     pub walked-all :
-        (s : List ℕ) → Filled l N m k s₀ g s → reverse r ≡ map Q places-all →
-        Walked-all (walkM l N (3 * m + N) (record { words = s; walk = record { next = 0; at = 0; height = 0; written = 0 } }))
+        (s : List ℕ) → Filled l N m k s₀ g flag s → reverse r ≡ map Q places-all →
+        Walked-all (walkM l N (2 * m + N) (record { words = s; walk = record { next = 0; at = 0; height = 0; written = 0 } }))
     walked-all s f e =
         let t₀ : Stage = record { words = s; walk = record { next = 0; at = 0; height = 0; written = 0 } } in
         let a₀ : Alive t₀ = record { xs = []; ws = []; is = places-all; live = start-live s f e } in
-        let p : Alive (walkM l N (3 * m + N) t₀) × (N ≤ walkM l N (3 * m + N) t₀ .walk .next) =
-        walk-ends t₀ (3 * m + N) a₀ (start-measure s f) in
-        let a : Alive (walkM l N (3 * m + N) t₀) = p .0 in
+        let p : Alive (walkM l N (2 * m + N) t₀) × (N ≤ walkM l N (2 * m + N) t₀ .walk .next) =
+        walk-ends t₀ (2 * m + N) a₀ (start-measure s) in
+        let a : Alive (walkM l N (2 * m + N) t₀) = p .0 in
         let h = a .live in
-        let last : walkM l N (3 * m + N) t₀ .walk .next ≡ N = omega (arith, h .inside, p .1) in
+        let last : walkM l N (2 * m + N) t₀ .walk .next ≡ N = omega (arith, h .inside, p .1) in
         record {
           ws = a .ws;
-          keeps = h .rows .keeps;
+          keeps = h .rows .rung .keeps;
           written = h .written;
           marks = h .marks;
           places = h .places;

@@ -11,14 +11,14 @@ use Rattle.euler.specs.declared.Walk.{Walk}
 pub record Fits (l : Rows) : Type 0 where
   pub graph : l .g < 4294967296
   pub table : l .ends < 4294967296
-  pub columns : l .b < 4294967296
-  pub rows : l .rows < 4294967296
-  pub width : l .width < 4294967296
+  pub rings : l .b < 4294967296
+  pub parties : l .top < 8589934592
+  pub columns : l .col < 4294967296
 
 -- the numbers of a walk are small
 pub record Small (k : ℕ) (w : Walk) : Type 0 where
   pub next : w .next ≤ k
-  pub at : w .at ≤ k + 2048
+  pub at : w .at ≤ k + 4294967296
   pub height : w .height ≤ k
   pub written : w .written ≤ k
 
@@ -33,44 +33,39 @@ firstM l s i = word s (l .ends + 2 * word s (l .g + 2 + 2 * i))
 abbrev pub secondM : Rows → List ℕ → ℕ → ℕ
 secondM l s i = word s (l .ends + 2 * word s (l .g + 2 + 2 * i) + 1)
 
--- ── filling the rows ──
+-- ── filling the rings ──
 
-abbrev pub startRowM : Rows → List ℕ → ℕ → ℕ → List ℕ
-startRowM l s v x = put-word (put-word s (l .b + 8 * v) x) (l .b + 8 * v + 1) x
+abbrev pub startRowM : Rows → List ℕ → ℕ → List ℕ
+startRowM l s v = put-word (put-word s (l .b + 2 * (l .top + v)) (l .top + v)) (l .b + 2 * (l .top + v) + 1) (l .top + v)
 
 unfoldable pub startM : Rows → ℕ → List ℕ → List ℕ
 startM l zero s = s
-startM l (suc v) s = startRowM l (startM l v s) v (v * l .width)
+startM l (suc v) s = startRowM l (startM l v s) v
+
+unfoldable pub appendM : Rows → List ℕ → ℕ → ℕ → List ℕ
+appendM l s v x =
+    let z = l .top + v in
+    let p = word s (l .b + 2 * z + 1) in
+    put-word
+    (put-word (put-word (put-word s (l .b + 2 * p) x) (l .b + 2 * x + 1) p) (l .b + 2 * x) z)
+    (l .b + 2 * z + 1)
+    x
 
 unfoldable pub rowFirstM : Rows → List ℕ → ℕ → List ℕ
 rowFirstM l s i =
     let a = firstM l s i in
-    let h = word s (l .b + 8 * a + 1) in
     let t = put-word s (l .b + 8 * i + 2) 0 in
-    pick (eqb (copiesM l s i % 2) 0) t (put-word (put-word t (l .b + 8 * a + 1) (h + 1)) (l .b + 8 * i + 5) h)
+    pick (eqb (copiesM l s i % 2) 0) t (appendM l (put-word t (l .b + 8 * i + 7) a) a (4 * i))
 
 -- after the k newest of m entries
 unfoldable pub firstsM : Rows → ℕ → ℕ → List ℕ → List ℕ
 firstsM l m zero s = s
 firstsM l m (suc k) s = rowFirstM l (firstsM l m k s) (m - 1 - k)
 
-abbrev pub linkM : Rows → List ℕ → ℕ → ℕ → ℕ → ℕ → ℕ → List ℕ
-linkM l s i x a h d =
-    put-word
-    (put-word
-    (put-word (put-word s (l .rows + 2 * x) (h + 1)) (l .rows + 2 * x + 1) (i * 2048 + d))
-    (l .rows + 2 * h)
-    (x + 1))
-    (l .rows + 2 * h + 1)
-    (i * 2048 + a)
-
 unfoldable pub rowSecondM : Rows → List ℕ → ℕ → List ℕ
 rowSecondM l s i =
-    let a = firstM l s i in
     let d = secondM l s i in
-    let h = word s (l .b + 8 * d + 1) in
-    let x = word s (l .b + 8 * i + 5) in
-    pick (eqb (copiesM l s i % 2) 0) s (linkM l (put-word s (l .b + 8 * d + 1) (h + 1)) i x a h d)
+    pick (eqb (copiesM l s i % 2) 0) s (appendM l (put-word s (l .b + 8 * i + 3) d) d (4 * i + 2))
 
 unfoldable pub secondsM : Rows → ℕ → ℕ → List ℕ → List ℕ
 secondsM l m zero s = s
@@ -86,36 +81,54 @@ pub record Stage : Type 0 where
   pub words : List ℕ
   pub walk : Walk
 
+unfoldable pub popM : Rows → List ℕ → ℕ → ℕ → List ℕ
+popM l s z x = let q = word s (l .b + 2 * x) in put-word (put-word s (l .b + 2 * z) q) (l .b + 2 * q + 1) z
+
+unfoldable pub unlinkM : Rows → List ℕ → ℕ → List ℕ
+unlinkM l s x =
+    let q = word s (l .b + 2 * x) in
+    let p = word s (l .b + 2 * x + 1) in
+    put-word (put-word s (l .b + 2 * p) q) (l .b + 2 * q + 1) p
+
+-- the other half-edge of the same entry
+abbrev pub mateM : ℕ → ℕ
+mateM x = x / 4 * 4 + (x + 2) % 4
+
 unfoldable pub takeM : Rows → List ℕ → Walk → ℕ → Stage
-takeM l s w c =
-    let mate = word s (l .rows + 2 * c) in
-    let x = word s (l .rows + 2 * c + 1) in
-    let t = put-word s (l .b + 8 * w .at) (c + 1) in
-    pick (eqb mate 0) (record { words = t; walk = w })
-    (record {
+takeM l s w x =
+    record {
       words =
-          put-word (put-word t (l .rows + 2 * (mate - 1)) 0) (l .b + 8 * w .height + 3) (x / 2048 * 2048 + w .at);
-      walk = record { next = w .next; at = x % 2048; height = w .height + 1; written = w .written };
-    })
+          put-word (unlinkM l (popM l s (l .top + w .at) x) (mateM x)) (l .col + 2 * w .height) (x / 4 * 2048 + w .at);
+      walk =
+          record {
+            next = w .next;
+            at = word s (l .b + 2 * x + 3);
+            height = w .height + 1;
+            written = w .written;
+          };
+    }
 
 unfoldable pub backM : Rows → List ℕ → Walk → Stage
 backM l s w =
-    let x = word s (l .b + 8 * (w .height - 1) + 3) in
+    let x = word s (l .col + 2 * (w .height - 1)) in
     record {
       words =
-          put-word (put-word s (l .b + 8 * (x / 2048) + 2) (2 + w .written % 2)) (l .b + 8 * w .written + 4) (x / 2048);
+          put-word (put-word s (l .b + 8 * (x / 2048) + 2) (2 + w .written % 2)) (l .col + 2 * w .written + 1) (x / 2048);
       walk = record { next = w .next; at = x % 2048; height = w .height - 1; written = w .written + 1 };
     }
+
+unfoldable pub stuckM : Rows → List ℕ → Walk → Stage
+stuckM l s w =
+    pick (ltb 0 (w .height)) (backM l s w)
+    (record { words = s; walk = record { next = w .next + 1; at = w .next + 1; height = 0; written = w .written } })
 
 unfoldable pub stepM : Rows → ℕ → Stage → Stage
 stepM l parties t =
     let s = t .words in
     let w = t .walk in
-    let c = word s (l .b + 8 * w .at) in
-    pick (leb parties (w .next)) t
-    (pick (ltb c (word s (l .b + 8 * w .at + 1))) (takeM l s w c)
-    (pick (ltb 0 (w .height)) (backM l s w)
-    (record { words = s; walk = record { next = w .next + 1; at = w .next + 1; height = 0; written = w .written } })))
+    let z = l .top + w .at in
+    let x = word s (l .b + 2 * z) in
+    pick (leb parties (w .next)) t (pick (eqb x z) (stuckM l s w) (takeM l s w x))
 
 abbrev pub walkM : Rows → ℕ → ℕ → Stage → Stage
 walkM l parties k t = iterate k (stepM l parties) t
@@ -154,7 +167,7 @@ entriesM l h parity (suc i) s = entryM l h parity (entriesM l h parity i s) i
 unfoldable pub singleM : Rows → ℕ → Pushed → ℕ → Pushed
 singleM l h t j =
     let s = t .words in
-    let i = word s (l .b + 8 * j + 4) in
+    let i = word s (l .col + 2 * j + 1) in
     pick (leb 2 (copiesM l s i)) t
     (record { words = pushM h s (t .count) (word s (l .g + 2 + 2 * i)) 1; count = t .count + 1 })
 
@@ -170,11 +183,11 @@ halfM l h parity m written s =
 -- ── the split ──
 
 -- where its words lie, for a mark u and k = n·(width + 1)
-abbrev pub laid : ℕ → ℕ → ℕ → ℕ → ℕ → Rows
-laid u k ends g width =
-    record { g = g; ends = ends; b = u + 2 * k + 2 * k; rows = u + 2 * k + 2 * k + 8 * k; width = width }
+abbrev pub laid : ℕ → ℕ → ℕ → ℕ → Rows
+laid u k ends g =
+    record { g = g; ends = ends; b = u + 2 * k + 2 * k; top = 4 * k; col = u + 2 * k + 2 * k + 10 * k }
 
 unfoldable pub splitM : Rows → ℕ → ℕ → ℕ → ℕ → List ℕ → List ℕ
 splitM l h₁ h₂ m parties s =
-    let t = walkM l parties (3 * m + parties) (begun (fillM l m parties s)) in
+    let t = walkM l parties (2 * m + parties) (begun (fillM l m parties s)) in
     halfM l h₂ 1 m (t .walk .written) (halfM l h₁ 0 m (t .walk .written) (t .words))

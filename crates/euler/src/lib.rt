@@ -1,24 +1,26 @@
 // `euler_cycles` and `rbmg_split_into_two` over scratch words. The words of a split, from its mark up: the first half, the
-// second half, eight columns, and the rows of half-edges.
+// second half, eight words for each entry, two for each party, and two columns.
 ghost use mathlib.Core.Path.{_≡_};
 ghost use Prim.Native.Nat.{ℕ, _+_, _*_, _-_, _/_, _<_, _≤_};
 ghost use Rattle.mark.specs.Taking.{«taken-more»};
 ghost use Rattle.euler.specs.Model.{Stage, Fits, Small, copiesM, firstM, secondM};
-ghost use Rattle.euler.specs.Model.{startRowM, startM, rowFirstM, firstsM, linkM, rowSecondM, secondsM, fillM};
-ghost use Rattle.euler.specs.Model.{takeM, backM, stepM, walkM, begun};
+ghost use Rattle.euler.specs.Model.{appendM, startRowM, startM, rowFirstM, firstsM, rowSecondM, secondsM, fillM};
+ghost use Rattle.euler.specs.Model.{popM, unlinkM, takeM, backM, stuckM, stepM, walkM, begun};
 ghost use Rattle.euler.specs.Model.{moreM, pushM, entryM, entriesM, singleM, singlesM, halfM, splitM};
 ghost use Rattle.euler.specs.Room.{Splits, «Halves-stored»};
 use mark::Mark;
 
-// Where a split's words lie: the graph, the table of ends, the columns, the rows, and how many half-edges a row has room for.
-// Columns, at b + 8·j: 0 cursor and 1 end of the row of party j; 2 mark and 5 first half-edge of entry j; 3 stack; 4 places
-// written. Rows, two words a half-edge: its mate plus 1, or 0 once its mate is taken; its entry's place · 2048 + the other party.
+// Where a split's words lie: the graph, the table of ends, the rings, the number of party 0's node, and the columns.
+// Each party has a ring of nodes, which are its half-edges in its pairs' order and its own node, the number top + v. Node x has two
+// words, at b + 2·x: the node after it and the node before it. Entry i has eight words, at b + 8·i: the node 4·i, its half-edge at
+// its first end; 2 its mark; 3 its second end; the node 4·i + 2, its half-edge at its second end; 7 its first end. So the party
+// to which the half-edge x leads stands at b + 2·x + 3. Columns, at col + 2·j: 0 stack; 1 places written.
 pub struct Rows {
     pub g: usize,
     pub ends: usize,
     pub b: usize,
-    pub rows: usize,
-    pub width: usize,
+    pub top: usize,
+    pub col: usize,
 }
 
 // A walk: the party of the outer loop, the party at which it stands, the height of the stack, the places written.
@@ -54,13 +56,14 @@ fn second_of(s: &[u32], l: Rows, i: usize) -> usize
     v.0 as usize
 }
 
-// An empty row for the party v.
-fn start_row(s: &mut [u32], l: Rows, v: usize, x: usize)
+// An empty ring for the party v.
+fn start_row(s: &mut [u32], l: Rows, v: usize)
     requires { ⌜ Fits l × (v < 4294967296) ⌝ }
-    ensures { λ r. ⌜ now (s .exit) ≡ startRowM l (now (s .entry)) v x ⌝ }
+    ensures { λ r. ⌜ now (s .exit) ≡ startRowM l (now (s .entry)) v ⌝ }
 {
-    words::put(s, l.b + 8 * v, x);
-    words::put(s, l.b + 8 * v + 1, x);
+    let z = l.top + v;
+    words::put(s, l.b + 2 * z, z);
+    words::put(s, l.b + 2 * z + 1, z);
 }
 
 fn start_rows(s: &mut [u32], l: Rows, parties: usize)
@@ -68,28 +71,38 @@ fn start_rows(s: &mut [u32], l: Rows, parties: usize)
     ensures { λ r. ⌜ now (s .exit) ≡ startM l parties (now (s .entry)) ⌝ }
 {
     let mut v = 0;
-    let mut x = 0;
     while v < parties {
-        start_row(s, l, v, x);
+        start_row(s, l, v);
         v += 1;
-        x += l.width;
     }
 }
 
-// Entry i, if its copies are odd, gets a half-edge in its first end's row; its mark is cleared.
+// The half-edge x becomes the last of the ring of v.
+fn append(s: &mut [u32], l: Rows, v: usize, x: usize)
+    requires { ⌜ Fits l × (v < 4294967296) × (x < 34359738368) ⌝ }
+    ensures { λ r. ⌜ now (s .exit) ≡ appendM l (now (s .entry)) v x ⌝ }
+{
+    let z = l.top + v;
+    let p = words::get(s, l.b + 2 * z + 1);
+    words::put(s, l.b + 2 * p, x);
+    words::put(s, l.b + 2 * x + 1, p);
+    words::put(s, l.b + 2 * x, z);
+    words::put(s, l.b + 2 * z + 1, x);
+}
+
+// Entry i, if its copies are odd, gets a half-edge in its first end's ring; its mark is cleared.
 fn row_first(s: &mut [u32], l: Rows, i: usize)
     requires { ⌜ Fits l × (i < 4294967296) ⌝ }
     ensures { λ r. ⌜ now (s .exit) ≡ rowFirstM l (now (s .entry)) i ⌝ }
 {
     let c = copies_of(s, l, i);
     let a = first_of(s, l, i);
-    let h = words::get(s, l.b + 8 * a + 1);
     words::put(s, l.b + 8 * i + 2, 0);
     if c % 2 == 0 {
         return;
     }
-    words::put(s, l.b + 8 * a + 1, h + 1);
-    words::put(s, l.b + 8 * i + 5, h);
+    words::put(s, l.b + 8 * i + 7, a);
+    append(s, l, a, 4 * i);
 }
 
 // From the newest entry down.
@@ -104,18 +117,7 @@ fn fill_firsts(s: &mut [u32], l: Rows, m: usize)
     }
 }
 
-// The half-edges x, at the party a, and h, at the party d, are mates, of entry i.
-fn link(s: &mut [u32], l: Rows, i: usize, x: usize, a: usize, h: usize, d: usize)
-    requires { ⌜ Fits l × (i < 4294967296) × (x < 4294967296) × (a < 4294967296) × (h < 4294967296) × (d < 4294967296) ⌝ }
-    ensures { λ r. ⌜ now (s .exit) ≡ linkM l (now (s .entry)) i x a h d ⌝ }
-{
-    words::put(s, l.rows + 2 * x, h + 1);
-    words::put(s, l.rows + 2 * x + 1, i * 2048 + d);
-    words::put(s, l.rows + 2 * h, x + 1);
-    words::put(s, l.rows + 2 * h + 1, i * 2048 + a);
-}
-
-// Entry i, if its copies are odd, gets its half-edge in its second end's row.
+// Entry i, if its copies are odd, gets its half-edge in its second end's ring.
 fn row_second(s: &mut [u32], l: Rows, i: usize)
     requires { ⌜ Fits l × (i < 4294967296) ⌝ }
     ensures { λ r. ⌜ now (s .exit) ≡ rowSecondM l (now (s .entry)) i ⌝ }
@@ -124,12 +126,9 @@ fn row_second(s: &mut [u32], l: Rows, i: usize)
     if c % 2 == 0 {
         return;
     }
-    let a = first_of(s, l, i);
     let d = second_of(s, l, i);
-    let h = words::get(s, l.b + 8 * d + 1);
-    let x = words::get(s, l.b + 8 * i + 5);
-    words::put(s, l.b + 8 * d + 1, h + 1);
-    link(s, l, i, x, a, h, d);
+    words::put(s, l.b + 8 * i + 3, d);
+    append(s, l, d, 4 * i + 2);
 }
 
 fn fill_seconds(s: &mut [u32], l: Rows, m: usize)
@@ -143,7 +142,7 @@ fn fill_seconds(s: &mut [u32], l: Rows, m: usize)
     }
 }
 
-// The rows of all parties: pairs where the party is first end, newest first, then those where it is second end.
+// The rings of all parties: pairs where the party is first end, newest first, then those where it is second end.
 fn fill_rows(s: &mut [u32], l: Rows, m: usize, parties: usize)
     requires { ⌜ Fits l × (m < 4294967296) × (parties < 4294967296) ⌝ }
     ensures { λ r. ⌜ now (s .exit) ≡ fillM l m parties (now (s .entry)) ⌝ }
@@ -153,36 +152,53 @@ fn fill_rows(s: &mut [u32], l: Rows, m: usize, parties: usize)
     fill_seconds(s, l, m);
 }
 
-// The half-edge c of the party at which the walk stands: passed if it is used, else taken and followed.
-fn take_or_pass(s: &mut [u32], l: Rows, w: Walk, c: usize) -> Walk
-    requires { ⌜ Fits l × Small 68719476736 w × (c < 4294967296) ⌝ }
-    ensures { λ r. ⌜ record { words = now (s .exit); walk = r } ≡ takeM l (now (s .entry)) w c ⌝ }
+// The first half-edge x of a ring goes out of it; z is the party's node.
+fn pop(s: &mut [u32], l: Rows, z: usize, x: usize)
+    requires { ⌜ Fits l × (z < 274877906944) × (x < 4294967296) ⌝ }
+    ensures { λ r. ⌜ now (s .exit) ≡ popM l (now (s .entry)) z x ⌝ }
 {
-    let mate = words::get(s, l.rows + 2 * c);
-    let x = words::get(s, l.rows + 2 * c + 1);
-    words::put(s, l.b + 8 * w.at, c + 1);
-    if mate == 0 {
-        return w;
-    }
-    words::put(s, l.rows + 2 * (mate - 1), 0);
-    words::put(s, l.b + 8 * w.height + 3, x / 2048 * 2048 + w.at);
+    let q = words::get(s, l.b + 2 * x);
+    words::put(s, l.b + 2 * z, q);
+    words::put(s, l.b + 2 * q + 1, z);
+}
+
+// The half-edge x goes out of its ring, wherever it stands.
+fn unlink(s: &mut [u32], l: Rows, x: usize)
+    requires { ⌜ Fits l × (x < 34359738368) ⌝ }
+    ensures { λ r. ⌜ now (s .exit) ≡ unlinkM l (now (s .entry)) x ⌝ }
+{
+    let q = words::get(s, l.b + 2 * x);
+    let p = words::get(s, l.b + 2 * x + 1);
+    words::put(s, l.b + 2 * p, q);
+    words::put(s, l.b + 2 * q + 1, p);
+}
+
+// The first half-edge x of the party at which the walk stands is taken and followed; its mate goes too.
+fn take(s: &mut [u32], l: Rows, w: Walk, x: usize) -> Walk
+    requires { ⌜ Fits l × Small 68719476736 w × (x < 4294967296) ⌝ }
+    ensures { λ r. ⌜ record { words = now (s .exit); walk = r } ≡ takeM l (now (s .entry)) w x ⌝ }
+{
+    let to = words::get(s, l.b + 2 * x + 3);
+    pop(s, l, l.top + w.at, x);
+    unlink(s, l, x / 4 * 4 + (x + 2) % 4);
+    words::put(s, l.col + 2 * w.height, x / 4 * 2048 + w.at);
     Walk {
         next: w.next,
-        at: x % 2048,
+        at: to,
         height: w.height + 1,
         written: w.written,
     }
 }
 
-// Stuck: step back, write the place down, and mark its entry with the place's parity.
+// Step back, write the place down, and mark its entry with the place's parity.
 fn step_back(s: &mut [u32], l: Rows, w: Walk) -> Walk
     requires { ⌜ Fits l × Small 68719476736 w × (0 < w .height) ⌝ }
     ensures { λ r. ⌜ record { words = now (s .exit); walk = r } ≡ backM l (now (s .entry)) w ⌝ }
 {
-    let x = words::get(s, l.b + 8 * (w.height - 1) + 3);
+    let x = words::get(s, l.col + 2 * (w.height - 1));
     let i = x / 2048;
     words::put(s, l.b + 8 * i + 2, 2 + w.written % 2);
-    words::put(s, l.b + 8 * w.written + 4, i);
+    words::put(s, l.col + 2 * w.written + 1, i);
     Walk {
         next: w.next,
         at: x % 2048,
@@ -191,19 +207,11 @@ fn step_back(s: &mut [u32], l: Rows, w: Walk) -> Walk
     }
 }
 
-// One step of the walk; past the last party nothing happens.
-fn walk_step(s: &mut [u32], l: Rows, parties: usize, w: Walk) -> Walk
+// Stuck: back, or on to the next party.
+fn stuck(s: &mut [u32], l: Rows, w: Walk) -> Walk
     requires { ⌜ Fits l × Small 68719476736 w ⌝ }
-    ensures { λ r. ⌜ record { words = now (s .exit); walk = r } ≡ stepM l parties (record { words = now (s .entry); walk = w }) ⌝ }
+    ensures { λ r. ⌜ record { words = now (s .exit); walk = r } ≡ stuckM l (now (s .entry)) w ⌝ }
 {
-    if parties <= w.next {
-        return w;
-    }
-    let c = words::get(s, l.b + 8 * w.at);
-    let e = words::get(s, l.b + 8 * w.at + 1);
-    if c < e {
-        return take_or_pass(s, l, w, c);
-    }
     if 0 < w.height {
         return step_back(s, l, w);
     }
@@ -215,14 +223,30 @@ fn walk_step(s: &mut [u32], l: Rows, parties: usize, w: Walk) -> Walk
     }
 }
 
-// `euler_cycles`: the walks from all parties, in number order, their places written one after the other. Each pair is taken,
-// passed and written down once, so three steps for each pair and one for each party suffice.
+// One step of the walk; past the last party nothing happens.
+fn walk_step(s: &mut [u32], l: Rows, parties: usize, w: Walk) -> Walk
+    requires { ⌜ Fits l × Small 68719476736 w ⌝ }
+    ensures { λ r. ⌜ record { words = now (s .exit); walk = r } ≡ stepM l parties (record { words = now (s .entry); walk = w }) ⌝ }
+{
+    if parties <= w.next {
+        return w;
+    }
+    let z = l.top + w.at;
+    let x = words::get(s, l.b + 2 * z);
+    if x == z {
+        return stuck(s, l, w);
+    }
+    take(s, l, w, x)
+}
+
+// `euler_cycles`: the walks from all parties, in number order, their places written one after the other. Each pair is taken
+// and written down once, so two steps for each pair and one for each party suffice.
 fn euler_cycles(s: &mut [u32], l: Rows, m: usize, parties: usize) -> usize
     requires { ⌜ Fits l × (m < 4294967296) × (parties < 4294967296) ⌝ }
-    ensures { λ r. ⌜ (now (s .exit) ≡ walkM l parties (3 * m + parties) (begun (now (s .entry))) .words)
-        × (r ≡ walkM l parties (3 * m + parties) (begun (now (s .entry))) .walk .written) × (r < 68719476736) ⌝ }
+    ensures { λ r. ⌜ (now (s .exit) ≡ walkM l parties (2 * m + parties) (begun (now (s .entry))) .words)
+        × (r ≡ walkM l parties (2 * m + parties) (begun (now (s .entry))) .walk .written) × (r < 68719476736) ⌝ }
 {
-    let bound = 3 * m + parties;
+    let bound = 2 * m + parties;
     let mut w = Walk {
         next: 0,
         at: 0,
@@ -290,7 +314,7 @@ fn half_single(s: &mut [u32], l: Rows, h: usize, at: usize, j: usize) -> usize
     requires { ⌜ Fits l × (h < 4294967296) × (at < 137438953472) × (j < 137438953472) ⌝ }
     ensures { λ r. ⌜ record { words = now (s .exit); count = r } ≡ singleM l h (record { words = now (s .entry); count = at }) j ⌝ }
 {
-    let i = words::get(s, l.b + 8 * j + 4);
+    let i = words::get(s, l.col + 2 * j + 1);
     let c = copies_of(s, l, i);
     if 2 <= c {
         return at;
@@ -352,8 +376,8 @@ fn split_at(s: &mut [u32], u: usize, ends: usize, g: usize, n: usize, width: usi
         g: g,
         ends: ends,
         b: b,
-        rows: b + 8 * k,
-        width: width,
+        top: 4 * k,
+        col: b + 10 * k,
     };
     let m = words::get(s, g + 1);
     split_words(s, l, u, u + 2 * k, m, 2 * n);

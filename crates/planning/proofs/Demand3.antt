@@ -12,7 +12,7 @@ use lib.Seq.{take-at}
 use Rattle.appointments.specs.Appointments.{appts, largest-load}
 use Rattle.appointments.specs.Checks.{passed, refused, checks}
 use Rattle.appointments.proofs.ChecksLaws.{refused-passed}
-use Rattle.appointments.proofs.Causes.{Cause, many-parties, odd-length, many-appts, blank-end, unlisted-end, large-product, few-slots, small-scratch, refused-cause}
+use Rattle.appointments.proofs.Causes.{refused-cause, cause-number}
 use Rattle.planning.specs.Planning.{plan, planned, refusal, plan-answer, plan-slots}
 use Rattle.planning.specs.Demand3.{Shortest-plan, Demand-3}
 use Rattle.planning.proofs.Outcomes.{shortest-plan, Found-plan, No-plan, Came, barred, found, odd, came}
@@ -28,17 +28,6 @@ planned-same D E e = cc
 pub refusal-number : (n i k j : ℕ) → refusal n i ≡ refusal k j → n ≡ k
 refusal-number n i k j e = cc
 
--- checks 1 to 8 refuse with their own numbers
-pub cause-number : {P : ℕ} {list : List ℕ} {slots scratch n i : ℕ} → Cause P list slots scratch n i → n ≤ 8
-cause-number (many-parties h) = omega arith
-cause-number (odd-length p h) = omega arith
-cause-number (many-appts p e h) = omega arith
-cause-number (blank-end p e a h) = omega arith
-cause-number (unlisted-end p e a f h) = omega arith
-cause-number (large-product g h) = omega arith
-cause-number (few-slots g p h) = omega arith
-cause-number (small-scratch g p r h) = omega arith
-
 -- ── the three cases ──
 
 module _ (P : ℕ) (list : List ℕ) (slots scratch : ℕ) where
@@ -48,7 +37,7 @@ module _ (P : ℕ) (list : List ℕ) (slots scratch : ℕ) where
       Demand-3 P list slots scratch (refusal n i) after
   refused-demand n i e after =
       record {
-        nine = λ q. absurd (omega (arith, cause-number (refused-cause P list slots scratch n i e), refusal-number n i 9 0 q));
+        nine = λ q. absurd (omega (arith, cause-number (refused-cause P list slots scratch n i e) .1, refusal-number n i 9 0 q));
         nine-only = λ q odd. refused-passed n i (sym e ∙ q);
         accepted = λ q even. refused-passed n i (sym e ∙ q);
         only-passed = λ D q. planned-refusal D n i (sym q);
@@ -115,7 +104,7 @@ module _ (P : ℕ) (list slots scratch : List ℕ) where
       go : Came P list (length slots) (length scratch) → plan-answer P list slots scratch ≡ refusal n i → n ≤ 9
       go (barred k j e) q =
           let r : refusal k j ≡ refusal n i = rw e at q in
-          omega (arith, cause-number (refused-cause P list (length slots) (length scratch) k j e), refusal-number k j n i r)
+          omega (arith, cause-number (refused-cause P list (length slots) (length scratch) k j e) .1, refusal-number k j n i r)
       go (found e f) q = planned-refusal (largest-load P (appts list)) n i (rw (e, f .found) at q)
       go (odd e f) q =
           let r : refusal 9 0 ≡ refusal n i = rw (e, f .found) at q in

@@ -1,15 +1,15 @@
 -- From the evened graph to the slots: the matchings of its colouring lie where the slots are given from, and what is given are the
 -- slots of `bipartite_edge_color`. Assumes nothing.
 use Prim.Native.Nat.{ℕ, _+_, _*_, _/_, _<_, _≤_, max}
-use mathlib.Core.Path.{_≡_, refl, sym, _∙_, ap}
-use mathlib.Core.List.{List, [], _∷_}
+use mathlib.Core.Path.{_≡_, sym, _∙_, ap}
+use mathlib.Core.List.{List, []}
 use native.Mathlib.Omega.{arith}
 use native.Mathlib.Nat.{mul-le-mul-left}
-use lib.ListN.{length, getD}
-use Rattle.words.specs.Basics.{Run, ran}
+use lib.ListN.{length}
+use Rattle.words.specs.Basics.{ran}
 use Rattle.words.specs.Words.{word}
 use Rattle.words.proofs.Runs.{ran-is}
-use Rattle.appointments.specs.Appointments.{Appt, appt, appts, largest-load}
+use Rattle.appointments.specs.Appointments.{Appt, appts, largest-load}
 use Rattle.appointments.proofs.Flat.{appts-count}
 use Rattle.two_color.specs.TwoSides.{Two-sides}
 use Rattle.two_color.proofs.TwoColorLaws.{sides-proper}
@@ -22,7 +22,7 @@ use Rattle.edge_color.specs.Room.{Color-fits, Colored}
 use Rattle.evening.specs.Evening.{add-appointments, padded, even-out}
 use Rattle.evening.proofs.BuildingLaws.{appt-at}
 use Rattle.slots.specs.Slots.{give-slots}
-use Rattle.slots.specs.Stored.{Slots-fit, Slots-stored, Gives-slots}
+use Rattle.slots.specs.Stored.{Slots-fit, Gives-slots}
 use Rattle.planning.specs.GivenPartition.{bipartite-edge-color-given-partition}
 use Rattle.planning.specs.Planning.{plan, outcome, given-sides, bipartite-edge-color}
 use Rattle.planning.specs.Steps.{table, Prepared, Slots-planned}

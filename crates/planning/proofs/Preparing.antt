@@ -3,36 +3,34 @@
 use Prim.Native.Nat.{ℕ, zero, suc, _+_, _*_, _-_, _/_, _%_, _<_, _≤_, max}
 use mathlib.Core.Path.{_≡_, refl, sym, _∙_, ap}
 use mathlib.Core.List.{List, [], _∷_, _++_}
-use mathlib.Core.Logic.{_⊎_, inl, inr, ⊎-elim}
+use mathlib.Core.Logic.{inl, inr, ⊎-elim}
 use native.Mathlib.Omega.{arith}
-use native.Mathlib.Nat.{mul-le-mul-left, mul-le-mul-right}
+use native.Mathlib.Nat.{mul-le-mul-left}
 use lib.ListN.{length}
-use Rattle.words.specs.Basics.{All, Run, ran, failed, Ran}
+use Rattle.words.specs.Basics.{All, ran}
 use Rattle.words.specs.Words.{word}
 use Rattle.words.proofs.Sums.{sum-below-le, sum-below-const}
-use Rattle.appointments.specs.Appointments.{Appt, appts, load, largest-load}
-use Rattle.appointments.specs.Checks.{passed, checks}
+use Rattle.appointments.specs.Appointments.{appts, load, largest-load}
 use Rattle.appointments.proofs.Loads.{Listed, load-le-largest, list-loads-sum}
 use Rattle.appointments.proofs.ChecksLaws.{Passes, passed-passes}
-use Rattle.two_color.specs.TwoColor.{sides, two-color}
 use Rattle.two_color.specs.TwoSides.{Two-sides}
 use Rattle.two_color.specs.Contract.{region}
 use Rattle.two_color.proofs.TwoColorLaws.{sides-proper}
-use Rattle.multigraph.specs.Regular.{Partition, Across, Regular, Positive, Same-ends}
+use Rattle.multigraph.specs.Regular.{Partition}
 use Rattle.multigraph.specs.Stored.{graph-at}
-use Rattle.multigraph.specs.Places.{size, number, Alike, Distinct-ends}
+use Rattle.multigraph.specs.Places.{size, number, Alike}
 use Rattle.multigraph.proofs.Kept.{Ends-kept, same-ends-sym, alike-back}
 use Rattle.matching.specs.declared.Table.{Table}
-use Rattle.matching.specs.Searched.{column, lefts, rights, On-diagonal, Tabled}
+use Rattle.matching.specs.Searched.{column, lefts, rights, Tabled}
 use Rattle.edge_color.specs.Room.{Colorable, Color-fits}
 use Rattle.edge_color.proofs.Placed.{Graph-kept, kept-above}
 use Rattle.evening.specs.Evening.{add-appointments, padded, even-out}
-use Rattle.evening.specs.Contract.{Changes-three, Has-ends, Paired, Can-pad, Sides-padded, Can-pair, Pairs-made, Can-even, Evened-out, Can-diagonal, Diagonal-set}
+use Rattle.evening.specs.Contract.{Has-ends, Can-pad, Sides-padded, Can-pair, Pairs-made, Can-even, Evened-out, Can-diagonal, Diagonal-set}
 use Rattle.evening.proofs.Pairs.{Crosses, sound-list, degree-load}
 use Rattle.evening.proofs.PaddingWords.{region-length, region-same}
 use Rattle.evening.proofs.Padding.{padded-side, padded-partition, padded-crosses, padded-loads}
 use Rattle.evening.proofs.EvenOut.{Evened, even-out-law}
-use Rattle.planning.specs.Steps.{ends-at, places-at, apair-at, out-at, graph-base, first-mark, table, Ready, Sided, Prepared}
+use Rattle.planning.specs.Steps.{table, Ready, Sided, Prepared}
 
 -- ── sizes ──
 

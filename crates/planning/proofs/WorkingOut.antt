@@ -1,6 +1,6 @@
 -- What the planning call comes to, by its steps: a list without parties, one that is not bipartite, and one that gets its plan;
 -- and from the answer to a list that passed the answer of the call. Assumes nothing.
-use Prim.Native.Nat.{ℕ, zero, suc, _+_, _*_, _-_, _<_, _≤_}
+use Prim.Native.Nat.{ℕ, _+_, _*_, _<_, _≤_}
 use mathlib.Core.Path.{_≡_, refl, sym, _∙_, ap}
 use mathlib.Core.List.{List, [], _∷_, _++_, append-nil}
 use native.Mathlib.Omega.{arith}
@@ -8,21 +8,21 @@ use native.Mathlib.Nat.{zero-add}
 use lib.ListN.{length, take, drop, replicate, length-take, length-replicate, drop-of-length-le}
 use Rattle.words.specs.Basics.{All}
 use Rattle.appointments.specs.Appointments.{Appt, appts, largest-load, scratch-words}
-use Rattle.appointments.specs.Checks.{Check, passed, refused, checks}
+use Rattle.appointments.specs.Checks.{passed, refused, checks}
 use Rattle.appointments.specs.Checked.{checked}
 use Rattle.appointments.specs.declared.Checked.{Checked}
 use Rattle.appointments.specs.declared.Checked.the-variants.{Passed, Refused}
 use Rattle.appointments.proofs.Loads.{Listed, largest-load-empty}
 use Rattle.appointments.proofs.ChecksLaws.{Passes, passed-passes, passes-passed, good-goes-on}
 use Rattle.appointments.proofs.Answering.{checked-passed, checked-figure, checked-number, d-small}
-use Rattle.two_color.specs.TwoColor.{sides, not-bipartite, two-color}
-use Rattle.two_color.specs.Contract.{region, Can-color, Answers, Colored}
+use Rattle.two_color.specs.TwoColor.{not-bipartite, two-color}
+use Rattle.two_color.specs.Contract.{Can-color, Colored}
 use Rattle.two_color.specs.declared.TwoColoring.the-variants.{Sides, NotBipartite}
 use Rattle.planning.specs.Planning.{Answer, planned, refusal, plan, graph-not-bipartite, given-sides, bipartite-edge-color, plan-answer, plan-slots, plan-scratch}
 use Rattle.planning.specs.Demand3.{Demand-3}
 use Rattle.planning.specs.Steps.{Ready, Sided, Slots-planned, Worked-out}
 use Rattle.planning.specs.Computing.{computing}
-use Rattle.planning.proofs.Preparing.{Sizes, sizes}
+use Rattle.planning.proofs.Preparing.{sizes}
 use Rattle.planning.proofs.Demand3.{demand-3}
 
 -- ── the steps ──

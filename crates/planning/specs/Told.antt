@@ -1,5 +1,4 @@
 -- What the planning call tells in the code, and the definitions' answer that each case stands for. Assumes nothing.
-use Prim.Native.Nat.{ℕ}
 use Rattle.planning.specs.Planning.{planned, refusal}
 use Rattle.planning.specs.Planning as Planning
 use Rattle.planning.specs.declared.Answer.{Answer}

@@ -1,28 +1,16 @@
 -- What the checks give the exported steps. Assumes nothing.
-use Prim.Native.Nat.{ℕ, zero, suc, _+_, _*_, _%_, _<_, _≤_}
-use mathlib.Core.Path.{_≡_, refl, sym, _∙_, ap}
+use Prim.Native.Nat.{ℕ, _%_, _<_, _≤_}
+use mathlib.Core.Path.{_≡_}
 use mathlib.Core.List.{List}
 use native.Mathlib.Omega.{arith}
-use native.Mathlib.Nat.{mod-eq-of-lt, mul-le-mul-left}
+use native.Mathlib.Nat.{mod-eq-of-lt}
 use lib.ListN.{length}
 use Rattle.appointments.specs.Appointments.{appts, largest-load}
 use Rattle.appointments.specs.Checks.{passed, refused, checks}
 use Rattle.appointments.proofs.Loads.{load-le-largest}
 use Rattle.appointments.proofs.ChecksLaws.{Passes, passed-passes, good-length}
-use Rattle.appointments.proofs.Causes.{Cause, many-parties, odd-length, many-appts, blank-end, unlisted-end, large-product, few-slots, small-scratch, refused-cause}
 use Rattle.two_color.specs.Contract.{Can-color}
 use Rattle.steps_c.specs.Compared.{Two-colored}
-
--- the numbers of checks 1 to 8
-pub cause-number : {P : ℕ} {list : List ℕ} {slots scratch n i : ℕ} → Cause P list slots scratch n i → (0 < n) × (n ≤ 8)
-cause-number (many-parties h) = omega arith
-cause-number (odd-length p h) = omega arith
-cause-number (many-appts p e h) = omega arith
-cause-number (blank-end p e a h) = omega arith
-cause-number (unlisted-end p e a f h) = omega arith
-cause-number (large-product g h) = omega arith
-cause-number (few-slots g p h) = omega arith
-cause-number (small-scratch g p r h) = omega arith
 
 -- a list that has passed can be coloured
 pub can-color :

@@ -1,4 +1,4 @@
--- `euler::split_at` meets its contract: the words are laid out, and `split_words` does the rest. Assumes nothing.
+-- `split_at` meets its contract: the words are laid out, and `split_words` does the rest. Assumes nothing.
 use native.Mathlib.Omega.{arith}
 use Prim.Native.Nat.{ℕ, _+_, _*_}
 use mathlib.Core.List.{List}
@@ -10,13 +10,11 @@ use borrow.Author.Needs.{needs}
 use Rattle.euler.proofs.split_at.Statement.{statement}
 use Rattle.euler.proofs.split_at.Tie as tie
 
--- src/lib.rt:338:18
 add-k : tie.Need-add-k
 add-k c =
     let a = c .before .args in
     omega (arith, width-small (a .s .now) (a .u) (a .ends) (a .g) (a .n) (a .width) (c .before .pre))
 
--- src/lib.rt:349:5
 split-words-requires : tie.Need-split-words-requires
 split-words-requires c κs =
     let a = c .before .before .before .before .args in
@@ -33,7 +31,6 @@ split-words-requires c κs =
     (c .before .get .ensures .1) in
     (f .0, omega (arith, f .1, f .2), omega (arith, f .1, f .2), f .3, f .4)
 
--- src/lib.rt:334:1
 returns : tie.Need-returns
 returns c =
     let a = c .before .before .before .before .before .before .before .args in
@@ -42,7 +39,7 @@ returns c =
     subst (λ (t : List ℕ). Halves-stored s t (a .u) (a .u + 4 * k) (a .ends) (a .g) (a .n) (a .width))
     (sym
     (c .before .before .split-words .ensures
-    ∙ ap (λ (m : ℕ). splitM (laid (a .u) k (a .ends) (a .g) (a .width)) (a .u) (a .u + 2 * k) m (2 * a .n) s)
+    ∙ ap (λ (m : ℕ). splitM (laid (a .u) k (a .ends) (a .g)) (a .u) (a .u + 2 * k) m (2 * a .n) s)
     (c .before .before .before .before .get .ensures .0)))
     (split-stored s (a .u) (a .ends) (a .g) (a .n) (a .width) (c .before .before .before .before .before .before .before .pre) (λ i. omega (arith, c .before .before .before .before .before .before .slice-known .given i)))
 
@@ -51,6 +48,7 @@ split-at-spec =
     tie.close
     (tie.spec
     add-k
+    (λ c. search needs)
     (λ c. search needs)
     (λ c. search needs)
     (λ c. search needs)

@@ -6,8 +6,8 @@ use lib.ListN.{length}
 use Rattle.appointments.specs.Appointments.{appts, largest-load}
 use Rattle.appointments.specs.Checks.{passed, checks}
 use Rattle.appointments.proofs.Answering.{checked-number, checked-passed, checked-figure}
-use Rattle.appointments.proofs.Causes.{refused-cause}
-use Rattle.steps_c.proofs.Passing.{cause-number, can-color, barred-says}
+use Rattle.appointments.proofs.Causes.{refused-cause, cause-number}
+use Rattle.steps_c.proofs.Passing.{can-color, barred-says}
 use Rattle.steps_c.specs.Compared.{refusal-number}
 use Rattle.two_color.specs.Contract.{Answers}
 use Rattle.two_color.specs.declared.TwoColoring.the-variants.{Sides, NotBipartite}
