@@ -16,6 +16,7 @@ use Rattle.words.proofs.Frames.{here, away, length-put, keeps-refl, keeps-trans
 use Rattle.multigraph.specs.Multigraph.{Pair, pair}
 use Rattle.euler.specs.declared.Rows.{Rows}
 use Rattle.euler.specs.Model.{copiesM, firstM, secondM, startRowM, startM, appendM, rowFirstM, firstsM, rowSecondM, secondsM, fillM}
+use Rattle.euler.specs.Bounds.{Appends, Row-firsts, Row-seconds, Fills}
 use Rattle.euler.proofs.ModelLaws.{first-even, first-odd, second-even, second-odd}
 use Rattle.euler.proofs.Places.{keep, keep-append, keep-all, keep-yes, keep-no}
 use Rattle.euler.proofs.Rings.{after, prior, Chain, chain-same, chain-last, last-node, Joined, chain-joined, chain-beside}
@@ -634,24 +635,29 @@ module _ (l : Rows) (N m k : ℕ) (s₀ : List ℕ) (g : Laid l N m k s₀) (fla
     pub marks : (i : ℕ) → i < m → word s (l .b + 8 * i + 2) ≡ 0
     pub leads : (d : Bool) (i : ℕ) → odd i → word s (l .b + 2 * edge d i + 3) ≡ end P (not d) i
 
+  firsts-begun : Firsts 0 (startM l N s₀)
+  firsts-begun =
+      let r = started N (omega arith) in
+      record {
+        side = side-none true (λ v. []) (startM l N s₀) (record { keeps = r .0; rings = r .1; edges = λ v b. tt });
+        marks = λ i lo hi. absurd (omega arith);
+      }
+
+  seconds-begun : Seconds 0 (firstsM l m m (startM l N s₀))
+  seconds-begun =
+      let t : List ℕ = firstsM l m m (startM l N s₀) in
+      let a : Firsts m t = firsts-all m (startM l N s₀) (omega arith) firsts-begun in
+      record {
+        side = side-none false all-firsts t (a .side .rung);
+        marks = λ i b. a .marks i (omega arith) b;
+        firsts = λ i o. a .side .leads i (omega arith) o;
+      }
+
   pub filled : Filled (fillM l m N s₀)
   unfolding odd-places
   filled =
-      let r₀ = started N (omega arith) in
-      let t₀ : List ℕ = startM l N s₀ in
-      let a₀ : Ringed (λ v. []) t₀ = record { keeps = r₀ .0; rings = r₀ .1; edges = λ v b. tt } in
-      let t₁ : List ℕ = firstsM l m m t₀ in
-      let a₁ : Firsts m t₁ =
-      firsts-all m t₀ (omega arith)
-      (record { side = side-none true (λ v. []) t₀ a₀; marks = λ i lo hi. absurd (omega arith) }) in
-      let t₂ : List ℕ = secondsM l m m t₁ in
-      let a₂ : Seconds m t₂ =
-      seconds-all m t₁ (omega arith)
-      (record {
-        side = side-none false all-firsts t₁ (a₁ .side .rung);
-        marks = λ i b. a₁ .marks i (omega arith) b;
-        firsts = λ i o. a₁ .side .leads i (omega arith) o;
-      }) in
+      let t₂ : List ℕ = fillM l m N s₀ in
+      let a₂ : Seconds m t₂ = seconds-all m (firstsM l m m (startM l N s₀)) (omega arith) seconds-begun in
       record {
         rung = subst (λ (xs : List ℕ). Ringed (λ v. part true v xs ++ part false v xs) t₂) (newest-all m) (a₂ .side .rung);
         marks = a₂ .marks;
@@ -661,3 +667,66 @@ module _ (l : Rows) (N m k : ℕ) (s₀ : List ℕ) (g : Laid l N m k s₀) (fla
       leads-both : (t : List ℕ) → Seconds m t → (d : Bool) (i : ℕ) → odd i → word t (l .b + 2 * edge d i + 3) ≡ end P (not d) i
       leads-both t h true i o = h .side .leads i (omega arith) o
       leads-both t h false i o = h .firsts i o
+
+  -- ── every place that the filling touches is one ──
+
+  -- the last of a ring, or the party's own node
+  ringed-appends : (R : ℕ → List ℕ) (s : List ℕ) (v x : ℕ) → v < N → Edge x → Ringed R s → Appends l s v x
+  ringed-appends R s v x b xe h =
+      let z : ℕ = l .top + v in
+      let p : Node (prior (l .b) s z) =
+      last-node (l .b) Node s z (R v) z (party-node v b) (all-map edge-node (R v) (h .edges v b)) (h .rings v b) in
+      let len : length s ≡ length s₀ = h .keeps .len in
+      record {
+        own = omega (arith, g .place, g .parties, g .room);
+        here = omega (arith, xe .0, g .place, g .room);
+        last = omega (arith, p .0, g .place, g .parties, g .room);
+      }
+
+  row-firsts : (j : ℕ) (s : List ℕ) → j < m → Firsts j s → Row-firsts l s (m - 1 - j)
+  row-firsts j s b h =
+      let i : ℕ = m - 1 - j in
+      let ib : i < m = omega arith in
+      let ik : i < k = omega (arith, g .entries) in
+      let len : length s ≡ length s₀ = h .side .rung .keeps .len in
+      let f : firstM l s i ≡ F i = first-kept s (h .side .rung .keeps) i ib in
+      let t : List ℕ = put-word s (l .b + 8 * i + 2) 0 in
+      let q = marked j s b h in
+      let e : l .b + 8 * i + 7 ≡ l .b + 2 * edge false i + 3 = omega arith in
+      record {
+        words = omega (arith, g .room);
+        appends = λ n.
+            rw (f, e)
+            (ringed-appends (λ v. [] ++ part true v (newest m j)) (put-word t (l .b + 2 * edge false i + 3) (F i)) (F i) (4 * i) (end-below true i ib)
+            (edge-is true i ib)
+            (ringed-same (λ v. [] ++ part true v (newest m j)) t (put-word t (l .b + 2 * edge false i + 3) (F i)) (same-lead t false i (F i) ik) (q .0 .rung)));
+      }
+
+  row-seconds : (j : ℕ) (s : List ℕ) → j < m → Seconds j s → Row-seconds l s (m - 1 - j)
+  row-seconds j s b h =
+      let i : ℕ = m - 1 - j in
+      let ib : i < m = omega arith in
+      let ik : i < k = omega (arith, g .entries) in
+      let len : length s ≡ length s₀ = h .side .rung .keeps .len in
+      let f : secondM l s i ≡ S i = second-kept s (h .side .rung .keeps) i ib in
+      let e : l .b + 8 * i + 3 ≡ l .b + 2 * edge true i + 3 = omega arith in
+      record {
+        words = omega (arith, g .room);
+        appends = λ n.
+            rw (f, e)
+            (ringed-appends (λ v. all-firsts v ++ part false v (newest m j)) (put-word s (l .b + 2 * edge true i + 3) (S i)) (S i) (4 * i + 2) (end-below false i ib)
+            (edge-is false i ib)
+            (ringed-same (λ v. all-firsts v ++ part false v (newest m j)) s (put-word s (l .b + 2 * edge true i + 3) (S i)) (same-lead s true i (S i) ik) (h .side .rung)));
+      }
+
+  pub fills-on : Fills l m N s₀
+  fills-on =
+      record {
+        firsts = record { rows = λ j b. row-firsts j (firstsM l m j (startM l N s₀)) b (firsts-all j (startM l N s₀) (omega arith) firsts-begun) };
+        seconds =
+            record {
+              rows = λ j b.
+                  row-seconds j (secondsM l m j (firstsM l m m (startM l N s₀))) b
+                  (seconds-all j (firstsM l m m (startM l N s₀)) (omega arith) seconds-begun);
+            };
+      }

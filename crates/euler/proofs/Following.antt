@@ -126,16 +126,20 @@ module _ (l : Rows) (N m k : ℕ) (s₀ : List ℕ) (g : Laid l N m k s₀) (fla
         aside-two l N m k s₀ g flag s p q q p (w .prior-node) (w .after-node),
       )
 
+  -- a half-edge of the ring of v stands between two nodes
+  pub ringed-between :
+      (R : ℕ → List ℕ) (s : List ℕ) (v x : ℕ) → v < N → Has x (R v) → Ringed l N m k s₀ g flag R s → Between (l .b) Nd x s
+  ringed-between R s v x b a h =
+      between (l .b) Nd s x (l .top + v) (R v) (l .top + v) (party-node l N m k s₀ g flag v b)
+      (all-map (edge-node l N m k s₀ g flag) (R v) (h .edges v b)) (party-node l N m k s₀ g flag v b) a (h .rings v b)
+
   -- the rings go on without the half-edge x of the ring of v
   ringed-less :
       (R : ℕ → List ℕ) (s : List ℕ) (v x : ℕ) → v < N → Ed x → Has x (R v) →
       ((u : ℕ) → u < N → Distinct (R u)) → Ringed l N m k s₀ g flag R s →
       Ringed l N m k s₀ g flag (λ u. without x (R u)) (unlinkM l s x) × Aside l N m k s₀ g flag s (unlinkM l s x)
-  ringed-less R s v x b xe m' d h =
-      let w : Between (l .b) Nd x s =
-      between (l .b) Nd s x (l .top + v) (R v) (l .top + v) (party-node l N m k s₀ g flag v b)
-      (all-map (edge-node l N m k s₀ g flag) (R v) (h .edges v b)) (party-node l N m k s₀ g flag v b) m' (h .rings v b) in
-      let c = unlinked s x (h .keeps .len) w in (
+  ringed-less R s v x b xe a d h =
+      let c = unlinked s x (h .keeps .len) (ringed-between R s v x b a h) in (
         record {
           keeps = keeps-trans (h .keeps) (c .1 .keeps);
           rings = λ u e.
@@ -146,50 +150,70 @@ module _ (l : Rows) (N m k : ℕ) (s₀ : List ℕ) (g : Laid l N m k s₀) (fla
         c .1,
       )
 
-  pub rowed-take :
-      (v : ℕ) (s is : List ℕ) → v < N → Falling is → Rowed s is → (f : First Q v is) →
-      Rowed (unlinkM l (popM l s (l .top + v) (edge (f .side) (f .entry))) (edge (not (f .side)) (f .entry))) (without (f .entry) is)
-      × Aside l N m k s₀ g flag s (unlinkM l (popM l s (l .top + v) (edge (f .side) (f .entry))) (edge (not (f .side)) (f .entry)))
-  rowed-take v s is b fall h f =
-      let d : Bool = f .side in
-      let i : ℕ = f .entry in
-      let x : ℕ = edge d i in
-      let y : ℕ = edge (not d) i in
-      let o : odd i = has-odd s is i h (f .has) in
-      let ib : i < m = o .below in
-      let w : ℕ = end Q (not d) i in
-      let wb : w < N = end-below l N m k s₀ g flag (not d) i ib in
-      let R₀ : ℕ → List ℕ = λ u. nodes Q u is in
-      let r₁ = ringed-less R₀ s v x b (edge-is l N m k s₀ g flag d i ib) (has-node Q d i v is (f .own) (f .has)) (λ u c. nodes-distinct Q u is fall) (h .rung) in
-      let t₁ : List ℕ = unlinkM l s x in
-      let R₁ : ℕ → List ℕ = λ u. without x (R₀ u) in
-      let far : Has y (R₁ w) =
-      has-kept (λ z. not (eqb x z)) y (R₀ w) (rw (ne-eqb x y (apart d i))) (has-node Q (not d) i w is refl (f .has)) in
-      let r₂ =
-      ringed-less R₁ t₁ w y wb (edge-is l N m k s₀ g flag (not d) i ib) far (λ u c. keep-distinct (λ z. not (eqb x z)) (R₀ u) (nodes-distinct Q u is fall))
-      (r₁ .0) in
-      let t₂ : List ℕ = unlinkM l t₁ y in
-      let first : prior (l .b) s x ≡ l .top + v =
-      subst (λ (ys : List ℕ). Chain (l .b) s (l .top + v) ys (l .top + v)) (f .nodes-is) (h .rung .rings v b) .1 in
-      let same : popM l s (l .top + v) x ≡ t₁ = pop-is s (l .top + v) x first in
-      let r : Rowed t₂ (without i is) =
-      record {
-        rung =
-            record {
-              keeps = r₂ .0 .keeps;
-              rings = λ u c.
-                  subst (λ (ys : List ℕ). Chain (l .b) t₂ (l .top + u) ys (l .top + u)) (nodes-without Q d i u is) (r₂ .0 .rings u c);
-              edges = λ u c. subst (All Ed) (nodes-without Q d i u is) (r₂ .0 .edges u c);
-            };
-        leads = λ e j p.
-            let jb : j < m = p .below in
-            r₂ .1 .leads e j (omega (arith, g .entries)) ∙ r₁ .1 .leads e j (omega (arith, g .entries)) ∙ h .leads e j p;
-        below = keep-all (λ j. j < m) (λ z. not (eqb i z)) is (h .below);
-        odds = keep-all (λ j. C j % 2 ≡ 1) (λ z. not (eqb i z)) is (h .odds);
-      } in
-      let a : Aside l N m k s₀ g flag s t₂ = aside-trans l N m k s₀ g flag s t₁ t₂ (r₁ .1) (r₂ .1) in
-      subst (λ (t : List ℕ). Rowed (unlinkM l t y) (without i is) × Aside l N m k s₀ g flag s (unlinkM l t y)) (sym same) (r, a)
-    where
-      apart : (d : Bool) (i : ℕ) → edge d i ≡ edge (not d) i → ⊥
-      apart true i e = omega arith
-      apart false i e = omega arith
+  module _ (v : ℕ) (s is : List ℕ) (b : v < N) (fall : Falling is) (h : Rowed s is) (f : First Q v is) where
+    abbrev d : Bool
+    d = f .side
+
+    abbrev i : ℕ
+    i = f .entry
+
+    abbrev pub x : ℕ
+    x = edge d i
+
+    abbrev pub y : ℕ
+    y = edge (not d) i
+
+    abbrev pub left : ℕ → List ℕ
+    left u = without x (nodes Q u is)
+
+    -- the words after the first half-edge of v went
+    abbrev pub popped : List ℕ
+    popped = popM l s (l .top + v) x
+
+    pub is-odd : odd i
+    is-odd = has-odd s is i h (f .has)
+
+    pub first-there : Has x (nodes Q v is)
+    first-there = has-node Q d i v is (f .own) (f .has)
+
+    pub mate-there : Has y (left (end Q (not d) i))
+    mate-there =
+        has-kept (λ z. not (eqb x z)) y (nodes Q (end Q (not d) i) is) (rw (ne-eqb x y (apart d i)))
+        (has-node Q (not d) i (end Q (not d) i) is refl (f .has))
+      where
+        apart : (d : Bool) (i : ℕ) → edge d i ≡ edge (not d) i → ⊥
+        apart true i e = omega arith
+        apart false i e = omega arith
+
+    pub first-out : Ringed l N m k s₀ g flag left popped × Aside l N m k s₀ g flag s popped
+    first-out =
+        let first : prior (l .b) s x ≡ l .top + v =
+        subst (λ (ys : List ℕ). Chain (l .b) s (l .top + v) ys (l .top + v)) (f .nodes-is) (h .rung .rings v b) .1 in
+        subst (λ (t : List ℕ). Ringed l N m k s₀ g flag left t × Aside l N m k s₀ g flag s t) (sym (pop-is s (l .top + v) x first))
+        (ringed-less (λ u. nodes Q u is) s v x b (edge-is l N m k s₀ g flag d i (is-odd .below)) first-there (λ u c. nodes-distinct Q u is fall) (h .rung))
+
+    -- The place of the first half-edge of v is taken out.
+    pub rowed-take : Rowed (unlinkM l popped y) (without i is) × Aside l N m k s₀ g flag s (unlinkM l popped y)
+    rowed-take =
+        let r₁ = first-out in
+        let ib : i < m = is-odd .below in
+        let r₂ =
+        ringed-less left popped (end Q (not d) i) y (end-below l N m k s₀ g flag (not d) i ib) (edge-is l N m k s₀ g flag (not d) i ib)
+        mate-there (λ u c. keep-distinct (λ z. not (eqb x z)) (nodes Q u is) (nodes-distinct Q u is fall)) (r₁ .0) in
+        let t : List ℕ = unlinkM l popped y in (
+          record {
+            rung =
+                record {
+                  keeps = r₂ .0 .keeps;
+                  rings = λ u c.
+                      subst (λ (ys : List ℕ). Chain (l .b) t (l .top + u) ys (l .top + u)) (nodes-without Q d i u is) (r₂ .0 .rings u c);
+                  edges = λ u c. subst (All Ed) (nodes-without Q d i u is) (r₂ .0 .edges u c);
+                };
+            leads = λ e j p.
+                let jb : j < m = p .below in
+                r₂ .1 .leads e j (omega (arith, g .entries)) ∙ r₁ .1 .leads e j (omega (arith, g .entries)) ∙ h .leads e j p;
+            below = keep-all (λ j. j < m) (λ z. not (eqb i z)) is (h .below);
+            odds = keep-all (λ j. C j % 2 ≡ 1) (λ z. not (eqb i z)) is (h .odds);
+          },
+          aside-trans l N m k s₀ g flag s popped t (r₁ .1) (r₂ .1),
+        )

@@ -12,6 +12,7 @@ use Rattle.words.specs.Words.{word, put-word}
 use Rattle.words.proofs.Runs.{iterate-suc-out, iterate-rest, iterate-add}
 use Rattle.euler.specs.declared.Rows.{Rows}
 use Rattle.euler.specs.declared.Walk.{Walk}
+use Rattle.euler.specs.Bounds.{Appends}
 use Rattle.euler.specs.Model.{Stage, Pushed, Small, copiesM, firstM, secondM, appendM, startRowM, startM, rowFirstM, firstsM, rowSecondM, secondsM, popM, unlinkM, mateM, takeM, backM, stuckM, stepM, walkM, moreM, pushM, entryM, entriesM, singleM, singlesM, halfM}
 
 -- ── filling ──
@@ -44,6 +45,13 @@ pub first-so :
 first-so l s i c a t u r ec n ea et eu er =
     rw (er, eu, et, ea) (sym (first-odd l s i (λ z. n (ap (λ (k : ℕ). k % 2) ec ∙ z))))
 
+pub first-asks :
+    (l : Rows) (s : List ℕ) (i a : ℕ) (t u : List ℕ) → a ≡ firstM l s i → t ≡ put-word s (l .b + 8 * i + 2) 0 →
+    u ≡ put-word t (l .b + 8 * i + 7) a →
+    Appends l (put-word (put-word s (l .b + 8 * i + 2) 0) (l .b + 8 * i + 7) (firstM l s i)) (firstM l s i) (4 * i) →
+    Appends l u a (4 * i)
+first-asks l s i a t u ea et eu h = rw (eu, et, ea) h
+
 pub firsts-more : (l : Rows) (m k : ℕ) (s : List ℕ) → firstsM l m (k + 1) s ≡ rowFirstM l (firstsM l m k s) (m - 1 - k)
 unfolding firstsM
 firsts-more l m k s = rw add-one
@@ -63,6 +71,11 @@ pub second-so :
     t ≡ put-word s (l .b + 8 * i + 3) d → r ≡ appendM l t d (4 * i + 2) → r ≡ rowSecondM l s i
 second-so l s i c d t r ec n ed et er =
     rw (er, et, ed) (sym (second-odd l s i (λ z. n (ap (λ (k : ℕ). k % 2) ec ∙ z))))
+
+pub second-asks :
+    (l : Rows) (s : List ℕ) (i d : ℕ) (t : List ℕ) → d ≡ secondM l s i → t ≡ put-word s (l .b + 8 * i + 3) d →
+    Appends l (put-word s (l .b + 8 * i + 3) (secondM l s i)) (secondM l s i) (4 * i + 2) → Appends l t d (4 * i + 2)
+second-asks l s i d t ed et h = rw (et, ed) h
 
 pub seconds-more : (l : Rows) (m k : ℕ) (s : List ℕ) → secondsM l m (k + 1) s ≡ rowSecondM l (secondsM l m k s) (m - 1 - k)
 unfolding secondsM

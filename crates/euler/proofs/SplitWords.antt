@@ -18,14 +18,15 @@ use Rattle.euler.specs.declared.Rows.{Rows}
 use Rattle.euler.specs.Euler.{Tour, euler-cycles}
 use Rattle.euler.specs.Split.{Halves, add-halves, rest, every-other, add-pairs, deal, rbmg-split-into-two}
 use Rattle.euler.specs.Room.{Splits, Halves-stored}
+use Rattle.euler.specs.Bounds.{Fills, Walks}
 use Rattle.euler.specs.Model.{Fits, Stage, copiesM, firstM, secondM, fillM, walkM, begun, halfM, laid, splitM}
 use Rattle.euler.proofs.Taken.{ends}
 use Rattle.euler.proofs.Tours.{in-all}
 use Rattle.euler.proofs.Straight.{along, Same-tour, same-tour, deal-along}
 use Rattle.euler.proofs.Places.{keep}
-use Rattle.euler.proofs.Filling.{Laid, filled}
+use Rattle.euler.proofs.Filling.{Laid, filled, fills-on}
 use Rattle.euler.proofs.Following.{column-same}
-use Rattle.euler.proofs.Stepping.{Walked-all, walked-all}
+use Rattle.euler.proofs.Stepping.{Walked-all, walked-all, walks-on}
 use Rattle.euler.proofs.Parities.{dealt, dealt-all, dealt-count, every-other-dealt}
 use Rattle.euler.proofs.HalfLaws.{held, bigs, small, one, halves-are, half-of, deal-all}
 use Rattle.euler.proofs.HalfWords.{Only, Same-entry, entries-same, Ready, Half-done, half-done}
@@ -116,6 +117,12 @@ module _ (s : List ℕ) (u ends g n width : ℕ) (q : Splits s u ends g n width)
     walk-done =
         walked-all l N m k s grounds flag r (q .side) (rest-slant l s N m (q .side) (2 * q .half) reg pairs)
         (rest-evens l s N m (q .side) (2 * q .half) reg pairs (q .half) refl) (fillM l m N s) (filled l N m k s grounds flag)
+        (rest-odd l s N m (q .side) (2 * q .half) reg pairs)
+
+    walks : Walks l N (2 * m + N) (fillM l m N s)
+    walks =
+        walks-on l N m k s grounds flag r (q .side) (rest-slant l s N m (q .side) (2 * q .half) reg pairs)
+        (rest-evens l s N m (q .side) (2 * q .half) reg pairs (q .half) refl) (fillM l m N s) (2 * m + N) (filled l N m k s grounds flag)
         (rest-odd l s N m (q .side) (2 * q .half) reg pairs)
 
     abbrev ws : List ℕ
@@ -293,6 +300,14 @@ module _ (s : List ℕ) (u ends g n width : ℕ) (q : Splits s u ends g n width)
             keeps-trans (ready-second 0 .keeps)
             (record { len = second-done 0 .only .len; same = λ i b. second-done 0 .only .under i (omega arith) });
       }
+
+  -- every place that the filling touches is one
+  pub split-fills : Fills l m N s
+  split-fills = fills-on l N m k s grounds (λ i. 0)
+
+  -- every place that the walk touches is one
+  pub split-walks : Walks l N (2 * m + N) (fillM l m N s)
+  split-walks = walks 0
 
 -- ── for the code's proof ──
 

@@ -20,7 +20,8 @@ use Rattle.multigraph.specs.Multigraph.{Pair, pair}
 use Rattle.euler.specs.declared.Rows.{Rows}
 use Rattle.euler.specs.declared.Walk.{Walk}
 use Rattle.euler.specs.Euler.{taken, none, first-pair, other-node, Step, Walking, standing, walk-step}
-use Rattle.euler.specs.Model.{Stage, copiesM, popM, unlinkM, mateM, takeM, backM, stuckM, stepM, walkM}
+use Rattle.euler.specs.Model.{Stage, copiesM, popM, unlinkM, mateM, takeM, backM, stuckM, stepM, walkM, begun}
+use Rattle.euler.specs.Bounds.{Unlinks, Takes, Backs, Steps, Walks}
 use Rattle.euler.proofs.Taken.{ends}
 use Rattle.euler.proofs.Trail.{aslant}
 use Rattle.euler.proofs.Straight.{straight, straight-ended, rests-same, ended-rests}
@@ -29,7 +30,7 @@ use Rattle.euler.proofs.Rings.{Chain}
 use Rattle.euler.proofs.Nodes.{Odd, odds, odd-places, edge, end, nodes, First, first-node}
 use Rattle.euler.proofs.ModelLaws.{step-idle, step-takes, step-stuck, stuck-backs, stuck-next}
 use Rattle.euler.proofs.Filling.{Laid, P, Filled, Same-nodes, same-mark, same-high, same-trans, edge-is, end-below, Aside, away2}
-use Rattle.euler.proofs.Following.{slot, column, column-same, mark-of, Rowed, rowed-same, has-odd, rowed-take}
+use Rattle.euler.proofs.Following.{slot, column, column-same, mark-of, Rowed, rowed-same, has-odd, ringed-between, left, is-odd, first-there, mate-there, first-out, rowed-take}
 
 iterate-zero {ℓ} : {A : Type ℓ} (f : A → A) (a : A) → iterate 0 f a ≡ a
 unfolding iterate
@@ -565,6 +566,87 @@ module _ (l : Rows) (N m k : ℕ) (s₀ : List ℕ) (g : Laid l N m k s₀) (fla
     start-measure : (s : List ℕ) → measure (record { words = s; walk = record { next = 0; at = 0; height = 0; written = 0 } }) ≤ 2 * m + N
     unfolding measure
     start-measure s = omega (arith, few-places)
+
+    -- ── every place that a step touches is one ──
+
+    -- room for nodes and columns
+    low-node : (y : ℕ) → y < l .top + N → l .b + 2 * y + 1 < length s₀
+    low-node y b = omega (arith, g .place, g .parties, g .room)
+
+    live-takes :
+        (s : List ℕ) (w : Walk) (xs ws is : List ℕ) → Live s w xs ws is → w .next < N → (f : First Q (w .at) is) →
+        Takes l s w (edge (f .side) (f .entry))
+    live-takes s w xs ws is h b f =
+        let v : ℕ = w .at in
+        let vb : v < N = sound-here v xs (h .sound b) in
+        let d : Bool = f .side in
+        let i : ℕ = f .entry in
+        let ib : i < m = is-odd l N m k s₀ g flag v s is vb (h .falling) (h .rows) f .below in
+        let out₁ = first-out l N m k s₀ g flag v s is vb (h .falling) (h .rows) f in
+        let t : List ℕ = popM l s (l .top + v) (edge d i) in
+        let len : length s ≡ length s₀ = h .rows .rung .keeps .len in
+        let lent : length t ≡ length s₀ = out₁ .0 .keeps .len in
+        let p = ringed-between l N m k s₀ g flag (λ u. nodes Q u is) s v (edge d i) vb (first-there l N m k s₀ g flag v s is vb (h .falling) (h .rows) f) (h .rows .rung) in
+        let q =
+        ringed-between l N m k s₀ g flag (left l N m k s₀ g flag v s is vb (h .falling) (h .rows) f) t (far d i) (edge (not d) i) (end-below l N m k s₀ g flag (not d) i ib)
+        (mate-there l N m k s₀ g flag v s is vb (h .falling) (h .rows) f) (out₁ .0) in
+        let el : edge d i < l .top = edge-is l N m k s₀ g flag d i ib .0 in
+        let yl : edge (not d) i < l .top = edge-is l N m k s₀ g flag (not d) i ib .0 in
+        record {
+          leads = omega (arith, len, edge-low d i ib, g .entries, g .room);
+          pops =
+              record {
+                own = omega (arith, len, low-node (l .top + v) (omega arith));
+                here = omega (arith, len, low-node (edge d i) (omega arith));
+                next = omega (arith, len, low-node (word s (l .b + 2 * edge d i)) (p .after-node .0));
+              };
+          unlinks =
+              subst (Unlinks l t) (sym (mate-is d i))
+              (record {
+                here = omega (arith, lent, low-node (edge (not d) i) (omega arith));
+                before = omega (arith, lent, low-node (word t (l .b + 2 * edge (not d) i + 1)) (q .prior-node .0));
+                next = omega (arith, lent, low-node (word t (l .b + 2 * edge (not d) i)) (q .after-node .0));
+              });
+          stack = omega (arith, len, h .size, few-places, g .entries, g .column, g .room);
+        }
+
+    live-backs : (s : List ℕ) (w : Walk) (xs ws is : List ℕ) → Live s w xs ws is → w .next < N → 0 < w .height → Backs l s w
+    live-backs s w xs ws is h b p =
+        let x : ℕ = word s (l .col + 2 * (w .height - 1)) in
+        let e : xs ≡ x ∷ column l true s (w .height - 1) = sym (h .stack) ∙ column-first l true s (w .height) p in
+        let im : x / 2048 < m = subst (Sound (w .at)) e (h .sound b) .1 in
+        let len : length s ≡ length s₀ = h .rows .rung .keeps .len in
+        record {
+          stack = omega (arith, len, h .size, few-places, g .entries, g .column, g .room);
+          mark = omega (arith, len, g .entries, g .room);
+          column = omega (arith, len, h .size, few-places, g .entries, g .column, g .room);
+        }
+
+    live-steps : (s : List ℕ) (w : Walk) (xs ws is : List ℕ) → Live s w xs ws is → w .next < N → Steps l s w
+    live-steps s w xs ws is h b =
+        let vb : w .at < N = sound-here (w .at) xs (h .sound b) in
+        record {
+          here = omega (arith, h .rows .rung .keeps .len, low-node (l .top + w .at) (omega arith));
+          takes = λ n.
+              ⊎-elim (λ e. absurd (n (ring-here s w xs ws is h vb [] (e .1) .0)))
+              (λ f.
+              subst (Takes l s w)
+              (sym (ring-here s w xs ws is h vb (edge (f .side) (f .entry) ∷ f .nodes-left) (f .nodes-is) .0))
+              (live-takes s w xs ws is h b f))
+              (first-node Q (w .at) is);
+          backs = live-backs s w xs ws is h b;
+        }
+
+    pub walks-on :
+        (s : List ℕ) (n : ℕ) → Filled l N m k s₀ g flag s → reverse r ≡ map Q places-all → Walks l N n s
+    walks-on s n f e =
+        record {
+          steps = λ j c b.
+              let a : Alive (walkM l N j (begun s)) =
+              iterate-keeps {Inv = Alive} (stepM l N) alive-keeps j (begun s)
+              (record { xs = []; ws = []; is = places-all; live = start-live s f e }) in
+              live-steps (walkM l N j (begun s) .words) (walkM l N j (begun s) .walk) (a .xs) (a .ws) (a .is) (a .live) b;
+        }
 
     -- The walk over filled rings has ended in time, and has written what the straight walk has.
     pub record Walked-all (t : Stage) : Type 0 where

@@ -2,12 +2,16 @@
 // second half, eight words for each entry, two for each party, and two columns.
 ghost use mathlib.Core.Path.{_≡_};
 ghost use Prim.Native.Nat.{ℕ, _+_, _*_, _-_, _/_, _<_, _≤_};
-ghost use Rattle.mark.specs.Taking.{«taken-more»};
+ghost use lib.ListN.{length};
+ghost use Rattle.words.specs.Words.{word, «put-word»};
 ghost use Rattle.euler.specs.Model.{Stage, Fits, Small, copiesM, firstM, secondM};
 ghost use Rattle.euler.specs.Model.{appendM, startRowM, startM, rowFirstM, firstsM, rowSecondM, secondsM, fillM};
 ghost use Rattle.euler.specs.Model.{popM, unlinkM, takeM, backM, stuckM, stepM, walkM, begun};
 ghost use Rattle.euler.specs.Model.{moreM, pushM, entryM, entriesM, singleM, singlesM, halfM, splitM};
+ghost use Rattle.euler.specs.Bounds.{Appends, «Row-firsts», «Row-seconds», «Fills-firsts», «Fills-seconds», Fills};
+ghost use Rattle.euler.specs.Bounds.{Pops, Unlinks, Takes, Backs, Steps, Walks};
 ghost use Rattle.euler.specs.Room.{Splits, «Halves-stored»};
+ghost use Rattle.mark.specs.Taking.{«taken-more»};
 use mark::Mark;
 
 // Where a split's words lie: the graph, the table of ends, the rings, the number of party 0's node, and the columns.
@@ -29,6 +33,22 @@ pub struct Walk {
     pub at: usize,
     pub height: usize,
     pub written: usize,
+}
+
+// The word at a place that is one; filling and walk go by these two, without a test.
+fn word_at(s: &[u32], i: usize) -> usize
+    requires { ⌜ i < length (now s) ⌝ }
+    ensures { λ r. ⌜ (r ≡ word (now (s .entry)) i) × (r < 4294967296) ⌝ }
+{
+    let x = s[i];
+    x as usize
+}
+
+fn set_word(s: &mut [u32], i: usize, x: usize)
+    requires { ⌜ i < length (now s) ⌝ }
+    ensures { λ r. ⌜ now (s .exit) ≡ put-word (now (s .entry)) i x ⌝ }
+{
+    s[i] = (x % 4294967296) as u32;
 }
 
 fn copies_of(s: &[u32], l: Rows, i: usize) -> usize
@@ -79,35 +99,35 @@ fn start_rows(s: &mut [u32], l: Rows, parties: usize)
 
 // The half-edge x becomes the last of the ring of v.
 fn append(s: &mut [u32], l: Rows, v: usize, x: usize)
-    requires { ⌜ Fits l × (v < 4294967296) × (x < 34359738368) ⌝ }
+    requires { ⌜ Fits l × (v < 4294967296) × (x < 34359738368) × Appends l (now s) v x ⌝ }
     ensures { λ r. ⌜ now (s .exit) ≡ appendM l (now (s .entry)) v x ⌝ }
 {
     let z = l.top + v;
-    let p = words::get(s, l.b + 2 * z + 1);
-    words::put(s, l.b + 2 * p, x);
-    words::put(s, l.b + 2 * x + 1, p);
-    words::put(s, l.b + 2 * x, z);
-    words::put(s, l.b + 2 * z + 1, x);
+    let p = word_at(s, l.b + 2 * z + 1);
+    set_word(s, l.b + 2 * p, x);
+    set_word(s, l.b + 2 * x + 1, p);
+    set_word(s, l.b + 2 * x, z);
+    set_word(s, l.b + 2 * z + 1, x);
 }
 
 // Entry i, if its copies are odd, gets a half-edge in its first end's ring; its mark is cleared.
 fn row_first(s: &mut [u32], l: Rows, i: usize)
-    requires { ⌜ Fits l × (i < 4294967296) ⌝ }
+    requires { ⌜ Fits l × (i < 4294967296) × Row-firsts l (now s) i ⌝ }
     ensures { λ r. ⌜ now (s .exit) ≡ rowFirstM l (now (s .entry)) i ⌝ }
 {
     let c = copies_of(s, l, i);
     let a = first_of(s, l, i);
-    words::put(s, l.b + 8 * i + 2, 0);
+    set_word(s, l.b + 8 * i + 2, 0);
     if c % 2 == 0 {
         return;
     }
-    words::put(s, l.b + 8 * i + 7, a);
+    set_word(s, l.b + 8 * i + 7, a);
     append(s, l, a, 4 * i);
 }
 
 // From the newest entry down.
 fn fill_firsts(s: &mut [u32], l: Rows, m: usize)
-    requires { ⌜ Fits l × (m < 4294967296) ⌝ }
+    requires { ⌜ Fits l × (m < 4294967296) × Fills-firsts l m (now s) ⌝ }
     ensures { λ r. ⌜ now (s .exit) ≡ firstsM l m m (now (s .entry)) ⌝ }
 {
     let mut k = 0;
@@ -119,7 +139,7 @@ fn fill_firsts(s: &mut [u32], l: Rows, m: usize)
 
 // Entry i, if its copies are odd, gets its half-edge in its second end's ring.
 fn row_second(s: &mut [u32], l: Rows, i: usize)
-    requires { ⌜ Fits l × (i < 4294967296) ⌝ }
+    requires { ⌜ Fits l × (i < 4294967296) × Row-seconds l (now s) i ⌝ }
     ensures { λ r. ⌜ now (s .exit) ≡ rowSecondM l (now (s .entry)) i ⌝ }
 {
     let c = copies_of(s, l, i);
@@ -127,12 +147,12 @@ fn row_second(s: &mut [u32], l: Rows, i: usize)
         return;
     }
     let d = second_of(s, l, i);
-    words::put(s, l.b + 8 * i + 3, d);
+    set_word(s, l.b + 8 * i + 3, d);
     append(s, l, d, 4 * i + 2);
 }
 
 fn fill_seconds(s: &mut [u32], l: Rows, m: usize)
-    requires { ⌜ Fits l × (m < 4294967296) ⌝ }
+    requires { ⌜ Fits l × (m < 4294967296) × Fills-seconds l m (now s) ⌝ }
     ensures { λ r. ⌜ now (s .exit) ≡ secondsM l m m (now (s .entry)) ⌝ }
 {
     let mut k = 0;
@@ -144,7 +164,7 @@ fn fill_seconds(s: &mut [u32], l: Rows, m: usize)
 
 // The rings of all parties: pairs where the party is first end, newest first, then those where it is second end.
 fn fill_rows(s: &mut [u32], l: Rows, m: usize, parties: usize)
-    requires { ⌜ Fits l × (m < 4294967296) × (parties < 4294967296) ⌝ }
+    requires { ⌜ Fits l × (m < 4294967296) × (parties < 4294967296) × Fills l m parties (now s) ⌝ }
     ensures { λ r. ⌜ now (s .exit) ≡ fillM l m parties (now (s .entry)) ⌝ }
 {
     start_rows(s, l, parties);
@@ -154,34 +174,34 @@ fn fill_rows(s: &mut [u32], l: Rows, m: usize, parties: usize)
 
 // The first half-edge x of a ring goes out of it; z is the party's node.
 fn pop(s: &mut [u32], l: Rows, z: usize, x: usize)
-    requires { ⌜ Fits l × (z < 274877906944) × (x < 4294967296) ⌝ }
+    requires { ⌜ Fits l × (z < 274877906944) × (x < 4294967296) × Pops l (now s) z x ⌝ }
     ensures { λ r. ⌜ now (s .exit) ≡ popM l (now (s .entry)) z x ⌝ }
 {
-    let q = words::get(s, l.b + 2 * x);
-    words::put(s, l.b + 2 * z, q);
-    words::put(s, l.b + 2 * q + 1, z);
+    let q = word_at(s, l.b + 2 * x);
+    set_word(s, l.b + 2 * z, q);
+    set_word(s, l.b + 2 * q + 1, z);
 }
 
 // The half-edge x goes out of its ring, wherever it stands.
 fn unlink(s: &mut [u32], l: Rows, x: usize)
-    requires { ⌜ Fits l × (x < 34359738368) ⌝ }
+    requires { ⌜ Fits l × (x < 34359738368) × Unlinks l (now s) x ⌝ }
     ensures { λ r. ⌜ now (s .exit) ≡ unlinkM l (now (s .entry)) x ⌝ }
 {
-    let q = words::get(s, l.b + 2 * x);
-    let p = words::get(s, l.b + 2 * x + 1);
-    words::put(s, l.b + 2 * p, q);
-    words::put(s, l.b + 2 * q + 1, p);
+    let q = word_at(s, l.b + 2 * x);
+    let p = word_at(s, l.b + 2 * x + 1);
+    set_word(s, l.b + 2 * p, q);
+    set_word(s, l.b + 2 * q + 1, p);
 }
 
 // The first half-edge x of the party at which the walk stands is taken and followed; its mate goes too.
 fn take(s: &mut [u32], l: Rows, w: Walk, x: usize) -> Walk
-    requires { ⌜ Fits l × Small 68719476736 w × (x < 4294967296) ⌝ }
+    requires { ⌜ Fits l × Small 68719476736 w × (x < 4294967296) × Takes l (now s) w x ⌝ }
     ensures { λ r. ⌜ record { words = now (s .exit); walk = r } ≡ takeM l (now (s .entry)) w x ⌝ }
 {
-    let to = words::get(s, l.b + 2 * x + 3);
+    let to = word_at(s, l.b + 2 * x + 3);
     pop(s, l, l.top + w.at, x);
     unlink(s, l, x / 4 * 4 + (x + 2) % 4);
-    words::put(s, l.col + 2 * w.height, x / 4 * 2048 + w.at);
+    set_word(s, l.col + 2 * w.height, x / 4 * 2048 + w.at);
     Walk {
         next: w.next,
         at: to,
@@ -192,13 +212,13 @@ fn take(s: &mut [u32], l: Rows, w: Walk, x: usize) -> Walk
 
 // Step back, write the place down, and mark its entry with the place's parity.
 fn step_back(s: &mut [u32], l: Rows, w: Walk) -> Walk
-    requires { ⌜ Fits l × Small 68719476736 w × (0 < w .height) ⌝ }
+    requires { ⌜ Fits l × Small 68719476736 w × (0 < w .height) × Backs l (now s) w ⌝ }
     ensures { λ r. ⌜ record { words = now (s .exit); walk = r } ≡ backM l (now (s .entry)) w ⌝ }
 {
-    let x = words::get(s, l.col + 2 * (w.height - 1));
+    let x = word_at(s, l.col + 2 * (w.height - 1));
     let i = x / 2048;
-    words::put(s, l.b + 8 * i + 2, 2 + w.written % 2);
-    words::put(s, l.col + 2 * w.written + 1, i);
+    set_word(s, l.b + 8 * i + 2, 2 + w.written % 2);
+    set_word(s, l.col + 2 * w.written + 1, i);
     Walk {
         next: w.next,
         at: x % 2048,
@@ -209,7 +229,7 @@ fn step_back(s: &mut [u32], l: Rows, w: Walk) -> Walk
 
 // Stuck: back, or on to the next party.
 fn stuck(s: &mut [u32], l: Rows, w: Walk) -> Walk
-    requires { ⌜ Fits l × Small 68719476736 w ⌝ }
+    requires { ⌜ Fits l × Small 68719476736 w × (0 < w .height → Backs l (now s) w) ⌝ }
     ensures { λ r. ⌜ record { words = now (s .exit); walk = r } ≡ stuckM l (now (s .entry)) w ⌝ }
 {
     if 0 < w.height {
@@ -225,14 +245,14 @@ fn stuck(s: &mut [u32], l: Rows, w: Walk) -> Walk
 
 // One step of the walk; past the last party nothing happens.
 fn walk_step(s: &mut [u32], l: Rows, parties: usize, w: Walk) -> Walk
-    requires { ⌜ Fits l × Small 68719476736 w ⌝ }
+    requires { ⌜ Fits l × Small 68719476736 w × (w .next < parties → Steps l (now s) w) ⌝ }
     ensures { λ r. ⌜ record { words = now (s .exit); walk = r } ≡ stepM l parties (record { words = now (s .entry); walk = w }) ⌝ }
 {
     if parties <= w.next {
         return w;
     }
     let z = l.top + w.at;
-    let x = words::get(s, l.b + 2 * z);
+    let x = word_at(s, l.b + 2 * z);
     if x == z {
         return stuck(s, l, w);
     }
@@ -242,7 +262,7 @@ fn walk_step(s: &mut [u32], l: Rows, parties: usize, w: Walk) -> Walk
 // `euler_cycles`: the walks from all parties, in number order, their places written one after the other. Each pair is taken
 // and written down once, so two steps for each pair and one for each party suffice.
 fn euler_cycles(s: &mut [u32], l: Rows, m: usize, parties: usize) -> usize
-    requires { ⌜ Fits l × (m < 4294967296) × (parties < 4294967296) ⌝ }
+    requires { ⌜ Fits l × (m < 4294967296) × (parties < 4294967296) × Walks l parties (2 * m + parties) (now s) ⌝ }
     ensures { λ r. ⌜ (now (s .exit) ≡ walkM l parties (2 * m + parties) (begun (now (s .entry))) .words)
         × (r ≡ walkM l parties (2 * m + parties) (begun (now (s .entry))) .walk .written) × (r < 68719476736) ⌝ }
 {
@@ -356,7 +376,8 @@ fn half(s: &mut [u32], l: Rows, h: usize, parity: usize, m: usize, written: usiz
 }
 
 fn split_words(s: &mut [u32], l: Rows, first: usize, second: usize, m: usize, parties: usize)
-    requires { ⌜ Fits l × (first < 4294967296) × (second < 4294967296) × (m < 4294967296) × (parties < 4294967296) ⌝ }
+    requires { ⌜ Fits l × (first < 4294967296) × (second < 4294967296) × (m < 4294967296) × (parties < 4294967296)
+        × Fills l m parties (now s) × Walks l parties (2 * m + parties) (fillM l m parties (now s)) ⌝ }
     ensures { λ r. ⌜ now (s .exit) ≡ splitM l first second m parties (now (s .entry)) ⌝ }
 {
     fill_rows(s, l, m, parties);

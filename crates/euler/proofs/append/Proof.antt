@@ -1,94 +1,37 @@
+use Prim.Native.Nat.{ℕ, _+_, _*_}
+use mathlib.Core.List.{List}
+use mathlib.Core.Path.{_≡_, _∙_, ap}
+use lib.ListN.{length}
+use Rattle.words.proofs.Frames.{length-put}
 use native.Mathlib.Omega.{arith}
 use Rattle.euler.specs.Model.{appendM}
 use borrow.Author.Needs.{needs}
 use Rattle.euler.proofs.append.Statement.{statement}
 use Rattle.euler.proofs.append.Tie as tie
-use Rattle.euler.proofs.append.Reads as reads
-use Rattle.euler.proofs.append.Lts as lts
-use Rattle.words.proofs.get.Reads as get-reads
-use Rattle.words.proofs.put.Reads as put-reads
-
--- src/lib.rt:83:13
-add-z : tie.Need-add-z
-add-z c = search needs
-
--- src/lib.rt:84:33
-mul-get : tie.Need-mul-get
-mul-get c = search needs
-
--- src/lib.rt:84:27
-add-get : tie.Need-add-get
-add-get c = search needs
-
--- src/lib.rt:84:27
-add-get-2 : tie.Need-add-get-2
-add-get-2 c = search needs
-
--- src/lib.rt:84:9
-get-requires : tie.Need-get-requires
-get-requires c κs = search needs
-
--- src/lib.rt:85:25
-mul-put : tie.Need-mul-put
-mul-put c = search needs
-
--- src/lib.rt:85:19
-add-put : tie.Need-add-put
-add-put c = search needs
-
--- src/lib.rt:85:5
-put-requires : tie.Need-put-requires
-put-requires c κs = search needs
-
--- src/lib.rt:86:25
-mul-put-2 : tie.Need-mul-put-2
-mul-put-2 c = search needs
-
--- src/lib.rt:86:19
-add-put-2 : tie.Need-add-put-2
-add-put-2 c = search needs
-
--- src/lib.rt:86:19
-add-put-3 : tie.Need-add-put-3
-add-put-3 c = search needs
-
--- src/lib.rt:86:5
-put-requires-2 : tie.Need-put-requires-2
-put-requires-2 c κs = search needs
-
--- src/lib.rt:87:25
-mul-put-3 : tie.Need-mul-put-3
-mul-put-3 c = search needs
-
--- src/lib.rt:87:19
-add-put-4 : tie.Need-add-put-4
-add-put-4 c = search needs
-
--- src/lib.rt:87:5
-put-requires-3 : tie.Need-put-requires-3
-put-requires-3 c κs = search needs
-
--- src/lib.rt:88:25
-mul-put-4 : tie.Need-mul-put-4
-mul-put-4 c = search needs
 
 -- src/lib.rt:88:19
-add-put-5 : tie.Need-add-put-5
-add-put-5 c =
+add-set-word-5 : tie.Need-add-set-word-5
+add-set-word-5 c =
     omega (arith, c .before .before .before .before .before .before .before .before .before .before .before .before .before .before .before .before .before .before .before .before .before .before .pre .0, c .before .before .before .before .before .before .before .before .before .before .before .before .before .before .before .before .before .before .before .before .before .before .pre .1)
 
 -- src/lib.rt:88:19
-add-put-6 : tie.Need-add-put-6
-add-put-6 c =
+add-set-word-6 : tie.Need-add-set-word-6
+add-set-word-6 c =
     omega (arith, c .before .before .before .before .before .before .before .before .before .before .before .before .before .before .before .before .before .before .before .before .before .before .pre .0, c .before .before .before .before .before .before .before .before .before .before .before .before .before .before .before .before .before .before .before .before .before .before .pre .1)
 
 -- src/lib.rt:88:5
-put-requires-4 : tie.Need-put-requires-4
-put-requires-4 c κs = search needs
-
--- src/lib.rt:79:1
-same-length : tie.Need-same-length
-same-length c = search needs
+set-word-requires-4 : tie.Need-set-word-requires-4
+set-word-requires-4 c κs =
+    let a = c .before .before .before .before .before .before .before .before .before .before .before .before .before .before .before .before .before .before .before .before .before .before .args in
+    let s : List ℕ = a .s .now in
+    let p : ℕ = c .before .before .before .before .before .before .before .before .before .before .before .before .before .before .before .before .before .word-at .result in
+    let t₁ : List ℕ = c .before .before .before .before .before .before .before .before .before .before .before .before .before .before .set-word .last .0 in
+    let t₂ : List ℕ = c .before .before .before .before .before .before .before .before .before .set-word2 .last .0 in
+    let t₃ : List ℕ = c .before .before .before .before .set-word3 .last .0 in
+    let e₁ : length t₁ ≡ length s = ap length (c .before .before .before .before .before .before .before .before .before .before .before .before .before .before .set-word .ensures) ∙ length-put s (a .l .b + 2 * p) (a .x) in
+    let e₂ : length t₂ ≡ length t₁ = ap length (c .before .before .before .before .before .before .before .before .before .set-word2 .ensures) ∙ length-put t₁ (a .l .b + 2 * a .x + 1) p in
+    let e₃ : length t₃ ≡ length t₂ = ap length (c .before .before .before .before .set-word3 .ensures) ∙ length-put t₂ (a .l .b + 2 * a .x) (a .l .top + a .v) in
+    omega (arith, c .before .before .before .before .before .before .before .before .before .before .before .before .before .before .before .before .before .before .before .before .before .before .pre .3 .own, e₁, e₂, e₃)
 
 -- src/lib.rt:79:1
 returns : tie.Need-returns
@@ -99,24 +42,24 @@ pub append-spec : {M : Type 1} → statement M
 append-spec =
     tie.close
     (tie.spec
-    add-z
-    mul-get
-    add-get
-    add-get-2
-    get-requires
-    mul-put
-    add-put
-    put-requires
-    mul-put-2
-    add-put-2
-    add-put-3
-    put-requires-2
-    mul-put-3
-    add-put-4
-    put-requires-3
-    mul-put-4
-    add-put-5
-    add-put-6
-    put-requires-4
-    same-length
+    (λ c. search needs)
+    (λ c. search needs)
+    (λ c. search needs)
+    (λ c. search needs)
+    (λ c κs. search needs)
+    (λ c. search needs)
+    (λ c. search needs)
+    (λ c κs. search needs)
+    (λ c. search needs)
+    (λ c. search needs)
+    (λ c. search needs)
+    (λ c κs. search needs)
+    (λ c. search needs)
+    (λ c. search needs)
+    (λ c κs. search needs)
+    (λ c. search needs)
+    add-set-word-5
+    add-set-word-6
+    set-word-requires-4
+    (λ c. search needs)
     returns)

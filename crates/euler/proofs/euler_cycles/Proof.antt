@@ -1,5 +1,6 @@
 use Rattle.words.specs.Basics.{iterate}
 use Rattle.euler.proofs.ModelLaws.{walk-more, walk-rests, small-step}
+use Rattle.euler.specs.Bounds.{Steps}
 use Rattle.euler.specs.Model.{Stage, Small, walkM, stepM, begun}
 use lib.ListN.{length}
 use Prim.Native.Nat.{ℕ, _+_, _*_, _-_, _<_, _≤_}
@@ -54,6 +55,17 @@ returns-2 c =
     let f = rw e at (inv .3) in
     (ap (λ (t : Stage). t .words) f, ap (λ (t : Stage). t .walk .written) f, omega (arith, inv .0, inv .2))
 
+walk-step-requires : tie.Need-walk-step-requires Inv-loop μ-loop
+walk-step-requires c κs =
+    let inv = c .before .before .before .before .loop .inv in
+    let a = c .before .before .before .before .before .before .args in (
+      search needs,
+      search needs,
+      λ n.
+          subst (λ (t : Stage). t .walk .next < a .parties → Steps (a .l) (t .words) (t .walk)) (sym (inv .3))
+          (c .before .before .before .before .before .before .pre .3 .steps (c .before .before .before .before .loop .k) (c .before .before .before .loop-test .taken)) n,
+    )
+
 pub euler-cycles-spec : {M : Type 1} → statement M
 euler-cycles-spec =
     tie.close
@@ -65,7 +77,7 @@ euler-cycles-spec =
     loop-holds
     (λ c. search needs)
     returns
-    (λ c κs. search needs)
+    walk-step-requires
     (λ c. search needs)
     (λ c. search needs)
     loop-again

@@ -5,7 +5,8 @@ use Rattle.euler.specs.Model.{firstsM}
 use lib.ListN.{length}
 use Prim.Native.Nat.{ℕ, _-_, _≤_}
 use native.Mathlib.Omega.{arith}
-use mathlib.Core.Path.{_≡_, refl, sym, _∙_, ap}
+use mathlib.Core.Path.{_≡_, refl, sym, _∙_, ap, subst}
+use Rattle.euler.specs.Bounds.{Row-firsts}
 use borrow.Author.Needs.{needs}
 use Rattle.euler.proofs.fill_firsts.Statement.{statement}
 use Rattle.euler.proofs.fill_firsts.Tie as tie
@@ -39,6 +40,15 @@ returns c =
     let e : c .before .loop .k ≡ c .before .before .before .args .m = omega arith in
     rw e at (inv .2)
 
+row-first-requires : tie.Need-row-first-requires Inv-loop μ-loop
+row-first-requires c κs =
+    let inv = c .before .before .loop .inv in
+    let a = c .before .before .before .before .args in (
+      c .before .before .before .before .pre .0,
+      omega (arith, c .before .before .before .before .pre .1),
+      subst (λ (t : List ℕ). Row-firsts (a .l) t (a .m - 1 - c .before .before .loop .k)) (sym (inv .2)) (c .before .before .before .before .pre .2 .rows (c .before .before .loop .k) (c .before .loop-test .taken)),
+    )
+
 pub fill-firsts-spec : {M : Type 1} → statement M
 fill-firsts-spec =
     tie.close
@@ -48,7 +58,7 @@ fill-firsts-spec =
     loop-holds
     (λ c. search needs)
     (λ c. search needs)
-    (λ c κs. search needs)
+    row-first-requires
     (λ c. search needs)
     (λ c. search needs)
     loop-again

@@ -4,8 +4,9 @@ use Prim.Native.Nat.{ℕ, _+_, _*_}
 use mathlib.Core.List.{List}
 use mathlib.Core.Path.{sym, _∙_, ap, subst}
 use Rattle.euler.specs.Room.{Halves-stored}
-use Rattle.euler.specs.Model.{laid, splitM}
-use Rattle.euler.proofs.SplitWords.{width-small, split-asks, split-stored}
+use Rattle.euler.specs.Model.{laid, fillM, splitM}
+use Rattle.euler.specs.Bounds.{Fills, Walks}
+use Rattle.euler.proofs.SplitWords.{width-small, split-asks, split-stored, split-fills, split-walks}
 use borrow.Author.Needs.{needs}
 use Rattle.euler.proofs.split_at.Statement.{statement}
 use Rattle.euler.proofs.split_at.Tie as tie
@@ -28,8 +29,21 @@ split-words-requires c κs =
     (a .width)
     (c .before .get .result)
     (c .before .before .before .before .pre)
-    (c .before .get .ensures .1) in
-    (f .0, omega (arith, f .1, f .2), omega (arith, f .1, f .2), f .3, f .4)
+    (c .before .get .ensures .1) in (
+      f .0,
+      omega (arith, f .1, f .2),
+      omega (arith, f .1, f .2),
+      f .3,
+      f .4,
+      subst
+          (λ (m : ℕ). Fills (laid (a .u) (a .n * (a .width + 1)) (a .ends) (a .g)) m (2 * a .n) (a .s .now))
+          (sym (c .before .get .ensures .0))
+          (split-fills (a .s .now) (a .u) (a .ends) (a .g) (a .n) (a .width) (c .before .before .before .before .pre) (λ i. omega (arith, c .before .before .before .slice-known .given i))),
+      subst
+          (λ (m : ℕ). Walks (laid (a .u) (a .n * (a .width + 1)) (a .ends) (a .g)) (2 * a .n) (2 * m + 2 * a .n) (fillM (laid (a .u) (a .n * (a .width + 1)) (a .ends) (a .g)) m (2 * a .n) (a .s .now)))
+          (sym (c .before .get .ensures .0))
+          (split-walks (a .s .now) (a .u) (a .ends) (a .g) (a .n) (a .width) (c .before .before .before .before .pre) (λ i. omega (arith, c .before .before .before .slice-known .given i))),
+    )
 
 returns : tie.Need-returns
 returns c =

@@ -8,9 +8,6 @@ use Rattle.euler.proofs.ModelLaws.{start-more}
 use borrow.Author.Needs.{needs}
 use Rattle.euler.proofs.start_rows.Statement.{statement}
 use Rattle.euler.proofs.start_rows.Tie as tie
-use Rattle.euler.proofs.start_rows.Reads as reads
-use Rattle.euler.proofs.start_rows.Lts as lts
-use Rattle.euler.proofs.start_row.Reads as start-row-reads
 
 abbrev Inv-loop : tie.InvT-loop
 Inv-loop s₀ l parties v₀ s v = (v ≤ parties) × (length s ≡ length s₀) × (s ≡ startM l v s₀)
@@ -23,18 +20,6 @@ loop-holds : tie.Need-loop-holds Inv-loop μ-loop
 unfolding startM
 loop-holds c = (search needs, refl, refl)
 
--- src/lib.rt:73:9
-start-row-requires : tie.Need-start-row-requires Inv-loop μ-loop
-start-row-requires c κs = search needs
-
--- src/lib.rt:74:9
-add-v : tie.Need-add-v Inv-loop μ-loop
-add-v c = search needs
-
--- src/lib.rt:72:5
-loop-less : tie.Need-loop-less Inv-loop μ-loop
-loop-less c = search needs
-
 -- src/lib.rt:72:5
 loop-again : tie.Need-loop-again Inv-loop μ-loop
 loop-again c =
@@ -45,10 +30,6 @@ loop-again c =
           ∙ ap (λ (t : List ℕ). startRowM (c .before .before .before .before .before .before .before .args .l) t (c .before .before .before .before .before .loop .v)) (inv .2)
           ∙ sym (start-more (c .before .before .before .before .before .before .before .args .l) (c .before .before .before .before .before .loop .v) (c .before .before .before .before .before .before .before .args .s .now)),
     )
-
--- src/lib.rt:67:1
-same-length : tie.Need-same-length Inv-loop μ-loop
-same-length c = search needs
 
 -- src/lib.rt:67:1
 returns : tie.Need-returns Inv-loop μ-loop
@@ -64,9 +45,9 @@ start-rows-spec =
     Inv-loop
     μ-loop
     loop-holds
-    start-row-requires
-    add-v
-    loop-less
+    (λ c κs. search needs)
+    (λ c. search needs)
+    (λ c. search needs)
     loop-again
-    same-length
+    (λ c. search needs)
     returns)

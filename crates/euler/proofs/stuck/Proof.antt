@@ -4,30 +4,16 @@ use Rattle.euler.proofs.ModelLaws.{stuck-backs, stuck-next}
 use borrow.Author.Needs.{needs}
 use Rattle.euler.proofs.stuck.Statement.{statement}
 use Rattle.euler.proofs.stuck.Tie as tie
-use Rattle.euler.proofs.stuck.Reads as reads
-use Rattle.euler.proofs.stuck.Lts as lts
-use Rattle.euler.proofs.step_back.Reads as step-back-reads
 
 -- src/lib.rt:214:9
 step-back-requires : tie.Need-step-back-requires
-step-back-requires c κs = search needs
-
--- src/lib.rt:214:9
-same-length : tie.Need-same-length
-same-length c = search needs
+step-back-requires c κs =
+    (c .before .before .before .before .pre .0, c .before .before .before .before .pre .1, c .before .if1 .taken, c .before .before .before .before .pre .2 (c .before .if1 .taken))
 
 -- src/lib.rt:214:9
 returns : tie.Need-returns
 returns c =
     c .before .before .step-back .ensures ∙ sym (stuck-backs (c .before .before .before .before .before .before .before .args .l) (c .before .before .before .before .before .before .before .args .s .now) (c .before .before .before .before .before .before .before .args .w) (c .before .before .before .before .if1 .taken))
-
--- src/lib.rt:217:15
-add-t7 : tie.Need-add-t7
-add-t7 c = search needs
-
--- src/lib.rt:218:13
-add-t8 : tie.Need-add-t8
-add-t8 c = search needs
 
 -- src/lib.rt:209:1
 returns-2 : tie.Need-returns-2
@@ -35,4 +21,4 @@ returns-2 c =
     sym (stuck-next (c .before .before .before .before .before .args .l) (c .before .before .before .before .before .args .s .now) (c .before .before .before .before .before .args .w) (omega (arith, c .before .before .if1 .left)))
 
 pub stuck-spec : {M : Type 1} → statement M
-stuck-spec = tie.close (tie.spec step-back-requires same-length returns add-t7 add-t8 returns-2)
+stuck-spec = tie.close (tie.spec step-back-requires (λ c. search needs) returns (λ c. search needs) (λ c. search needs) returns-2)

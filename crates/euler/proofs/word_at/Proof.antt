@@ -1,0 +1,16 @@
+use native.Mathlib.Omega.{arith}
+use mathlib.Core.Path.{refl}
+use borrow.Author.Needs.{needs}
+use Rattle.euler.proofs.word_at.Statement.{statement}
+use Rattle.euler.proofs.word_at.Tie as tie
+
+-- src/lib.rt:41:5
+cast-result : tie.Need-cast-result
+cast-result c = omega (arith, c .shared-slice-known .given (c .before .args .i))
+
+-- src/lib.rt:36:1
+returns : tie.Need-returns
+returns c = (refl, omega (arith, c .shared-slice-known .given (c .before .args .i)))
+
+pub word-at-spec : {M : Type 1} → statement M
+word-at-spec = tie.close (tie.spec (λ c. search needs) (λ c. search needs) cast-result returns)
