@@ -135,8 +135,8 @@ fn work_out_cleanly(
     answer
 }
 
-// The planning call: the slots of a list of appointments between `p` parties, or a refusal. The first A entries of `slots` hold
-// the plan of an accepted list; of `scratch` the first W words are used, and 0 afterwards. What both held before affects nothing.
+// The planning call: the slots of a list of appointments between `p` parties, or a refusal. Accepted, the first A entries of `slots`
+// hold the plan. The first W words of `scratch` are 0 after acceptance and after 9; 1 to 8 leave all. What both held affects nothing.
 pub fn bipartite_edge_color(p: u16, list: &[u16], slots: &mut [u16], scratch: &mut [u32]) -> Answer
     ensures answer { λ r. ⌜ answer-of r ≡ plan-answer p (now (list .entry)) (now (slots .entry)) (now (scratch .entry)) ⌝ }
     ensures slots { λ r. ⌜ now (slots .exit) ≡ plan-slots p (now (list .entry)) (now (slots .entry)) (now (scratch .entry)) ⌝ }
