@@ -2,7 +2,6 @@ use borrow.Author.Needs.{needs}
 use Rattle.appointments.proofs.add_load.Statement.{statement}
 use Rattle.appointments.proofs.add_load.Tie as tie
 
--- src/lib.rt:45:1
 returns : tie.Need-returns
 returns c = cc (c .before .before .put .ensures, c .before .before .before .before .get .ensures .0)
 

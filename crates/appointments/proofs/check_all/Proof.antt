@@ -9,7 +9,6 @@ use borrow.Author.Needs.{needs}
 use Rattle.appointments.proofs.check_all.Statement.{statement}
 use Rattle.appointments.proofs.check_all.Tie as tie
 
--- src/lib.rt:134:9
 returns : tie.Need-returns
 returns c =
     let l = c .before .before .before .before .args .list .now in
@@ -19,7 +18,6 @@ returns c =
     let e = all-refused P l (c .before .before .before .before .args .slots) (c .before .before .before .before .args .scratch) _ _ (checked-number (checks-1-to-5 P l passed) _ _ _ h) in
     rw e (c .enum-told .given .1)
 
--- src/lib.rt:136:15
 mul-if1 : tie.Need-mul-if1
 mul-if1 c =
     let P = c .before .before .before .before .before .args .p in
@@ -31,7 +29,6 @@ mul-if1 c =
     let sz = small P l D ok e in
     omega (arith, sz .product)
 
--- src/lib.rt:137:9
 returns-2 : tie.Need-returns-2
 returns-2 c =
     let P = c .before .before .before .before .before .before .args .p in
@@ -43,7 +40,6 @@ returns-2 c =
     let sz = small P l D ok e in
     rw (refuses-6 P l (c .before .before .before .before .before .before .args .slots) (c .before .before .before .before .before .before .args .scratch) D e ok (omega arith))
 
--- src/lib.rt:140:9
 returns-3 : tie.Need-returns-3
 returns-3 c =
     let P = c .before .before .before .before .before .before .before .args .p in
@@ -55,7 +51,6 @@ returns-3 c =
     let sz = small P l D ok e in
     rw (refuses-7 P l (c .before .before .before .before .before .before .before .args .slots) (c .before .before .before .before .before .before .before .args .scratch) D e ok (omega arith) (omega arith))
 
--- src/lib.rt:142:18
 mul-if3 : tie.Need-mul-if3
 mul-if3 c =
     let P = c .before .before .before .before .before .before .before .args .p in
@@ -67,7 +62,6 @@ mul-if3 c =
     let sz = small P l D ok e in
     omega (arith, sz .parties)
 
--- src/lib.rt:142:29
 add-if3 : tie.Need-add-if3
 add-if3 c =
     let P = c .before .before .before .before .before .before .before .args .p in
@@ -79,7 +73,6 @@ add-if3 c =
     let sz = small P l D ok e in
     omega (arith, sz .figure)
 
--- src/lib.rt:142:18
 mul-if3-2 : tie.Need-mul-if3-2
 mul-if3-2 c =
     let P = c .before .before .before .before .before .before .before .args .p in
@@ -91,7 +84,6 @@ mul-if3-2 c =
     let sz = small P l D ok e in
     omega (arith, sz .words)
 
--- src/lib.rt:143:9
 returns-4 : tie.Need-returns-4
 returns-4 c =
     let P = c .before .before .before .before .before .before .before .before .args .p in
@@ -103,7 +95,6 @@ returns-4 c =
     let sz = small P l D ok e in
     rw (refuses-8 P l (c .before .before .before .before .before .before .before .before .args .slots) (c .before .before .before .before .before .before .before .before .args .scratch) D e ok (omega arith) (omega arith) (omega arith))
 
--- src/lib.rt:129:1
 returns-5 : tie.Need-returns-5
 returns-5 c =
     let P = c .before .before .before .before .before .before .before .before .args .p in

@@ -8,7 +8,6 @@ use borrow.Author.Needs.{needs}
 use Rattle.appointments.proofs.check_ends.Statement.{statement}
 use Rattle.appointments.proofs.check_ends.Tie as tie
 
--- src/lib.rt:99:9
 returns : tie.Need-returns
 returns c =
     let l = c .before .before .before .before .before .args .list .now in
@@ -16,7 +15,6 @@ returns c =
     let e = found-at (first-from 0 (has-unlisted 65535) (appts l)) _ (sym (c .before .before .before .first-not-below .ensures) ∙ c .before .blank .given .1) in
     rw (bl, e)
 
--- src/lib.rt:103:9
 returns-2 : tie.Need-returns-2
 returns-2 c =
     let l = c .before .before .before .before .before .before .before .before .args .list .now in
@@ -25,7 +23,6 @@ returns-2 c =
     let f = found-at (first-from 0 (has-unlisted (c .before .before .before .before .before .before .before .before .args .p)) (appts l)) _ (sym (c .before .before .before .first-not-below2 .ensures) ∙ c .before .unlisted .given .1) in
     rw (bl, e, f)
 
--- src/lib.rt:93:1
 returns-3 : tie.Need-returns-3
 returns-3 c =
     let l = c .before .before .before .before .before .before .before .args .list .now in

@@ -10,22 +10,18 @@ use borrow.Author.Needs.{needs}
 use Rattle.appointments.proofs.check_list.Statement.{statement}
 use Rattle.appointments.proofs.check_list.Tie as tie
 
--- src/lib.rt:113:9
 returns : tie.Need-returns
 returns c =
     rw (refuses-1 (c .before .before .args .p) (c .before .before .args .list .now) (omega arith))
 
--- src/lib.rt:116:9
 returns-2 : tie.Need-returns-2
 returns-2 c =
     rw (refuses-2 (c .before .before .before .args .p) (c .before .before .before .args .list .now) (omega arith) (omega arith))
 
--- src/lib.rt:119:9
 returns-3 : tie.Need-returns-3
 returns-3 c =
     rw (refuses-3 (c .before .before .before .before .args .p) (c .before .before .before .before .args .list .now) (omega arith) (c .before .if2 .left) (omega arith))
 
--- src/lib.rt:123:9
 returns-4 : tie.Need-returns-4
 returns-4 c =
     let l = c .before .before .before .before .before .before .before .before .args .list .now in
@@ -34,7 +30,6 @@ returns-4 c =
     let h = sym (c .before .before .before .check-ends .ensures) ∙ c .before .ends .given .1 in
     rw on (sym (checked-refused (check-ends P l passed) 0 _ _ _ h))
 
--- src/lib.rt:109:1
 returns-5 : tie.Need-returns-5
 returns-5 c =
     let l = c .before .before .before .before .before .before .before .before .args .list .now in

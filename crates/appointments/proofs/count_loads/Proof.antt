@@ -18,12 +18,10 @@ Inv-loop list loads₀ i₀ loads i =
 abbrev μ-loop : tie.MeasureT-loop
 μ-loop list loads₀ i₀ loads i = length list - i
 
--- src/lib.rt:59:5
 loop-holds : tie.Need-loop-holds Inv-loop μ-loop
 unfolding count
 loop-holds c = (search needs, refl, λ v h. c .before .before .pre .1 v)
 
--- src/lib.rt:59:5
 loop-again : tie.Need-loop-again Inv-loop μ-loop
 loop-again c =
     let l = c .before .before .before .before .before .before .before .before .before .args .list .now in
@@ -38,7 +36,6 @@ loop-again c =
           (counted-more (length (c .before .before .before .before .before .before .before .before .before .args .loads .now)) s l i (c .before .before .before .before .before .before .before .before .before .pre .0) (omega arith) (inv .1) (inv .2)),
     )
 
--- src/lib.rt:53:1
 returns : tie.Need-returns Inv-loop μ-loop
 returns c =
     λ v h.

@@ -20,11 +20,9 @@ Inv-loop list bound a i₀ i =
 abbrev μ-loop : tie.MeasureT-loop
 μ-loop list bound a i₀ i = a - i
 
--- src/lib.rt:30:5
 loop-holds : tie.Need-loop-holds Inv-loop μ-loop
 loop-holds c = (search needs, refl)
 
--- src/lib.rt:33:13
 returns : tie.Need-returns Inv-loop μ-loop
 returns c =
     let i = c .before .before .before .loop .i in
@@ -33,7 +31,6 @@ returns c =
     let h : b ≤ word l (2 * i) = omega (arith, c .before .get16 .ensures .0) in
     ap found (sym (c .before .before .before .loop .inv .1 ∙ search-first l b i (omega arith) h))
 
--- src/lib.rt:37:13
 returns-2 : tie.Need-returns-2 Inv-loop μ-loop
 returns-2 c =
     let i = c .before .before .before .before .before .loop .i in
@@ -43,7 +40,6 @@ returns-2 c =
     let h : b ≤ word l (2 * i + 1) = omega (arith, c .before .get162 .ensures .0) in
     ap found (sym (c .before .before .before .before .before .loop .inv .1 ∙ search-second l b i (omega arith) g h))
 
--- src/lib.rt:30:5
 loop-again : tie.Need-loop-again Inv-loop μ-loop
 loop-again c =
     let i = c .before .before .before .before .before .loop .i in
@@ -53,7 +49,6 @@ loop-again c =
     let h : word l (2 * i + 1) < b = omega (arith, c .before .get162 .ensures .0) in
     (search needs, c .before .before .before .before .before .loop .inv .1 ∙ search-on l b i (omega arith) g h)
 
--- src/lib.rt:24:1
 returns-3 : tie.Need-returns-3 Inv-loop μ-loop
 unfolding first-from
 returns-3 c =

@@ -15,12 +15,10 @@ Inv-loop loads p d₀ v₀ d v = (v ≤ p) × (d ≡ largest-word v loads)
 abbrev μ-loop : tie.MeasureT-loop
 μ-loop loads p d₀ v₀ d v = p - v
 
--- src/lib.rt:72:5
 loop-holds : tie.Need-loop-holds Inv-loop μ-loop
 unfolding largest-word
 loop-holds c = (search needs, refl)
 
--- src/lib.rt:72:5
 loop-again : tie.Need-loop-again Inv-loop μ-loop
 loop-again c =
     let v = c .before .before .before .loop .v in
@@ -29,7 +27,6 @@ loop-again c =
     let n : c .before .get .result ≡ word s v = c .before .get .ensures .0 in
     (search needs, ⊎-elim (λ w. omega arith) (λ w. omega arith) (c .if1 .came))
 
--- src/lib.rt:67:1
 returns : tie.Need-returns Inv-loop μ-loop
 returns c =
     let e : c .before .loop .v ≡ c .before .before .before .args .p = omega arith in

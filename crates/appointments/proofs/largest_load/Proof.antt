@@ -8,11 +8,9 @@ use borrow.Author.Needs.{needs}
 use Rattle.appointments.proofs.largest_load.Statement.{statement}
 use Rattle.appointments.proofs.largest_load.Tie as tie
 
--- src/lib.rt:88:5
 count-loads-requires : tie.Need-count-loads-requires
 count-loads-requires c κs = (c .before .before .pre .1, zeros 1024)
 
--- src/lib.rt:83:1
 returns : tie.Need-returns
 returns c =
     let l = c .before .before .before .before .before .before .args .list .now in

@@ -4,7 +4,6 @@ use borrow.Author.Needs.{needs}
 use Rattle.edge_color.proofs.matching.Statement.{statement}
 use Rattle.edge_color.proofs.matching.Tie as tie
 
--- src/lib.rt:85:1
 returns : tie.Need-returns
 returns c = rw add-sub-cancel-left
 

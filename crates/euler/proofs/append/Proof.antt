@@ -9,17 +9,14 @@ use borrow.Author.Needs.{needs}
 use Rattle.euler.proofs.append.Statement.{statement}
 use Rattle.euler.proofs.append.Tie as tie
 
--- src/lib.rt:88:19
 add-set-word-5 : tie.Need-add-set-word-5
 add-set-word-5 c =
     omega (arith, c .before .before .before .before .before .before .before .before .before .before .before .before .before .before .before .before .before .before .before .before .before .before .pre .0, c .before .before .before .before .before .before .before .before .before .before .before .before .before .before .before .before .before .before .before .before .before .before .pre .1)
 
--- src/lib.rt:88:19
 add-set-word-6 : tie.Need-add-set-word-6
 add-set-word-6 c =
     omega (arith, c .before .before .before .before .before .before .before .before .before .before .before .before .before .before .before .before .before .before .before .before .before .before .pre .0, c .before .before .before .before .before .before .before .before .before .before .before .before .before .before .before .before .before .before .before .before .before .before .pre .1)
 
--- src/lib.rt:88:5
 set-word-requires-4 : tie.Need-set-word-requires-4
 set-word-requires-4 c κs =
     let a = c .before .before .before .before .before .before .before .before .before .before .before .before .before .before .before .before .before .before .before .before .before .before .args in
@@ -33,7 +30,6 @@ set-word-requires-4 c κs =
     let e₃ : length t₃ ≡ length t₂ = ap length (c .before .before .before .before .set-word3 .ensures) ∙ length-put t₂ (a .l .b + 2 * a .x) (a .l .top + a .v) in
     omega (arith, c .before .before .before .before .before .before .before .before .before .before .before .before .before .before .before .before .before .before .before .before .before .before .pre .3 .own, e₁, e₂, e₃)
 
--- src/lib.rt:79:1
 returns : tie.Need-returns
 unfolding appendM
 returns c = cc

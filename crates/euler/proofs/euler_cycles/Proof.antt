@@ -19,12 +19,10 @@ Inv-loop s₀ l m parties bound w₀ k₀ s w k =
 abbrev μ-loop : tie.MeasureT-loop
 μ-loop s₀ l m parties bound w₀ k₀ s w k = bound - k
 
--- src/lib.rt:233:5
 loop-holds : tie.Need-loop-holds Inv-loop μ-loop
 unfolding iterate
 loop-holds c = (search needs, refl, record { next = omega arith; at = omega arith; height = omega arith; written = omega arith }, refl, λ i. omega (arith, c .slice-known .given i))
 
--- src/lib.rt:235:13
 returns : tie.Need-returns Inv-loop μ-loop
 returns c =
     let inv = c .before .before .before .loop .inv in
@@ -33,7 +31,6 @@ returns c =
     walk-rests (a .l) (a .parties) (2 * a .m + a .parties) (c .before .before .before .loop .k) (begun (a .s .now)) _ (inv .0) (inv .3) (c .if1 .taken) in
     (ap (λ (t : Stage). t .words) (sym e), ap (λ (t : Stage). t .walk .written) (sym e), omega (arith, inv .0, inv .2))
 
--- src/lib.rt:233:5
 loop-again : tie.Need-loop-again Inv-loop μ-loop
 loop-again c =
     let inv = c .before .before .before .before .before .before .before .loop .inv in
@@ -47,7 +44,6 @@ loop-again c =
       λ i. omega (arith, c .slice-known2 .given i),
     )
 
--- src/lib.rt:220:1
 returns-2 : tie.Need-returns-2 Inv-loop μ-loop
 returns-2 c =
     let inv = c .before .loop .inv in

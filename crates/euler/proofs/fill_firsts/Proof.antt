@@ -17,12 +17,10 @@ Inv-loop s₀ l m k₀ s k = (k ≤ m) × (length s ≡ length s₀) × (s ≡ f
 abbrev μ-loop : tie.MeasureT-loop
 μ-loop s₀ l m k₀ s k = m - k
 
--- src/lib.rt:101:5
 loop-holds : tie.Need-loop-holds Inv-loop μ-loop
 unfolding firstsM
 loop-holds c = (search needs, refl, refl)
 
--- src/lib.rt:101:5
 loop-again : tie.Need-loop-again Inv-loop μ-loop
 loop-again c =
     let inv = c .before .before .before .before .before .loop .inv in (
@@ -33,7 +31,6 @@ loop-again c =
           ∙ sym (firsts-more (c .before .before .before .before .before .before .before .args .l) (c .before .before .before .before .before .before .before .args .m) (c .before .before .before .before .before .loop .k) (c .before .before .before .before .before .before .before .args .s .now)),
     )
 
--- src/lib.rt:96:1
 returns : tie.Need-returns Inv-loop μ-loop
 returns c =
     let inv = c .before .loop .inv in

@@ -22,7 +22,6 @@ fill-seconds-requires c κs =
           (pre .3 .seconds),
     )
 
--- src/lib.rt:147:1
 returns : tie.Need-returns
 returns c = cc
 

@@ -3,7 +3,6 @@ use borrow.Author.Needs.{needs}
 use Rattle.euler.proofs.half.Statement.{statement}
 use Rattle.euler.proofs.half.Tie as tie
 
--- src/lib.rt:317:1
 returns : tie.Need-returns
 returns c =
     let a = c .before .before .before .before .before .before .before .before .before .before .before .before .before .before .before .before .before .args in

@@ -15,12 +15,10 @@ Inv-loop s₀ l h parity m at₀ i₀ s at i =
 abbrev μ-loop : tie.MeasureT-loop
 μ-loop s₀ l h parity m at₀ i₀ s at i = m - i
 
--- src/lib.rt:282:5
 loop-holds : tie.Need-loop-holds Inv-loop μ-loop
 unfolding entriesM
 loop-holds c = (search needs, refl, omega arith, refl)
 
--- src/lib.rt:282:5
 loop-again : tie.Need-loop-again Inv-loop μ-loop
 loop-again c =
     let inv = c .before .before .before .before .before .loop .inv in
@@ -35,7 +33,6 @@ loop-again c =
           ∙ sym (entries-more (a .l) (a .h) (a .parity) (c .before .before .before .before .before .loop .i) (a .s .now)),
     )
 
--- src/lib.rt:276:1
 returns : tie.Need-returns Inv-loop μ-loop
 returns c =
     let inv = c .before .loop .inv in

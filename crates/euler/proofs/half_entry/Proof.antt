@@ -5,13 +5,11 @@ use borrow.Author.Needs.{needs}
 use Rattle.euler.proofs.half_entry.Statement.{statement}
 use Rattle.euler.proofs.half_entry.Tie as tie
 
--- src/lib.rt:267:9
 returns : tie.Need-returns
 returns c =
     let a = c .before .before .before .before .args in
     sym (entry-small (a .l) (a .h) (a .parity) (record { words = a .s .now; count = a .at }) (a .i) (omega (arith, c .before .copies-of .ensures .0, c .if1 .taken)))
 
--- src/lib.rt:261:1
 returns-2 : tie.Need-returns-2
 returns-2 c =
     let a = c .before .before .before .before .before .before .before .before .before .before .before .before .before .before .before .args in

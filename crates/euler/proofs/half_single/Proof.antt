@@ -8,14 +8,12 @@ use borrow.Author.Needs.{needs}
 use Rattle.euler.proofs.half_single.Statement.{statement}
 use Rattle.euler.proofs.half_single.Tie as tie
 
--- src/lib.rt:296:9
 returns : tie.Need-returns
 returns c =
     let a = c .before .before .before .before .before .before .before .args in
     let e : copiesM (a .l) (a .s .now) (c .before .before .before .get .result) ≡ copiesM (a .l) (a .s .now) (word (a .s .now) (a .l .col + 2 * a .j + 1)) = ap (copiesM (a .l) (a .s .now)) (c .before .before .before .get .ensures .0) in
     sym (single-big (a .l) (a .h) (record { words = a .s .now; count = a .at }) (a .j) (omega (arith, e, c .before .copies-of .ensures .0, c .if1 .taken)))
 
--- src/lib.rt:289:1
 returns-2 : tie.Need-returns-2
 returns-2 c =
     let a = c .before .before .before .before .before .before .before .before .before .before .before .before .before .before .args in

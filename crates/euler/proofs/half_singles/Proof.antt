@@ -15,12 +15,10 @@ Inv-loop s₀ l h parity from written count at₀ k₀ s at k =
 abbrev μ-loop : tie.MeasureT-loop
 μ-loop s₀ l h parity from written count at₀ k₀ s at k = count - k
 
--- src/lib.rt:310:5
 loop-holds : tie.Need-loop-holds Inv-loop μ-loop
 unfolding singlesM
 loop-holds c = (search needs, refl, omega arith, refl)
 
--- src/lib.rt:310:5
 loop-again : tie.Need-loop-again Inv-loop μ-loop
 loop-again c =
     let inv = c .before .before .before .before .before .loop .inv in
@@ -35,7 +33,6 @@ loop-again c =
           ∙ sym (singles-more (a .l) (a .h) (a .parity) (c .before .before .before .before .before .loop .k) (record { words = a .s .now; count = a .from })),
     )
 
--- src/lib.rt:303:1
 returns : tie.Need-returns Inv-loop μ-loop
 returns c =
     let inv = c .before .loop .inv in

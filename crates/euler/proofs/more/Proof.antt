@@ -5,12 +5,10 @@ use borrow.Author.Needs.{needs}
 use Rattle.euler.proofs.more.Statement.{statement}
 use Rattle.euler.proofs.more.Tie as tie
 
--- src/lib.rt:244:1
 returns : tie.Need-returns
 returns c =
     (rw (eq-eqb (c .before .args .mark) (2 + c .before .args .parity) (c .if1 .taken)), omega arith)
 
--- src/lib.rt:244:1
 returns-2 : tie.Need-returns-2
 returns-2 c =
     (rw (ne-eqb (c .before .args .mark) (2 + c .before .args .parity) (c .if1 .left)), omega arith)

@@ -3,7 +3,6 @@ use borrow.Author.Needs.{needs}
 use Rattle.euler.proofs.pop.Statement.{statement}
 use Rattle.euler.proofs.pop.Tie as tie
 
--- src/lib.rt:52:1
 returns : tie.Need-returns
 unfolding popM
 returns c = cc

@@ -3,7 +3,6 @@ use borrow.Author.Needs.{needs}
 use Rattle.euler.proofs.push.Statement.{statement}
 use Rattle.euler.proofs.push.Tie as tie
 
--- src/lib.rt:252:1
 returns : tie.Need-returns
 returns c = (cc, refl)
 

@@ -6,13 +6,11 @@ use borrow.Author.Needs.{needs}
 use Rattle.euler.proofs.row_second.Statement.{statement}
 use Rattle.euler.proofs.row_second.Tie as tie
 
--- src/lib.rt:125:9
 returns : tie.Need-returns
 returns c =
     let a = c .before .before .before .before .args in
     sym (second-even (a .l) (a .s .now) (a .i) (ap (λ (n : ℕ). n % 2) (sym (c .before .copies-of .ensures .0)) ∙ c .if1 .taken))
 
--- src/lib.rt:129:5
 append-requires : tie.Need-append-requires
 append-requires c κs =
     let a = c .before .before .before .before .before .before .before .before .before .before .before .before .args in
@@ -24,7 +22,6 @@ append-requires c κs =
           (pre .2 .appends (λ z. c .before .before .before .before .before .before .before .before .if1 .left (ap (λ (n : ℕ). n % 2) (c .before .before .before .before .before .before .before .before .before .copies-of .ensures .0) ∙ z))),
     )
 
--- src/lib.rt:119:1
 returns-2 : tie.Need-returns-2
 returns-2 c =
     let a = c .before .before .before .before .before .before .before .before .before .before .before .before .before .before .before .args in

@@ -6,7 +6,6 @@ use borrow.Author.Needs.{needs}
 use Rattle.euler.proofs.second_of.Statement.{statement}
 use Rattle.euler.proofs.second_of.Tie as tie
 
--- src/lib.rt:46:1
 returns : tie.Need-returns
 returns c =
     let a = c .before .before .before .before .before .args in (

@@ -21,7 +21,6 @@ euler-cycles-requires c κs =
       subst (Walks (a .l) (a .parties) (2 * a .m + a .parties)) (sym (c .before .before .before .fill-rows .ensures)) (pre .6),
     )
 
--- src/lib.rt:323:1
 returns : tie.Need-returns
 returns c =
     let a = c .before .before .before .before .before .before .before .before .before .before .before .before .before .before .before .before .before .args in

@@ -2,7 +2,6 @@ use borrow.Author.Needs.{needs}
 use Rattle.euler.proofs.start_row.Statement.{statement}
 use Rattle.euler.proofs.start_row.Tie as tie
 
--- src/lib.rt:58:1
 returns : tie.Need-returns
 returns c = cc
 

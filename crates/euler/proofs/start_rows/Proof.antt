@@ -15,12 +15,10 @@ Inv-loop s₀ l parties v₀ s v = (v ≤ parties) × (length s ≡ length s₀)
 abbrev μ-loop : tie.MeasureT-loop
 μ-loop s₀ l parties v₀ s v = parties - v
 
--- src/lib.rt:72:5
 loop-holds : tie.Need-loop-holds Inv-loop μ-loop
 unfolding startM
 loop-holds c = (search needs, refl, refl)
 
--- src/lib.rt:72:5
 loop-again : tie.Need-loop-again Inv-loop μ-loop
 loop-again c =
     let inv = c .before .before .before .before .before .loop .inv in (
@@ -31,7 +29,6 @@ loop-again c =
           ∙ sym (start-more (c .before .before .before .before .before .before .before .args .l) (c .before .before .before .before .before .loop .v) (c .before .before .before .before .before .before .before .args .s .now)),
     )
 
--- src/lib.rt:67:1
 returns : tie.Need-returns Inv-loop μ-loop
 returns c =
     let inv = c .before .loop .inv in

@@ -4,12 +4,10 @@ use borrow.Author.Needs.{needs}
 use Rattle.euler.proofs.step_back.Statement.{statement}
 use Rattle.euler.proofs.step_back.Tie as tie
 
--- src/lib.rt:102:18
 add-t14 : tie.Need-add-t14
 add-t14 c =
     omega (arith, c .before .before .before .before .before .before .before .before .before .before .before .before .before .before .before .before .before .before .before .pre .1)
 
--- src/lib.rt:90:1
 returns : tie.Need-returns
 unfolding backM
 returns c = cc

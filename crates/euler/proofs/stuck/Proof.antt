@@ -5,17 +5,14 @@ use borrow.Author.Needs.{needs}
 use Rattle.euler.proofs.stuck.Statement.{statement}
 use Rattle.euler.proofs.stuck.Tie as tie
 
--- src/lib.rt:214:9
 step-back-requires : tie.Need-step-back-requires
 step-back-requires c κs =
     (c .before .before .before .before .pre .0, c .before .before .before .before .pre .1, c .before .if1 .taken, c .before .before .before .before .pre .2 (c .before .if1 .taken))
 
--- src/lib.rt:214:9
 returns : tie.Need-returns
 returns c =
     c .before .before .step-back .ensures ∙ sym (stuck-backs (c .before .before .before .before .before .before .before .args .l) (c .before .before .before .before .before .before .before .args .s .now) (c .before .before .before .before .before .before .before .args .w) (c .before .before .before .before .if1 .taken))
 
--- src/lib.rt:209:1
 returns-2 : tie.Need-returns-2
 returns-2 c =
     sym (stuck-next (c .before .before .before .before .before .args .l) (c .before .before .before .before .before .args .s .now) (c .before .before .before .before .before .args .w) (omega (arith, c .before .before .if1 .left)))

@@ -9,18 +9,15 @@ use borrow.Author.Needs.{needs}
 use Rattle.euler.proofs.take.Statement.{statement}
 use Rattle.euler.proofs.take.Tie as tie
 
--- src/lib.rt:79:5
 unlink-requires : tie.Need-unlink-requires
 unlink-requires c κs =
     let pre = c .before .before .before .before .before .before .before .before .before .before .before .pre in
     (pre .0, omega (arith, pre .2), subst (λ (t : List ℕ). Unlinks (c .before .before .before .before .before .before .before .before .before .before .before .args .l) t (mateM (c .before .before .before .before .before .before .before .before .before .before .before .args .x))) (sym (c .before .before .before .pop .ensures)) (pre .3 .unlinks))
 
--- src/lib.rt:84:17
 add-t17 : tie.Need-add-t17
 add-t17 c =
     omega (arith, c .before .before .before .before .before .before .before .before .before .before .before .before .before .before .before .before .before .before .before .before .before .before .pre .1)
 
--- src/lib.rt:73:1
 returns : tie.Need-returns
 returns c =
     let a = c .before .before .before .before .before .before .before .before .before .before .before .before .before .before .before .before .before .before .before .before .before .before .args in

@@ -3,7 +3,6 @@ use borrow.Author.Needs.{needs}
 use Rattle.euler.proofs.unlink.Statement.{statement}
 use Rattle.euler.proofs.unlink.Tie as tie
 
--- src/lib.rt:62:1
 returns : tie.Need-returns
 unfolding unlinkM
 returns c = cc

@@ -8,22 +8,18 @@ use borrow.Author.Needs.{needs}
 use Rattle.euler.proofs.walk_step.Statement.{statement}
 use Rattle.euler.proofs.walk_step.Tie as tie
 
--- src/lib.rt:230:9
 returns : tie.Need-returns
 returns c =
     sym (step-idle (c .before .before .before .args .l) (c .before .before .before .args .parties) (record { words = c .before .before .before .args .s .now; walk = c .before .before .before .args .w }) (c .if1 .taken))
 
--- src/lib.rt:233:9
 word-at-requires : tie.Need-word-at-requires
 word-at-requires c κs = c .before .before .before .before .before .before .before .pre .2 (omega (arith, c .before .before .before .before .if1 .left)) .here
 
--- src/lib.rt:235:9
 stuck-requires : tie.Need-stuck-requires
 stuck-requires c κs =
     let pre = c .before .before .before .before .before .before .before .before .before .before .pre in
     (pre .0, pre .1, pre .2 (omega (arith, c .before .before .before .before .before .before .before .if1 .left)) .backs)
 
--- src/lib.rt:235:9
 returns-2 : tie.Need-returns-2
 returns-2 c =
     let a = c .before .before .before .before .before .before .before .before .before .before .before .before .before .args in
@@ -31,7 +27,6 @@ returns-2 c =
     let n : a .w .next < a .parties = omega (arith, c .before .before .before .before .before .before .before .before .before .before .if1 .left) in
     c .before .before .stuck .ensures ∙ sym (step-stuck (a .l) (a .parties) s (a .w) n (sym (c .before .before .before .before .before .word-at .ensures .0) ∙ c .before .before .before .before .if2 .taken))
 
--- src/lib.rt:237:5
 take-requires : tie.Need-take-requires
 take-requires c κs =
     let a = c .before .before .before .before .before .before .before .before .before .before .args in
@@ -43,7 +38,6 @@ take-requires c κs =
       subst (Takes (a .l) (a .s .now) (a .w)) (sym e) (pre .2 (omega (arith, c .before .before .before .before .before .before .before .if1 .left)) .takes (λ z. c .before .if2 .left (e ∙ z))),
     )
 
--- src/lib.rt:225:1
 returns-3 : tie.Need-returns-3
 returns-3 c =
     let a = c .before .before .before .before .before .before .before .before .before .before .before .before .before .args in

@@ -4,11 +4,9 @@ use borrow.Author.Needs.{needs}
 use Rattle.euler.proofs.word_at.Statement.{statement}
 use Rattle.euler.proofs.word_at.Tie as tie
 
--- src/lib.rt:41:5
 cast-result : tie.Need-cast-result
 cast-result c = omega (arith, c .shared-slice-known .given (c .before .args .i))
 
--- src/lib.rt:36:1
 returns : tie.Need-returns
 returns c = (refl, omega (arith, c .shared-slice-known .given (c .before .args .i)))
 

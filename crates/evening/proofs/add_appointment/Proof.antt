@@ -10,7 +10,6 @@ use borrow.Author.Needs.{needs}
 use Rattle.evening.proofs.add_appointment.Statement.{statement}
 use Rattle.evening.proofs.add_appointment.Tie as tie
 
--- src/lib.rt:239:1
 returns : tie.Need-returns
 returns c =
     let a = c .before .before .before .before .before .before .before .before .before .before .before .before .before .before .args in

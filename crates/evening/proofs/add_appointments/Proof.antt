@@ -18,27 +18,23 @@ Inv-loop s₀ list ends apair g a i₀ s i =
 abbrev μ-loop : tie.MeasureT-loop
 μ-loop s₀ list ends apair g a i₀ s i = a - i
 
--- src/lib.rt:258:5
 loop-holds : tie.Need-loop-holds Inv-loop μ-loop
 loop-holds c =
     let a = c .before .before .args in
     (omega arith, refl, λ h. built-none (a .list .now) (a .ends) (a .apair) (a .g) (a .s .now) h)
 
--- src/lib.rt:259:9
 add-appointment-requires : tie.Need-add-appointment-requires Inv-loop μ-loop
 add-appointment-requires c κs =
     let a = c .before .before .before .before .before .args in
     let lp = c .before .before .loop in
     (lp .inv .2 (c .before .before .before .before .before .pre) .building, c .before .loop-test .taken)
 
--- src/lib.rt:258:5
 loop-again : tie.Need-loop-again Inv-loop μ-loop
 loop-again c =
     let a = c .before .before .before .before .before .before .before .before .args in
     let lp = c .before .before .before .before .before .loop in
     (search needs, search needs, λ h. built-more (a .list .now) (a .ends) (a .apair) (a .g) (lp .i) (a .s .now) (lp .s) (c .before .before .add-appointment .last .0) (lp .inv .2 h) (c .before .before .add-appointment .ensures))
 
--- src/lib.rt:252:1
 returns : tie.Need-returns Inv-loop μ-loop
 returns c =
     let e : c .before .loop .i ≡ length (c .before .before .before .before .args .list .now) / 2 = omega arith in

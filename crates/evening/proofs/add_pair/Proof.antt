@@ -10,7 +10,6 @@ use borrow.Author.Needs.{needs}
 use Rattle.evening.proofs.add_pair.Statement.{statement}
 use Rattle.evening.proofs.add_pair.Tie as tie
 
--- src/lib.rt:83:9
 returns : tie.Need-returns
 returns c =
     let a = c .before .before .before .before .before .before .before .before .args in
@@ -18,7 +17,6 @@ returns c =
     let k : a .e < size (a .s .now) (a .g) = omega arith in
     added-there (a .ends) (a .g) (a .e) (a .l) (a .r) (a .copies) (a .s .now) h k (c .before .before .add-to .last .0) (bumped (a .g + 3 + 2 * a .e) (a .copies) (a .s .now) (c .before .before .add-to .last .0) (omega (arith, h .inside)) (h .light (a .e) k) (c .before .before .add-to .ensures))
 
--- src/lib.rt:76:1
 returns-2 : tie.Need-returns-2
 returns-2 c =
     let a = c .before .before .before .before .before .before .before .before .args in

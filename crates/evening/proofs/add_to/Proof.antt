@@ -2,7 +2,6 @@ use borrow.Author.Needs.{needs}
 use Rattle.evening.proofs.add_to.Statement.{statement}
 use Rattle.evening.proofs.add_to.Tie as tie
 
--- src/lib.rt:53:1
 returns : tie.Need-returns
 returns c = cc
 

@@ -17,20 +17,17 @@ Inv-loop s₀ at diag b m n i₀ s i =
 abbrev μ-loop : tie.MeasureT-loop
 μ-loop s₀ at diag b m n i₀ s i = n - i
 
--- src/lib.rt:440:5
 loop-holds : tie.Need-loop-holds Inv-loop μ-loop
 loop-holds c =
     let a = c .before .args in
     (omega arith, refl, λ h. begun-none (a .n) (a .at .left) (a .at .right) (a .at .ends) (a .diag) (a .b) (a .m) (a .s .now) h)
 
--- src/lib.rt:440:5
 loop-again : tie.Need-loop-again Inv-loop μ-loop
 loop-again c =
     let a = c .before .before .before .before .before .before .before .args in
     let lp = c .before .before .before .before .before .loop in
     (search needs, search needs, λ h. begun-more (a .n) (a .at .left) (a .at .right) (a .at .ends) (a .diag) (a .b) (a .m) (a .s .now) h (lp .i) (lp .s) (c .before .before .begin-place .last .0) (omega arith) (lp .inv .2 h) (c .before .before .begin-place .ensures))
 
--- src/lib.rt:435:1
 returns : tie.Need-returns Inv-loop μ-loop
 returns c =
     let e : c .before .loop .i ≡ c .before .before .before .args .n = omega arith in

@@ -15,18 +15,15 @@ Inv-loop s₀ b n v₀ s v = (v ≤ n) × (length s ≡ length s₀) × Cleared 
 abbrev μ-loop : tie.MeasureT-loop
 μ-loop s₀ b n v₀ s v = n - v
 
--- src/lib.rt:99:5
 loop-holds : tie.Need-loop-holds Inv-loop μ-loop
 loop-holds c = (omega arith, refl, cleared-none (c .before .args .b) (c .before .args .s .now))
 
--- src/lib.rt:99:5
 loop-again : tie.Need-loop-again Inv-loop μ-loop
 loop-again c =
     let a = c .before .before .before .before .before .before .before .args in
     let lp = c .before .before .before .before .before .loop in
     (search needs, search needs, cleared-more (a .b) (lp .v) (a .s .now) (lp .s) (c .before .before .put .last .0) (omega arith) (lp .inv .2) (c .before .before .put .ensures))
 
--- src/lib.rt:94:1
 returns : tie.Need-returns Inv-loop μ-loop
 returns c =
     let e : c .before .loop .v ≡ c .before .before .before .args .n = omega arith in

@@ -11,13 +11,11 @@ use borrow.Author.Needs.{needs}
 use Rattle.evening.proofs.diagonal_at.Statement.{statement}
 use Rattle.evening.proofs.diagonal_at.Tie as tie
 
--- src/lib.rt:488:5
 begin-places-requires : tie.Need-begin-places-requires
 begin-places-requires c κs =
     let a = c .before .before .before .before .before .args in
     rw (c .before .get .ensures .0) (diag-fit (a .n) (a .at .left) (a .at .right) (a .at .ends) (a .at .g) (a .diag) (a .u) (a .s .now) (c .before .before .before .before .before .pre))
 
--- src/lib.rt:489:5
 look-at-pairs-requires : tie.Need-look-at-pairs-requires
 look-at-pairs-requires c κs =
     let a = c .before .before .before .before .before .before .before .before .before .args in
@@ -26,7 +24,6 @@ look-at-pairs-requires c κs =
     let x : Begun (a .n) (a .at .left) (a .at .right) (a .at .ends) (a .diag) (a .u) (size (a .s .now) (a .at .g)) (a .n) (a .s .now) (c .before .before .before .begin-places .last .0) = rw e at (c .before .before .before .begin-places .ensures) in
     rw e (diag-ready (a .n) (a .at .left) (a .at .right) (a .at .ends) (a .diag) (a .u) (size (a .s .now) (a .at .g)) (a .s .now) fit (c .before .before .before .begin-places .last .0) x)
 
--- src/lib.rt:481:1
 returns : tie.Need-returns
 returns c =
     let a = c .before .before .before .before .before .before .before .before .before .before .before .before .args in

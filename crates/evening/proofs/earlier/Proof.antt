@@ -8,11 +8,9 @@ use borrow.Author.Needs.{needs}
 use Rattle.evening.proofs.earlier.Statement.{statement}
 use Rattle.evening.proofs.earlier.Tie as tie
 
--- src/lib.rt:173:9
 returns : tie.Need-returns
 returns c = inr (λ e. omega (arith, e .0, c .if1 .taken), refl)
 
--- src/lib.rt:168:1
 returns-2 : tie.Need-returns-2
 returns-2 c =
     ⊎-elim (λ x. inl ((omega arith, x .0), x .1)) (λ x. inr (λ y. x .0 (y .1), x .1)) (c .joins .ensures)

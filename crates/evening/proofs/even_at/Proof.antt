@@ -18,26 +18,22 @@ Inv-loop s₀ u list d n at rows steps st₀ k₀ s st k =
 abbrev μ-loop : tie.MeasureT-loop
 μ-loop s₀ u list d n at rows steps st₀ k₀ s st k = steps - k
 
--- src/lib.rt:406:5
 fill-rows-requires : tie.Need-fill-rows-requires Inv-loop μ-loop
 fill-rows-requires c κs =
     let a = c .before .before .before .args in
     rows-fit-even (a .list .now) (a .d) (a .n) (a .at .left) (a .at .right) (a .at .ends) (a .at .apair) (a .at .g) (a .u) (a .s .now) (c .before .before .before .pre)
 
--- src/lib.rt:410:5
 loop-holds : tie.Need-loop-holds Inv-loop μ-loop
 loop-holds c =
     let a = c .before .before .before .before .before .before .args in
     (omega arith, refl, λ first h x. at-none (a .list .now) (a .d) (a .n) (a .at .left) (a .at .right) (a .at .ends) (a .at .apair) (a .at .g) (a .u) first h (c .before .before .fill-rows .last .0) x)
 
--- src/lib.rt:410:5
 loop-again : tie.Need-loop-again Inv-loop μ-loop
 loop-again c =
     let a = c .before .before .before .before .before .before .before .before .before .before .before .before .args in
     let lp = c .before .before .before .before .before .loop in
     (search needs, search needs, λ first h x. at-more (a .list .now) (a .d) (a .n) (a .at .left) (a .at .right) (a .at .ends) (a .at .apair) (a .at .g) (a .u) first h (c .before .before .before .before .before .before .before .before .fill-rows .last .0) x (lp .k) (lp .st .l) (lp .st .r) (c .before .before .even-step .result .l) (c .before .before .even-step .result .r) (lp .s) (c .before .before .even-step .last .0) (lp .inv .2 first h x) (c .before .before .even-step .ensures))
 
--- src/lib.rt:399:1
 returns : tie.Need-returns Inv-loop μ-loop
 returns c =
     let a = c .before .before .before .before .before .before .before .before .args in

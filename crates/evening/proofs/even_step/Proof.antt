@@ -9,25 +9,21 @@ use borrow.Author.Needs.{needs}
 use Rattle.evening.proofs.even_step.Statement.{statement}
 use Rattle.evening.proofs.even_step.Tie as tie
 
--- src/lib.rt:378:9
 returns : tie.Need-returns
 returns c = all-passed (omega arith) refl refl refl
 
--- src/lib.rt:383:9
 returns-2 : tie.Need-returns-2
 returns-2 c =
     let a = c .before .before .before .before .before .before .before .before .before .before .before .before .args in
     let e : word (a .s .now) (a .b + word (a .s .now) (a .at .left + a .st .l)) ≡ a .d = rw (c .before .before .before .before .get .ensures .0) at (sym (c .before .before .get2 .ensures .0)) ∙ c .before .if2 .taken in
     left-full (omega arith) e refl refl refl
 
--- src/lib.rt:386:9
 returns-3 : tie.Need-returns-3
 returns-3 c =
     let a = c .before .before .before .before .before .before .before .before .before .before .before .before .before .args in
     let e : word (a .s .now) (a .b + word (a .s .now) (a .at .left + a .st .l)) ≡ c .before .before .before .get2 .result = rw (c .before .before .before .before .before .get .ensures .0) at (sym (c .before .before .before .get2 .ensures .0)) in
     none-right (omega arith) (λ q. c .before .before .if2 .left (sym e ∙ q)) (omega arith) refl refl refl
 
--- src/lib.rt:391:9
 returns-4 : tie.Need-returns-4
 returns-4 c =
     let a = c .before .before .before .before .before .before .before .before .before .before .before .before .before .before .before .before .before .before .before .before .before .args in
@@ -35,7 +31,6 @@ returns-4 c =
     let f : word (a .s .now) (a .b + word (a .s .now) (a .at .right + a .st .r)) ≡ c .before .before .get4 .result = rw (c .before .before .before .before .get3 .ensures .0) at (sym (c .before .before .get4 .ensures .0)) in
     right-full (omega arith) (λ q. c .before .before .before .before .before .before .before .before .before .before .if2 .left (sym e ∙ q)) (omega arith) (f ∙ c .before .if4 .taken) refl refl refl
 
--- src/lib.rt:393:43
 mul-fill : tie.Need-mul-fill
 mul-fill c =
     let a = c .before .before .before .before .before .before .before .before .before .before .before .before .before .before .before .before .before .before .before .before .before .args in
@@ -43,7 +38,6 @@ mul-fill c =
     let y : c .before .before .before .before .before .before .before .before .before .before .before .before .before .get .result ≤ 4294967296 = omega (arith, c .before .before .before .before .before .before .before .before .before .before .before .before .before .get .ensures .1) in
     omega (arith, mul-le-mul x y)
 
--- src/lib.rt:393:29
 add-fill-3 : tie.Need-add-fill-3
 add-fill-3 c =
     let a = c .before .before .before .before .before .before .before .before .before .before .before .before .before .before .before .before .before .before .before .before .before .args in
@@ -51,7 +45,6 @@ add-fill-3 c =
     let y : c .before .before .before .before .before .before .before .before .before .before .before .before .before .get .result ≤ 4294967296 = omega (arith, c .before .before .before .before .before .before .before .before .before .before .before .before .before .get .ensures .1) in
     omega (arith, mul-le-mul x y, c .before .before .before .before .before .before .before .before .before .before .before .before .before .before .before .before .before .before .before .before .before .pre .1 .1, c .before .before .before .before .before .before .before .before .before .before .before .before .before .before .before .before .before .before .before .before .before .pre .1 .2)
 
--- src/lib.rt:393:5
 fill-requires : tie.Need-fill-requires
 fill-requires c κs =
     let a = c .before .before .before .before .before .before .before .before .before .before .before .before .before .before .before .before .before .before .before .before .before .args in
@@ -60,7 +53,6 @@ fill-requires c κs =
     let h = c .before .before .before .before .before .before .before .before .before .before .before .before .before .before .before .before .before .before .before .before .before .pre .0 in
     ((h .2, h .3, h .4, c .before .before .before .before .before .before .before .before .before .before .before .before .before .before .before .before .before .before .before .before .before .pre .1 .2), (omega arith, omega (arith, mul-le-mul x y, c .before .before .before .before .before .before .before .before .before .before .before .before .before .before .before .before .before .before .before .before .before .pre .1 .1, c .before .before .before .before .before .before .before .before .before .before .before .before .before .before .before .before .before .before .before .before .before .pre .1 .2), c .before .before .before .before .before .before .before .before .before .before .before .before .before .get .ensures .1, c .before .before .before .before .get3 .ensures .1))
 
--- src/lib.rt:372:1
 returns-5 : tie.Need-returns-5
 returns-5 c =
     let a = c .before .before .before .before .before .before .before .before .before .before .before .before .before .before .before .before .before .before .before .before .before .before .before .before .args in

@@ -18,11 +18,9 @@ Inv-loop s₀ list q d b rows h₀ s h =
 abbrev μ-loop : tie.MeasureT-loop
 μ-loop s₀ list q d b rows h₀ s h = length list - h
 
--- src/lib.rt:124:5
 loop-holds : tie.Need-loop-holds Inv-loop μ-loop
 loop-holds c = (omega arith, refl, λ first k x. x)
 
--- src/lib.rt:126:9
 push-row-requires : tie.Need-push-row-requires Inv-loop μ-loop
 push-row-requires c κs =
     let a = c .before .before .before .before .before .before .before .before .before .before .args in
@@ -32,7 +30,6 @@ push-row-requires c κs =
     let less : c .before .get16 .result ≤ a .q = omega arith in
     (omega (arith, h .after, h .small), (omega (arith, h .small, mul-le-mul-left (a .d) less), omega arith))
 
--- src/lib.rt:124:5
 loop-again : tie.Need-loop-again Inv-loop μ-loop
 loop-again c =
     let a = c .before .before .before .before .before .before .before .before .before .before .before .before .before .args in
@@ -40,7 +37,6 @@ loop-again c =
     let e : c .before .before .before .before .get16 .result ≡ word (a .list .now) (lp .h) = c .before .before .before .before .get16 .ensures .0 in
     (search needs, search needs, λ first k x. filled-more (a .list .now) (a .q) (a .d) (a .b) (a .rows) first k (lp .h) (lp .s) (c .before .before .push-row .last .0) (omega arith) (lp .inv .2 first k x) (rw e at (c .before .before .push-row .ensures)))
 
--- src/lib.rt:118:1
 returns : tie.Need-returns Inv-loop μ-loop
 returns c =
     let a = c .before .before .before .before .before .before .before .before .args in

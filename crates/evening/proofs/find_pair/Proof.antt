@@ -16,27 +16,23 @@ Inv-loop s list apair from k l r none t₀ t = (t ≤ k) × Missed list apair fr
 abbrev μ-loop : tie.MeasureT-loop
 μ-loop s list apair from k l r none t₀ t = k - t
 
--- src/lib.rt:343:5
 loop-holds : tie.Need-loop-holds Inv-loop μ-loop
 loop-holds c =
     let a = c .before .before .args in
     (omega arith, missed-none (a .list .now) (a .apair) (a .from) (a .k) (a .l) (a .r) (a .none) (a .s .now))
 
--- src/lib.rt:347:13
 returns : tie.Need-returns Inv-loop μ-loop
 returns c =
     let a = c .before .before .before .before .before .before .before .before .args in
     let lp = c .before .before .before .before .before .loop in
     found-here (a .list .now) (a .apair) (a .from) (a .k) (a .l) (a .r) (a .none) (a .s .now) (lp .t) (c .before .before .before .get .result) (c .before .before .joins .result) (c .get2 .result) (omega arith) (c .before .before .before .get .ensures .0) (c .before .before .joins .ensures) (c .before .if1 .taken) (c .get2 .ensures .0)
 
--- src/lib.rt:343:5
 loop-again : tie.Need-loop-again Inv-loop μ-loop
 loop-again c =
     let a = c .before .before .before .before .before .before .before .args in
     let lp = c .before .before .before .before .loop in
     (omega arith, missed-more (a .list .now) (a .apair) (a .from) (a .k) (a .l) (a .r) (a .none) (a .s .now) (lp .t) (c .before .before .get .result) (c .before .joins .result) (lp .inv .1) (c .before .before .get .ensures .0) (c .before .joins .ensures) (c .if1 .left))
 
--- src/lib.rt:338:1
 returns-2 : tie.Need-returns-2 Inv-loop μ-loop
 returns-2 c =
     let a = c .before .before .before .before .args in

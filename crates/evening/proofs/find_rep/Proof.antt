@@ -11,14 +11,12 @@ use borrow.Author.Needs.{needs}
 use Rattle.evening.proofs.find_rep.Statement.{statement}
 use Rattle.evening.proofs.find_rep.Tie as tie
 
--- src/lib.rt:189:9
 returns : tie.Need-returns
 returns c =
     let a = c .before .before .before .before .before .before .before .before .before .before .before .before .before .args in
     let ew : c .before .before .before .before .before .before .before .before .get162 .result ≡ word (a .list .now) (mate (a .h)) = c .before .before .before .before .before .before .before .before .get162 .ensures .0 ∙ ap (λ n. word (a .list .now) n) (c .before .before .before .before .before .before .before .before .before .other-half .ensures) in
     rep-old (a .list .now) (a .map) (a .apair) (a .h) (a .s .now) (c .before .before .put .last .0) (c .before .before .before .before .before .before .before .before .before .before .get16 .result) (c .before .before .before .before .before .before .before .before .get162 .result) (c .before .before .before .before .before .before .get .result) (c .before .before .before .before .before .earlier .result) (c .before .before .before .before .before .before .before .before .before .before .get16 .ensures .0) ew (c .before .before .before .before .before .before .get .ensures .0) (c .before .before .before .before .before .earlier .ensures) (c .before .before .before .before .if1 .taken) (c .before .before .put .ensures)
 
--- src/lib.rt:177:1
 returns-2 : tie.Need-returns-2
 returns-2 c =
     let a = c .before .before .before .before .before .before .before .before .before .before .before .before .before .before .before .before .before .args in

@@ -2,7 +2,6 @@ use borrow.Author.Needs.{needs}
 use Rattle.evening.proofs.joins.Statement.{statement}
 use Rattle.evening.proofs.joins.Tie as tie
 
--- src/lib.rt:158:1
 returns : tie.Need-returns
 returns c =
     rw (c .before .before .get16 .ensures .0, c .before .get162 .ensures .0) at (c .same-ends .ensures)

@@ -8,19 +8,16 @@ use borrow.Author.Needs.{needs}
 use Rattle.evening.proofs.look_at.Statement.{statement}
 use Rattle.evening.proofs.look_at.Tie as tie
 
--- src/lib.rt:456:9
 returns : tie.Need-returns
 returns c =
     let a = c .before .before .before .before .before .before .before .before .before .before .args in
     look-none (a .n) (a .at .left) (a .at .right) (a .at .ends) (a .diag) (a .b) (a .e) (a .s .now) (c .before .before .before .before .before .before .get .result) (c .before .before .before .get2 .result) (c .before .get3 .result) (c .before .before .before .before .before .before .get .ensures .0) (c .before .before .before .get2 .ensures .0) (c .before .get3 .ensures .0) (omega arith)
 
--- src/lib.rt:462:9
 returns-2 : tie.Need-returns-2
 returns-2 c =
     let a = c .before .before .before .before .before .before .before .before .before .before .before .before .before .before .before .before .before .before .args in
     look-other (a .n) (a .at .left) (a .at .right) (a .at .ends) (a .diag) (a .b) (a .e) (a .s .now) (c .before .before .before .before .before .before .before .before .before .before .before .before .before .before .get .result) (c .before .before .before .before .before .before .before .before .before .before .before .get2 .result) (c .before .before .before .before .before .before .before .before .before .get3 .result) (c .before .before .before .before .before .before .before .before .before .before .before .before .before .before .get .ensures .0) (c .before .before .before .before .before .before .before .before .before .before .before .get2 .ensures .0) (c .before .before .before .before .before .before .before .before .before .get3 .ensures .0) (omega arith) (c .before .before .before .before .before .get4 .result) (c .before .before .get5 .result) (c .before .same-ends .result) (c .before .before .before .before .before .get4 .ensures .0) (c .before .before .get5 .ensures .0) (c .before .same-ends .ensures) (c .if2 .taken)
 
--- src/lib.rt:447:1
 returns-3 : tie.Need-returns-3
 returns-3 c =
     let a = c .before .before .before .before .before .before .before .before .before .before .before .before .before .before .before .before .before .before .before .before .before .before .args in

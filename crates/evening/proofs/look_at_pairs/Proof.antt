@@ -17,20 +17,17 @@ Inv-loop s₀ at diag b n m e₀ s e =
 abbrev μ-loop : tie.MeasureT-loop
 μ-loop s₀ at diag b n m e₀ s e = m - e
 
--- src/lib.rt:473:5
 loop-holds : tie.Need-loop-holds Inv-loop μ-loop
 loop-holds c =
     let a = c .before .args in
     (omega arith, refl, λ h. looked-none (a .n) (a .at .left) (a .at .right) (a .at .ends) (a .diag) (a .b) (a .m) (a .s .now) h)
 
--- src/lib.rt:473:5
 loop-again : tie.Need-loop-again Inv-loop μ-loop
 loop-again c =
     let a = c .before .before .before .before .before .before .before .args in
     let lp = c .before .before .before .before .before .loop in
     (search needs, search needs, λ h. looked-more (a .n) (a .at .left) (a .at .right) (a .at .ends) (a .diag) (a .b) (a .m) (a .s .now) h (lp .e) (lp .s) (c .before .before .look-at .last .0) (omega arith) (lp .inv .2 h) (c .before .before .look-at .ensures))
 
--- src/lib.rt:468:1
 returns : tie.Need-returns Inv-loop μ-loop
 returns c =
     let q : c .before .loop .e ≡ c .before .before .before .args .m = omega arith in

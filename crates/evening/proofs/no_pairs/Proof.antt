@@ -2,7 +2,6 @@ use borrow.Author.Needs.{needs}
 use Rattle.evening.proofs.no_pairs.Statement.{statement}
 use Rattle.evening.proofs.no_pairs.Tie as tie
 
--- src/lib.rt:265:1
 returns : tie.Need-returns
 returns c = cc
 

@@ -15,20 +15,17 @@ Inv-loop s₀ at k n p i₀ s i =
 abbrev μ-loop : tie.MeasureT-loop
 μ-loop s₀ at k n p i₀ s i = n - i
 
--- src/lib.rt:30:5
 loop-holds : tie.Need-loop-holds Inv-loop μ-loop
 loop-holds c =
     let a = c .before .args in
     (omega arith, omega (arith, c .before .pre .le), refl, λ h. padding-none (a .at) (a .k) (a .n) (a .p) (a .s .now) h)
 
--- src/lib.rt:30:5
 loop-again : tie.Need-loop-again Inv-loop μ-loop
 loop-again c =
     let a = c .before .before .before .before .before .before .before .args in
     let lp = c .before .before .before .before .before .loop in
     (search needs, search needs, search needs, λ h. padding-more (a .at) (a .k) (a .n) (a .p) (a .s .now) h (lp .i) (lp .s) (c .before .before .put .last .0) (lp .inv .0) (omega arith) (lp .inv .3 h) (c .before .before .put .ensures))
 
--- src/lib.rt:25:1
 returns : tie.Need-returns Inv-loop μ-loop
 returns c =
     let e : c .before .loop .i ≡ c .before .before .before .args .n = omega arith in

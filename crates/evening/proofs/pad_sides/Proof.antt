@@ -8,7 +8,6 @@ use borrow.Author.Needs.{needs}
 use Rattle.evening.proofs.pad_sides.Statement.{statement}
 use Rattle.evening.proofs.pad_sides.Tie as tie
 
--- src/lib.rt:38:1
 returns : tie.Need-returns
 returns c =
     let a = c .before .before .before .before .before .before .before .before .before .before .args in

@@ -8,13 +8,11 @@ use borrow.Author.Needs.{needs}
 use Rattle.evening.proofs.pair_of.Statement.{statement}
 use Rattle.evening.proofs.pair_of.Tie as tie
 
--- src/lib.rt:233:9
 returns : tie.Need-returns
 returns c =
     let a = c .before .before .before .before .args in
     pair-of-old (a .g) (a .apair) (a .i) (a .s .now) (c .before .before .get .result) (c .get2 .result) (c .before .before .get .ensures .0) (c .before .if1 .taken) (c .get2 .ensures .0)
 
--- src/lib.rt:227:1
 returns-2 : tie.Need-returns-2
 returns-2 c =
     let a = c .before .before .before .before .args in

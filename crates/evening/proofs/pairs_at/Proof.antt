@@ -9,25 +9,21 @@ use borrow.Author.Needs.{needs}
 use Rattle.evening.proofs.pairs_at.Statement.{statement}
 use Rattle.evening.proofs.pairs_at.Tie as tie
 
--- src/lib.rt:283:5
 fill-rows-requires : tie.Need-fill-rows-requires
 fill-rows-requires c κs =
     let a = c .before .before .before .args in
     rows-fit (a .list .now) (a .p) (a .d) (a .at .ends) (a .at .apair) (a .at .g) (a .u) (a .s .now) (c .before .before .before .pre)
 
--- src/lib.rt:284:5
 rep-rows-requires : tie.Need-rep-rows-requires
 rep-rows-requires c κs =
     let a = c .before .before .before .before .before .before .before .args in
     reps-fit (a .list .now) (a .p) (a .d) (a .at .ends) (a .at .apair) (a .at .g) (a .u) (a .s .now) (c .before .before .before .before .before .before .before .pre) (c .before .before .before .fill-rows .last .0) (c .before .before .before .fill-rows .ensures)
 
--- src/lib.rt:286:5
 add-appointments-requires : tie.Need-add-appointments-requires
 add-appointments-requires c κs =
     let a = c .before .before .before .before .before .before .before .before .before .before .before .before .before .before .before .args in
     started (a .list .now) (a .p) (a .d) (a .at .ends) (a .at .apair) (a .at .g) (a .u) (a .s .now) (c .before .before .before .before .before .before .before .before .before .before .before .before .before .before .before .pre) (c .before .before .before .before .before .before .before .before .before .before .before .fill-rows .last .0) (c .before .before .before .before .before .before .before .rep-rows .last .0) (c .before .before .before .no-pairs .last .0) (c .before .before .before .before .before .before .before .before .before .before .before .fill-rows .ensures) (c .before .before .before .before .before .before .before .rep-rows .ensures) (c .before .before .before .no-pairs .ensures)
 
--- src/lib.rt:275:1
 returns : tie.Need-returns
 returns c =
     let a = c .before .before .before .before .before .before .before .before .before .before .before .before .before .before .before .before .before .before .args in

@@ -2,7 +2,6 @@ use borrow.Author.Needs.{needs}
 use Rattle.evening.proofs.push_pair.Statement.{statement}
 use Rattle.evening.proofs.push_pair.Tie as tie
 
--- src/lib.rt:62:1
 returns : tie.Need-returns
 returns c = cc
 

@@ -2,7 +2,6 @@ use borrow.Author.Needs.{needs}
 use Rattle.evening.proofs.push_row.Statement.{statement}
 use Rattle.evening.proofs.push_row.Tie as tie
 
--- src/lib.rt:106:1
 returns : tie.Need-returns
 returns c = cc
 

@@ -19,34 +19,29 @@ Inv-loop s₀ list p d b rows map apair v n from t₀ s t =
 abbrev μ-loop : tie.MeasureT-loop
 μ-loop s₀ list p d b rows map apair v n from t₀ s t = n - t
 
--- src/lib.rt:202:23
 mul-from : tie.Need-mul-from Inv-loop μ-loop
 mul-from c =
     let a = c .before .before .before .before .args in
     let less : a .v ≤ a .p = omega (arith, c .before .before .before .before .pre .1) in
     omega (arith, mul-le-mul-left (a .d) less, c .before .before .before .before .pre .0 .after-rows, c .before .before .before .before .pre .0 .small)
 
--- src/lib.rt:202:16
 add-from : tie.Need-add-from Inv-loop μ-loop
 add-from c =
     let a = c .before .before .before .before .args in
     let less : a .v ≤ a .p = omega (arith, c .before .before .before .before .pre .1) in
     omega (arith, mul-le-mul-left (a .d) less, c .before .before .before .before .pre .0 .after-rows, c .before .before .before .before .pre .0 .small)
 
--- src/lib.rt:204:5
 loop-holds : tie.Need-loop-holds Inv-loop μ-loop
 loop-holds c =
     let a = c .before .before .before .before .args in
     (omega arith, refl, λ fit party. going-none (a .list .now) (a .p) (a .d) (a .b) (a .rows) (a .map) (a .apair) (a .s .now) fit (a .v) party)
 
--- src/lib.rt:205:24
 add-get-2 : tie.Need-add-get-2 Inv-loop μ-loop
 add-get-2 c =
     let a = c .before .before .before .before .before .before .before .args in
     let less : a .v ≤ a .p = omega (arith, c .before .before .before .before .before .before .before .pre .1) in
     omega (arith, mul-le-mul-left (a .d) less, c .before .before .before .before .before .before .before .pre .0 .after-rows, c .before .before .before .before .before .before .before .pre .0 .small, c .before .before .before .get .ensures .1)
 
--- src/lib.rt:204:5
 loop-again : tie.Need-loop-again Inv-loop μ-loop
 loop-again c =
     let a = c .before .before .before .before .before .before .before .before .before .before .before .before .args in
@@ -61,7 +56,6 @@ loop-again c =
           going-more (a .list .now) (a .p) (a .d) (a .b) (a .rows) (a .map) (a .apair) (a .s .now) fit (a .v) party (lp .t) (lp .s) inside g (c .before .before .find-rep .last .0) (rw h-is at (c .before .before .find-rep .ensures)),
     )
 
--- src/lib.rt:196:1
 returns : tie.Need-returns Inv-loop μ-loop
 returns c =
     let a = c .before .before .before .before .before .before .args in

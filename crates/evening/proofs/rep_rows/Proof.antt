@@ -17,27 +17,23 @@ Inv-loop s₀ list p d b rows map apair v₀ s v =
 abbrev μ-loop : tie.MeasureT-loop
 μ-loop s₀ list p d b rows map apair v₀ s v = p - v
 
--- src/lib.rt:217:5
 loop-holds : tie.Need-loop-holds Inv-loop μ-loop
 loop-holds c =
     let a = c .before .before .args in
     (omega arith, refl, λ fit. reps-none (a .list .now) (a .p) (a .d) (a .b) (a .rows) (a .map) (a .apair) (a .s .now) fit)
 
--- src/lib.rt:218:9
 rep-row-requires : tie.Need-rep-row-requires Inv-loop μ-loop
 rep-row-requires c κs =
     let a = c .before .before .before .before .before .args in
     let lp = c .before .before .loop in
     (reps-fit-kept (a .list .now) (a .p) (a .d) (a .b) (a .rows) (a .map) (a .apair) (a .s .now) (c .before .before .before .before .before .pre) (lp .s) (lp .inv .2 (c .before .before .before .before .before .pre) .changes), omega arith)
 
--- src/lib.rt:217:5
 loop-again : tie.Need-loop-again Inv-loop μ-loop
 loop-again c =
     let a = c .before .before .before .before .before .before .before .before .args in
     let lp = c .before .before .before .before .before .loop in
     (search needs, search needs, λ fit. reps-more (a .list .now) (a .p) (a .d) (a .b) (a .rows) (a .map) (a .apair) (a .s .now) fit (lp .v) (lp .s) (c .before .before .rep-row .last .0) (omega arith) (lp .inv .2 fit) (c .before .before .rep-row .ensures))
 
--- src/lib.rt:212:1
 returns : tie.Need-returns Inv-loop μ-loop
 returns c =
     let e : c .before .loop .v ≡ c .before .before .before .before .args .p = omega arith in

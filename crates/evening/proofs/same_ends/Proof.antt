@@ -9,25 +9,21 @@ use borrow.Author.Needs.{needs}
 use Rattle.evening.proofs.same_ends.Statement.{statement}
 use Rattle.evening.proofs.same_ends.Tie as tie
 
--- src/lib.rt:144:9
 returns : tie.Need-returns
 returns c =
     let a = c .before .args in
     inr (λ e. c .if1 .taken (sums-same (a .a) (a .b) (a .x) (a .y) e), refl)
 
--- src/lib.rt:147:9
 returns-2 : tie.Need-returns-2
 returns-2 c =
     let a = c .before .before .args in
     inl (ends-first (a .a) (a .b) (a .x) (a .y) (c .before .if1 .left) (c .if2 .taken), refl)
 
--- src/lib.rt:150:9
 returns-3 : tie.Need-returns-3
 returns-3 c =
     let a = c .before .before .before .args in
     inl (ends-second (a .a) (a .b) (a .x) (a .y) (c .before .before .if1 .left) (c .if3 .taken), refl)
 
--- src/lib.rt:139:1
 returns-4 : tie.Need-returns-4
 returns-4 c =
     let a = c .before .before .before .args in

@@ -17,22 +17,18 @@ Inv-loop s₀ t h n beta i₀ s i =
 abbrev μ-loop : tie.MeasureT-loop
 μ-loop s₀ t h n beta i₀ s i = n - i
 
--- src/lib.rt:161:5
 loop-holds : tie.Need-loop-holds Inv-loop μ-loop
 loop-holds c = (search needs, refl, λ most first f x. x)
 
--- src/lib.rt:161:5
 loop-again : tie.Need-loop-again Inv-loop μ-loop
 loop-again c =
     let lp = c .before .before .before .before .before .loop in
     let a = c .before .before .before .before .before .before .before .before .before .before .before .args in
     (search needs, c .before .before .add-pair .kept .0 ∙ lp .inv .1, λ most first f x. extending-more most (a .t) (a .h) (a .n) (a .beta) first f (lp .i) (lp .s) (c .before .before .add-pair .last .0) (c .before .before .before .before .loop-test .taken) (lp .inv .2 most first f x) (c .before .before .add-pair .ensures))
 
--- src/lib.rt:151:1
 same-length : tie.Need-same-length Inv-loop μ-loop
 same-length c = c .before .loop .inv .1 ∙ c .before .before .before .before .map-places .kept .0
 
--- src/lib.rt:151:1
 returns : tie.Need-returns Inv-loop μ-loop
 returns c =
     let lp = c .before .loop in

@@ -3,7 +3,6 @@ use borrow.Author.Needs.{needs}
 use Rattle.matching.proofs.add_pair.Statement.{statement}
 use Rattle.matching.proofs.add_pair.Tie as tie
 
--- src/lib.rt:136:1
 returns : tie.Need-returns
 returns c =
     rw (c .before .before .before .before .before .get .ensures .0) at (c .before .before .add-edge .ensures)

@@ -41,15 +41,12 @@ part-some c =
     (omega (arith, part-length (a .s .now) (a .first) (a .room) (omega arith), fits .0))
     (omega (arith, part-length (a .s .now) (a .first + a .room) (a .room) (fits .1), fits .0)))
 
--- src/lib.rt:77:13
 shared-slice-read-x : tie.Need-shared-slice-read-x
 shared-slice-read-x c = omega (arith, part-some c)
 
--- src/lib.rt:78:5
 cast-result : tie.Need-cast-result
 cast-result c = omega (arith, c .shared-slice-known2 .given 0)
 
--- src/lib.rt:69:1
 returns : tie.Need-returns
 returns c =
     let a = c .before .before .before .before .before .args in

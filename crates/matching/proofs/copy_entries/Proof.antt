@@ -17,20 +17,17 @@ Inv-loop s₀ from to alpha m i₀ s i =
 abbrev μ-loop : tie.MeasureT-loop
 μ-loop s₀ from to alpha m i₀ s i = m - i
 
--- src/lib.rt:104:5
 loop-holds : tie.Need-loop-holds Inv-loop μ-loop
 loop-holds c =
     let a = c .before .args in
     (search needs, refl, λ e can. copying-none (a .from) (a .to) (a .alpha) (a .s .now))
 
--- src/lib.rt:104:5
 loop-again : tie.Need-loop-again Inv-loop μ-loop
 loop-again c =
     let a = c .before .before .before .before .before .before .before .args in
     let lp = c .before .before .before .before .before .loop in
     (search needs, c .before .before .copy-entry .kept .0 ∙ lp .inv .1, λ e can. copying-more (a .from) (a .to) (a .alpha) (lp .i) (a .s .now) (lp .s) (c .before .before .copy-entry .last .0) can (omega arith) (lp .inv .2 e can) (c .before .before .copy-entry .ensures))
 
--- src/lib.rt:96:1
 returns : tie.Need-returns Inv-loop μ-loop
 returns c =
     let e : c .before .loop .i ≡ c .before .before .before .args .m = omega arith in

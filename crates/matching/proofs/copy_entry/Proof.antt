@@ -5,12 +5,10 @@ use borrow.Author.Needs.{needs}
 use Rattle.matching.proofs.copy_entry.Statement.{statement}
 use Rattle.matching.proofs.copy_entry.Tie as tie
 
--- src/lib.rt:92:28
 mul-put-3 : tie.Need-mul-put-3
 mul-put-3 c =
     record { fits = product-fits (c .before .before .before .before .before .before .before .before .before .before .args .alpha) (c .before .before .before .before .before .get2 .result) (omega arith) (c .before .before .before .before .before .get2 .ensures .1) }
 
--- src/lib.rt:82:1
 returns : tie.Need-returns
 returns c =
     rw (c .before .before .before .before .before .before .put .ensures, c .before .before .before .before .before .before .before .before .get2 .ensures .0, c .before .before .before .before .before .before .before .before .before .before .get .ensures .0) at (c .before .before .put2 .ensures)

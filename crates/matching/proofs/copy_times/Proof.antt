@@ -7,7 +7,6 @@ use borrow.Author.Needs.{needs}
 use Rattle.matching.proofs.copy_times.Statement.{statement}
 use Rattle.matching.proofs.copy_times.Tie as tie
 
--- src/lib.rt:111:1
 returns : tie.Need-returns
 returns c =
     let a = c .before .before .before .before .before .before .before .before .before .before .before .before .before .before .before .args in

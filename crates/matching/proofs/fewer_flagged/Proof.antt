@@ -6,12 +6,10 @@ use borrow.Author.Needs.{needs}
 use Rattle.matching.proofs.fewer_flagged.Statement.{statement}
 use Rattle.matching.proofs.fewer_flagged.Tie as tie
 
--- src/lib.rt:63:9
 returns : tie.Need-returns
 returns c =
     λ ends. rw (← c .before .before .flagged .ensures ends, ← c .before .flagged2 .ensures ends, le-leb (c .before .before .flagged .result) (c .before .flagged2 .result) (c .if1 .taken))
 
--- src/lib.rt:57:1
 returns-2 : tie.Need-returns-2
 returns-2 c =
     let h : c .before .flagged2 .result < c .before .before .flagged .result = omega arith in

@@ -17,25 +17,21 @@ Inv-loop g pairs by-copies m c₀ i₀ c i =
 abbrev μ-loop : tie.MeasureT-loop
 μ-loop g pairs by-copies m c₀ i₀ c i = m - i
 
--- src/lib.rt:49:5
 loop-holds : tie.Need-loop-holds Inv-loop μ-loop
 loop-holds c =
     let a = c .before .before .args in
     (omega arith, omega arith, sym (flagged-none (a .by-copies) (a .g .now) (a .pairs) 0))
 
--- src/lib.rt:50:9
 add-c : tie.Need-add-c Inv-loop μ-loop
 add-c c =
     omega (arith, c .before .before .loop .inv .1, c .flagged-at .ensures .1, c .before .before .before .get .ensures .1)
 
--- src/lib.rt:49:5
 loop-again : tie.Need-loop-again Inv-loop μ-loop
 loop-again c =
     let a = c .before .before .before .before .before .args in
     let lp = c .before .before .loop in
     (omega arith, omega (arith, lp .inv .1, c .flagged-at .ensures .1), omega (arith, lp .inv .2, c .flagged-at .ensures .0, flagged-more (a .by-copies) (a .g .now) (a .pairs) 0 (lp .i)))
 
--- src/lib.rt:43:1
 returns : tie.Need-returns Inv-loop μ-loop
 returns c =
     let a = c .before .before .before .before .args in

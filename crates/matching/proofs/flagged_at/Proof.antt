@@ -7,20 +7,17 @@ use borrow.Author.Needs.{needs}
 use Rattle.matching.proofs.flagged_at.Statement.{statement}
 use Rattle.matching.proofs.flagged_at.Tie as tie
 
--- src/lib.rt:34:9
 returns : tie.Need-returns
 returns c =
     let a = c .before .before .before .args in
     (entry-unflagged (a .by-copies) (a .g .now) (a .pairs) 0 (a .i) (c .before .get .result) (c .before .get .ensures .0) (c .if1 .taken), omega arith)
 
--- src/lib.rt:37:9
 returns-2 : tie.Need-returns-2
 returns-2 c =
     let a = c .before .before .before .before .before .args in
     let t : a .by-copies ≡ true = c .before .if2 .taken in
     (rw (← entry-flagged (a .by-copies) (a .g .now) (a .pairs) 0 (a .i) (c .before .before .before .get .result) (c .before .before .before .get .ensures .0) (omega arith), t) (c .get2 .ensures .0), c .get2 .ensures .1)
 
--- src/lib.rt:28:1
 returns-3 : tie.Need-returns-3
 returns-3 c =
     let a = c .before .before .before .before .args in

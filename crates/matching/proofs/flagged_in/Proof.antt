@@ -7,7 +7,6 @@ use borrow.Author.Needs.{needs}
 use Rattle.matching.proofs.flagged_in.Statement.{statement}
 use Rattle.matching.proofs.flagged_in.Tie as tie
 
--- src/lib.rt:209:1
 returns : tie.Need-returns
 returns c =
     let a = c .before .before .before .args in

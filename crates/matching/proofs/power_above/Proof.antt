@@ -11,24 +11,19 @@ Inv-loop m t₀ t = Doubling m t
 abbrev μ-loop : tie.MeasureT-loop
 μ-loop m t₀ t = m - t
 
--- src/lib.rt:21:5
 loop-holds : tie.Need-loop-holds Inv-loop μ-loop
 loop-holds c = doubling-none (c .args .m)
 
--- src/lib.rt:22:13
 mul-t : tie.Need-mul-t Inv-loop μ-loop
 mul-t c = omega arith
 
--- src/lib.rt:21:5
 loop-less : tie.Need-loop-less Inv-loop μ-loop
 loop-less c = omega (arith, c .before .loop .inv .positive)
 
--- src/lib.rt:21:5
 loop-again : tie.Need-loop-again Inv-loop μ-loop
 loop-again c =
     doubling-more (c .before .before .args .m) (c .before .loop .t) (c .loop-test .taken) (c .before .loop .inv)
 
--- src/lib.rt:16:1
 returns : tie.Need-returns Inv-loop μ-loop
 returns c =
     doubling-done (c .before .before .args .m) (c .before .loop .t) (omega arith) (c .before .loop .inv)

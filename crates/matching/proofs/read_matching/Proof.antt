@@ -17,13 +17,11 @@ Inv-loop s₀ h n out i₀ s i =
 abbrev μ-loop : tie.MeasureT-loop
 μ-loop s₀ h n out i₀ s i = n - i
 
--- src/lib.rt:253:5
 loop-holds : tie.Need-loop-holds Inv-loop μ-loop
 loop-holds c =
     let a = c .before .args in
     (search needs, refl, λ ends rows can. reading-none (a .h) (a .out) (a .s .now))
 
--- src/lib.rt:253:5
 loop-again : tie.Need-loop-again Inv-loop μ-loop
 loop-again c =
     let a = c .before .before .before .before .before .before .before .before .before .args in
@@ -31,7 +29,6 @@ loop-again c =
     let words : c .before .before .put .last .0 ≡ put-word (lp .s) (a .out + lp .i) (word (lp .s) (a .h + 2 + 2 * lp .i)) = rw (c .before .before .before .before .get .ensures .0) at (c .before .before .put .ensures) in
     (search needs, c .before .before .put .kept .0 ∙ lp .inv .1, λ ends rows can. reading-more ends rows (a .h) (a .n) (a .out) (lp .i) (a .s .now) (lp .s) (c .before .before .put .last .0) can (c .before .before .before .before .before .before .loop-test .taken) (lp .inv .2 ends rows can) words)
 
--- src/lib.rt:246:1
 returns : tie.Need-returns Inv-loop μ-loop
 returns c =
     let a = c .before .before .before .args in

@@ -4,7 +4,6 @@ use borrow.Author.Needs.{needs}
 use Rattle.matching.proofs.search_graph.Statement.{statement}
 use Rattle.matching.proofs.search_graph.Tie as tie
 
--- src/lib.rt:168:1
 returns : tie.Need-returns
 returns c =
     let a = c .before .before .before .before .before .before .before .before .before .args in

@@ -5,42 +5,34 @@ use borrow.Author.Needs.{needs}
 use Rattle.planning.proofs.bipartite_edge_color.Statement.{statement}
 use Rattle.planning.proofs.bipartite_edge_color.Tie as tie
 
--- src/lib.rt:131:32
 add-q : tie.Need-add-q
 add-q c =
     omega (arith, figures (c .before .before .before .before .before .before .before .args .p) (c .before .before .before .before .before .before .before .args .list .now) (c .before .before .before .before .before .before .before .args .slots .now) (c .before .before .before .before .before .before .before .args .scratch .now) (sym (c .before .checked2 .given .1) ∙ c .before .before .before .check-all .ensures) .1 .0)
 
--- src/lib.rt:131:21
 mul-q : tie.Need-mul-q
 mul-q c =
     omega (arith, figures (c .before .before .before .before .before .before .before .args .p) (c .before .before .before .before .before .before .before .args .list .now) (c .before .before .before .before .before .before .before .args .slots .now) (c .before .before .before .before .before .before .before .args .scratch .now) (sym (c .before .checked2 .given .1) ∙ c .before .before .before .check-all .ensures) .1 .1)
 
--- src/lib.rt:132:21
 mul-w : tie.Need-mul-w
 mul-w c =
     omega (arith, figures (c .before .before .before .before .before .before .before .args .p) (c .before .before .before .before .before .before .before .args .list .now) (c .before .before .before .before .before .before .before .args .slots .now) (c .before .before .before .before .before .before .before .args .scratch .now) (sym (c .before .checked2 .given .1) ∙ c .before .before .before .check-all .ensures) .1 .1)
 
--- src/lib.rt:133:30
 slice-relend-prefix-work-out-cleanly : tie.Need-slice-relend-prefix-work-out-cleanly
 slice-relend-prefix-work-out-cleanly c =
     words-there (c .before .before .before .before .before .before .before .args .p) (c .before .before .before .before .before .before .before .args .list .now) (c .before .before .before .before .before .before .before .args .slots .now) (c .before .before .before .before .before .before .before .args .scratch .now) (sym (c .before .checked2 .given .1) ∙ c .before .before .before .check-all .ensures)
 
--- src/lib.rt:133:30
 slice-aggregate-work-out-cleanly : tie.Need-slice-aggregate-work-out-cleanly
 slice-aggregate-work-out-cleanly c =
     taken-length (c .before .before .before .before .before .before .before .before .args .p) (c .before .before .before .before .before .before .before .before .args .list .now) (c .before .before .before .before .before .before .before .before .args .slots .now) (c .before .before .before .before .before .before .before .before .args .scratch .now) (sym (c .before .before .checked2 .given .1) ∙ c .before .before .before .before .check-all .ensures)
 
--- src/lib.rt:133:13
 work-out-cleanly-requires : tie.Need-work-out-cleanly-requires
 work-out-cleanly-requires c κs =
     (ready (c .before .before .before .before .before .before .before .before .before .args .p) (c .before .before .before .before .before .before .before .before .before .args .list .now) (c .before .before .before .before .before .before .before .before .before .args .slots .now) (c .before .before .before .before .before .before .before .before .before .args .scratch .now) (sym (c .before .before .before .checked2 .given .1) ∙ c .before .before .before .before .before .check-all .ensures), slot-room (c .before .before .before .before .before .before .before .before .before .args .p) (c .before .before .before .before .before .before .before .before .before .args .list .now) (c .before .before .before .before .before .before .before .before .before .args .slots .now) (c .before .before .before .before .before .before .before .before .before .args .scratch .now) (sym (c .before .before .before .checked2 .given .1) ∙ c .before .before .before .before .before .check-all .ensures))
 
--- src/lib.rt:120:1
 returns : tie.Need-returns
 returns c =
     refused-stated (c .before .before .before .before .before .before .before .args .p) (c .before .before .before .before .before .before .before .args .list .now) (c .before .before .before .before .before .before .before .args .slots .now) (c .before .before .before .before .before .before .before .args .scratch .now) (sym (c .before .checked .given .1) ∙ c .before .before .before .check-all .ensures)
 
--- src/lib.rt:120:1
 returns-2 : tie.Need-returns-2
 returns-2 c =
     planned-stated (c .before .before .before .before .before .before .before .before .before .before .before .before .before .before .args .p) (c .before .before .before .before .before .before .before .before .before .before .before .before .before .before .args .list .now) (c .before .before .before .before .before .before .before .before .before .before .before .before .before .before .args .slots .now) (c .before .before .before .before .before .before .before .before .before .before .before .before .before .before .args .scratch .now) (sym (c .before .before .before .before .before .before .before .before .checked2 .given .1) ∙ c .before .before .before .before .before .before .before .before .before .before .check-all .ensures) (c .before .before .before .before .work-out-cleanly .ensures)

@@ -3,17 +3,14 @@ use borrow.Author.Needs.{needs}
 use Rattle.planning.proofs.color_and_give.Statement.{statement}
 use Rattle.planning.proofs.color_and_give.Tie as tie
 
--- src/lib.rt:57:5
 color-requires : tie.Need-color-requires
 color-requires c κs =
     can-color (c .before .before .before .before .before .before .pre .0) (c .before .get .result) (c .before .get .ensures .0)
 
--- src/lib.rt:58:5
 give-slots-requires : tie.Need-give-slots-requires
 give-slots-requires c κs =
     small (c .before .before .before .before .before .before .before .before .before .before .before .pre .0) (c .before .before .before .before .color .last .0) (c .before .before .before .before .color .ensures .spares .len)
 
--- src/lib.rt:45:1
 returns : tie.Need-returns
 returns c =
     slots-planned (c .before .before .before .before .before .before .before .before .before .before .before .before .before .before .before .before .pre .0) (rw (c .before .before .before .before .before .before .before .before .before .before .before .get .ensures .0) at (c .before .before .before .before .before .before .before .before .before .color .ensures)) (c .before .before .before .before .before .before .before .before .before .before .before .before .before .before .before .before .args .slots .now) (c .before .before .before .before .before .before .before .before .before .before .before .before .before .before .before .before .pre .1) (c .before .before .before .before .give-slots .ensures)

@@ -5,26 +5,21 @@ use borrow.Author.Needs.{needs}
 use Rattle.planning.proofs.work_out.Statement.{statement}
 use Rattle.planning.proofs.work_out.Tie as tie
 
--- src/lib.rt:69:9
 returns : tie.Need-returns
 returns c =
     worked-none (c .before .before .before .before .args .p) (c .before .before .before .before .args .d) (c .before .before .before .before .args .list .now) (c .before .before .before .before .args .slots .now) (c .before .before .before .before .pre .0) (omega arith)
 
--- src/lib.rt:72:9
 two-sides-requires : tie.Need-two-sides-requires
 two-sides-requires c κs = can-two-color (c .before .before .before .before .before .pre .0)
 
--- src/lib.rt:74:9
 returns-2 : tie.Need-returns-2
 returns-2 c =
     worked-odd (c .before .before .before .before .before .before .before .before .before .before .args .p) (c .before .before .before .before .before .before .before .before .before .before .args .d) (c .before .before .before .before .before .before .before .before .before .before .args .list .now) (c .before .before .before .before .before .before .before .before .before .before .args .slots .now) (rw (c .enum-told .given .1) at (c .before .before .before .before .two-sides .ensures))
 
--- src/lib.rt:77:9
 prepare-requires : tie.Need-prepare-requires
 prepare-requires c κs =
     two-colored (c .before .before .before .before .before .before .before .before .before .before .before .before .pre .0) (omega arith) (rw (c .before .before .colored .given .1) at (c .before .before .before .before .before .before .two-sides .ensures))
 
--- src/lib.rt:63:1
 returns-3 : tie.Need-returns-3
 returns-3 c =
     worked-plan (c .before .before .before .before .before .before .before .before .before .before .before .before .before .before .before .before .before .before .before .before .before .before .args .p) (c .before .before .before .before .before .before .before .before .before .before .before .before .before .before .before .before .before .before .before .before .before .before .args .d) (c .before .before .before .before .before .before .before .before .before .before .before .before .before .before .before .before .before .before .before .before .before .before .args .list .now) (c .before .before .before .before .before .before .before .before .before .before .before .before .before .before .before .before .before .before .before .before .before .before .args .slots .now) (c .before .before .before .before .before .before .before .before .before .prepare .ensures .1 ∙ c .before .before .before .before .before .before .before .before .before .before .before .before .before .before .before .before .two-sides .ensures .keeps .len) (c .before .before .before .before .color-and-give .ensures)

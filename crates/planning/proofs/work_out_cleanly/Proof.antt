@@ -3,7 +3,6 @@ use borrow.Author.Needs.{needs}
 use Rattle.planning.proofs.work_out_cleanly.Statement.{statement}
 use Rattle.planning.proofs.work_out_cleanly.Tie as tie
 
--- src/lib.rt:83:1
 returns : tie.Need-returns
 returns c =
     worked-cleanly (c .before .before .before .before .before .before .before .before .before .before .before .before .before .before .pre .0) (c .before .before .before .before .before .before .before .before .work-out .ensures) (c .before .before .clear .ensures)

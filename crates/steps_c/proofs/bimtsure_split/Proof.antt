@@ -5,7 +5,6 @@ use borrow.Author.Needs.{needs}
 use Rattle.steps_c.proofs.bimtsure_split.Statement.{statement}
 use Rattle.steps_c.proofs.bimtsure_split.Tie as tie
 
--- src/lib.rt:90:22
 add-result : tie.Need-add-result
 add-result c =
     let a = c .before .before .before .before .before .args in

@@ -15,7 +15,6 @@ use borrow.Author.Needs.{needs}
 use Rattle.steps_c.proofs.bimtsure_two_color.Statement.{statement}
 use Rattle.steps_c.proofs.bimtsure_two_color.Tie as tie
 
--- src/lib.rt:36:9
 returns : tie.Need-returns
 returns c =
     let l = c .before .before .before .before .before .before .args .list .now in
@@ -26,7 +25,6 @@ returns c =
     let k = c .refused .ensures .1 in
     barred-says P l _ _ _ _ (k ∙ ap (λ q. refusal-number q % 4294967296) (told .1)) n
 
--- src/lib.rt:39:9
 two-sides-requires : tie.Need-two-sides-requires
 two-sides-requires c κs =
     let l = c .before .before .before .before .before .before .before .args .list .now in
@@ -38,7 +36,6 @@ two-sides-requires c κs =
     let e = checked-figure (checks P l (length l) w) (largest-load P (appts l)) D h in
     can-color P l (c .before .before .before .before .before .before .before .args .scratch .now) (length l) D e ok
 
--- src/lib.rt:43:19
 cast-t14 : tie.Need-cast-t14
 cast-t14 c =
     let l = c .before .before .before .before .before .before .before .before .before .before .before .before .before .args .list .now in
@@ -47,7 +44,6 @@ cast-t14 c =
     rw (c .before .colored .given .1) at (c .before .before .before .before .before .two-sides .ensures .answers) in
     omega (arith, a .0, c .before .before .before .before .before .before .before .before .before .before .before .before .before .fits .p)
 
--- src/lib.rt:29:1
 returns-2 : tie.Need-returns-2
 returns-2 c =
     let l = c .before .before .before .before .before .before .before .before .before .before .before .before .before .args .list .now in
@@ -56,7 +52,6 @@ returns-2 c =
     rw (c .before .colored .given .1) at (c .before .before .before .before .before .two-sides .ensures .answers) in
     record { found = λ z. (a .0, rw zero-add at (a .1)); refused = λ z. absurd (omega arith) }
 
--- src/lib.rt:29:1
 returns-3 : tie.Need-returns-3
 returns-3 c =
     let l = c .before .before .before .before .before .before .before .before .before .before .before .before .args .list .now in

@@ -5,11 +5,9 @@ use borrow.Author.Needs.{needs}
 use Rattle.steps_c.proofs.refused.Statement.{statement}
 use Rattle.steps_c.proofs.refused.Tie as tie
 
--- src/lib.rt:16:1
 returns : tie.Need-returns
 returns c = (refl, ap (λ q. refusal-number q % 4294967296) (sym (c .enum-told .given .1)))
 
--- src/lib.rt:16:1
 returns-2 : tie.Need-returns-2
 returns-2 c = (refl, ap (λ q. refusal-number q % 4294967296) (sym (c .before .checked .given .1)))
 

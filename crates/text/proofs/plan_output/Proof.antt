@@ -17,25 +17,21 @@ has-refused : (c : tie.After-answer2) → Answered (c .before .before .before .b
 has-refused c =
     told-answer (c .before .before .before .before .bipartite-edge-color .result) (answer.Refused (c .answer2 .given .0 .0) (c .answer2 .given .0 .1 .0)) _ (c .answer2 .given .1) (c .before .before .before .before .bipartite-edge-color .ensures .0)
 
--- src/lib.rt:25:31
 put-plan-requires : tie.Need-put-plan-requires
 put-plan-requires c κs =
     let a = c .before .before .before .before .before .before .before .before .before .before .before .args in
     plan-needs (a .p) (a .list .now) (c .before .before .before .answer .given .0 .0) _ (a .output .now) (has-planned (c .before .before .before)) (c .before .before .before .before .before .before .before .bipartite-edge-color .ensures .1 .0) (search needs)
 
--- src/lib.rt:26:43
 put-refusal-requires : tie.Need-put-refusal-requires
 put-refusal-requires c κs =
     let a = c .before .before .before .before .before .before .before .before .before .before .args in
     refusal-needs (a .p) (a .list .now) (c .before .before .answer2 .given .0 .0) (c .before .before .answer2 .given .0 .1 .0) (a .output .now) (has-refused (c .before .before)) (search needs)
 
--- src/lib.rt:18:1
 returns : tie.Need-returns
 returns c =
     let a = c .before .before .before .before .before .before .before .before .before .before .before .before .args in
     bytes-printed (a .p) (a .list .now) (planned (c .before .before .before .before .answer .given .0 .0)) (has-planned (c .before .before .before .before)) _ _ _ (rw (c .before .before .before .before .before .before .before .before .bipartite-edge-color .ensures .1 .0) at (c .put-plan .ensures))
 
--- src/lib.rt:18:1
 returns-2 : tie.Need-returns-2
 returns-2 c =
     let a = c .before .before .before .before .before .before .before .before .before .before .before .args in

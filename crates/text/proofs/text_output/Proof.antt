@@ -27,36 +27,29 @@ bad-line c =
     output-read bytes (malformed line) (c .before .before .before .before .before .if1 .left)
     (was-malformed bytes (c .before .before .before .read-text .result) line _ _ (c .read2 .given .1) (c .before .before .before .read-text .ensures))
 
--- src/lib.rt:39:16
 put-refusal-requires : tie.Need-put-refusal-requires
 put-refusal-requires c κs =
     output-room (c .before .before .before .args .input .now) (refusal-line 11 0) (c .before .before .before .args .output .now) (too-long (c .before)) (search needs)
 
--- src/lib.rt:39:16
 returns : tie.Need-returns
 returns c = output-printed (c .before .before .before .before .args .input .now) (refusal-line 11 0) _ _ _ (too-long (c .before .before)) (c .put-refusal .ensures)
 
--- src/lib.rt:44:54
 array-share-prefix-list : tie.Need-array-share-prefix-list
 array-share-prefix-list c = list-read (c .before) .inside
 
--- src/lib.rt:44:54
 slice-aggregate-plan-output : tie.Need-slice-aggregate-plan-output
 slice-aggregate-plan-output c = sym (length-take-le _ _ (list-read (c .before .before) .inside))
 
--- src/lib.rt:45:36
 put-refusal-requires-2 : tie.Need-put-refusal-requires-2
 put-refusal-requires-2 c κs =
     output-room (c .before .before .before .before .before .before .before .before .before .args .input .now) (refusal-line 10 (c .before .before .read2 .given .0 .0)) (c .before .before .before .before .before .before .before .before .before .args .output .now) (bad-line (c .before .before)) (search needs)
 
--- src/lib.rt:33:1
 returns-2 : tie.Need-returns-2
 returns-2 c =
     let bytes = c .before .before .before .before .before .before .before .before .before .before .before .args .input .now in
     let list = take (c .before .before .before .before .read .given .0 .1 .0) (c .before .before .before .before .before .before .before .read-text .last .1 .0) in
     output-printed bytes _ _ _ _ (output-read bytes (input (c .before .before .before .before .read .given .0 .0) list) (c .before .before .before .before .before .before .before .before .before .if1 .left) (list-read (c .before .before .before .before) .is)) (c .plan-output .ensures)
 
--- src/lib.rt:33:1
 returns-3 : tie.Need-returns-3
 returns-3 c =
     output-printed (c .before .before .before .before .before .before .before .before .before .before .args .input .now) (refusal-line 10 (c .before .before .before .read2 .given .0 .0)) _ _ _ (bad-line (c .before .before .before)) (c .put-refusal2 .ensures)

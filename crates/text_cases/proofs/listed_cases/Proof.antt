@@ -13,7 +13,6 @@ Inv-loop table tally₀ at₀ tally at = Unit {0}
 abbrev μ-loop : tie.MeasureT-loop
 μ-loop table tally₀ at₀ tally at = length table - at
 
--- src/main.rt:90:5
 loop-less : tie.Need-loop-less Inv-loop μ-loop
 loop-less c = omega (arith, c .before .next-case .ensures)
 

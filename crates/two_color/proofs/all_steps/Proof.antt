@@ -14,19 +14,16 @@ Inv-loop s₀ u p n k₀ s k = (k ≤ 2 * p) × (length s ≡ length s₀) × (s
 abbrev μ-loop : tie.MeasureT-loop
 μ-loop s₀ u p n k₀ s k = 2 * p - k
 
--- src/lib.rt:206:5
 loop-holds : tie.Need-loop-holds Inv-loop μ-loop
 unfolding stepsM
 loop-holds c = (omega arith, refl, refl)
 
--- src/lib.rt:206:5
 loop-again : tie.Need-loop-again Inv-loop μ-loop
 loop-again c =
     let a = c .before .before .before .before .before .before .before .args in
     let l = c .before .before .before .before .before .loop in
     (omega arith, search needs, c .before .before .step .ensures ∙ ap (stepM (a .u) (a .p)) (l .inv .2) ∙ sym (steps-more (a .u) (a .p) (a .s .now) (l .k)))
 
--- src/lib.rt:200:1
 returns : tie.Need-returns Inv-loop μ-loop
 returns c =
     let e : c .before .loop .k ≡ 2 * c .before .before .before .args .p = omega arith in

@@ -3,7 +3,6 @@ use borrow.Author.Needs.{needs}
 use Rattle.two_color.proofs.append.Statement.{statement}
 use Rattle.two_color.proofs.append.Tie as tie
 
--- src/lib.rt:26:1
 returns : tie.Need-returns
 unfolding appendM
 returns c = cc

@@ -3,7 +3,6 @@ use borrow.Author.Needs.{needs}
 use Rattle.two_color.proofs.clear_state.Statement.{statement}
 use Rattle.two_color.proofs.clear_state.Tie as tie
 
--- src/lib.rt:36:1
 returns : tie.Need-returns
 unfolding clearStateM
 returns c = cc

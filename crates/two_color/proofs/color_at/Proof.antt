@@ -8,13 +8,11 @@ use borrow.Author.Needs.{needs}
 use Rattle.two_color.proofs.color_at.Statement.{statement}
 use Rattle.two_color.proofs.color_at.Tie as tie
 
--- src/lib.rt:234:9
 returns : tie.Need-returns
 returns c =
     let a = c .before .before .before .args in
     none-colored (a .u) (a .list .now) (a .s .now) (a .p) (a .u + 2 * a .p) (c .if1 .taken) refl
 
--- src/lib.rt:240:9
 returns-2 : tie.Need-returns-2
 returns-2 c =
     let a = c .before .before .before .before .before .before .before .before .before .before .before .before .before .before .args in
@@ -25,7 +23,6 @@ returns-2 c =
     let n' : word (last-words (a .u) (a .p) (a .d) (a .list .now) (a .s .now)) (a .u + 4 * a .p) ≡ 0 → ⊥ = rw e at n in
     rw e (refused-colored (a .u) (a .p) (a .d) (a .list .now) (a .s .now) (c .before .before .before .before .before .before .before .before .before .before .before .before .before .before .pre) some (a .u + 2 * a .p) refl n')
 
--- src/lib.rt:227:1
 returns-3 : tie.Need-returns-3
 returns-3 c =
     let a = c .before .before .before .before .before .before .before .before .before .before .before .before .before .before .before .before .args in

@@ -3,13 +3,11 @@ use borrow.Author.Needs.{needs}
 use Rattle.two_color.proofs.color_party.Statement.{statement}
 use Rattle.two_color.proofs.color_party.Tie as tie
 
--- src/lib.rt:107:9
 returns : tie.Need-returns
 returns c =
     let a = c .before .before .before .before .before .before .before .before .before .before .before .before .before .before .args in
     cc (color-left (a .u) (a .p) (a .s .now) (a .w) (a .color) (c .before .before .before .before .if1 .taken))
 
--- src/lib.rt:98:1
 returns-2 : tie.Need-returns-2
 returns-2 c =
     let a = c .before .before .before .before .before .before .before .before .before .before .before .before .before .before .args in

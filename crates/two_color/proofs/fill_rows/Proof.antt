@@ -15,11 +15,9 @@ Inv-loop s₀ u p list near far i₀ s i =
 abbrev μ-loop : tie.MeasureT-loop
 μ-loop s₀ u p list near far i₀ s i = i
 
--- src/lib.rt:91:5
 loop-holds : tie.Need-loop-holds Inv-loop μ-loop
 loop-holds c = (omega arith, refl, refl)
 
--- src/lib.rt:91:5
 loop-again : tie.Need-loop-again Inv-loop μ-loop
 loop-again c =
     let a = c .before .before .before .before .before .before .before .before .args in
@@ -34,7 +32,6 @@ loop-again c =
           ∙ l .inv .2,
     )
 
--- src/lib.rt:84:1
 returns : tie.Need-returns Inv-loop μ-loop
 unfolding fillRowsM
 returns c =

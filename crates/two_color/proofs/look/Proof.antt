@@ -3,7 +3,6 @@ use borrow.Author.Needs.{needs}
 use Rattle.two_color.proofs.look.Statement.{statement}
 use Rattle.two_color.proofs.look.Tie as tie
 
--- src/lib.rt:132:1
 returns : tie.Need-returns
 unfolding lookM
 returns c = cc

@@ -8,14 +8,12 @@ use borrow.Author.Needs.{needs}
 use Rattle.two_color.proofs.next_party.Statement.{statement}
 use Rattle.two_color.proofs.next_party.Tie as tie
 
--- src/lib.rt:174:9
 returns : tie.Need-returns
 returns c =
     let a = c .before .before .before .before .args in
     let h : a .p ≤ word (a .s .now) (a .u + 4 * a .p + 1) = omega (arith, c .before .get .ensures .0, c .if1 .taken) in
     sym (next-none (a .u) (a .p) (a .s .now) h)
 
--- src/lib.rt:168:1
 returns-2 : tie.Need-returns-2
 returns-2 c =
     let a = c .before .before .before .before .before .before .before .before .before .before .before .before .before .before .before .args in
@@ -25,7 +23,6 @@ returns-2 c =
     ∙ ap (colorPartyM (a .u) (a .p) v 1) (c .before .before .before .before .before .before .before .put .ensures)
     ∙ sym (next-colors (a .u) (a .p) (a .s .now) v (sym (c .before .before .before .before .before .before .before .before .before .before .before .before .get .ensures .0)) below (sym (c .before .before .before .before .before .before .before .before .before .get2 .ensures .0) ∙ c .before .before .before .before .if2 .taken))
 
--- src/lib.rt:168:1
 returns-3 : tie.Need-returns-3
 returns-3 c =
     let a = c .before .before .before .before .before .before .before .before .before .before .before .args in

@@ -3,7 +3,6 @@ use borrow.Author.Needs.{needs}
 use Rattle.two_color.proofs.prepare.Statement.{statement}
 use Rattle.two_color.proofs.prepare.Tie as tie
 
--- src/lib.rt:213:1
 returns : tie.Need-returns
 unfolding preparedM
 returns c = cc

@@ -3,7 +3,6 @@ use borrow.Author.Needs.{needs}
 use Rattle.two_color.proofs.push_end.Statement.{statement}
 use Rattle.two_color.proofs.push_end.Tie as tie
 
--- src/lib.rt:73:1
 returns : tie.Need-returns
 unfolding pushEndM
 returns c = cc

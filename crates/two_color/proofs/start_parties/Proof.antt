@@ -15,26 +15,22 @@ Inv-loop s₀ u p d v₀ s v = (v ≤ p) × (length s ≡ length s₀) × (s ≡
 abbrev μ-loop : tie.MeasureT-loop
 μ-loop s₀ u p d v₀ s v = p - v
 
--- src/lib.rt:66:5
 loop-holds : tie.Need-loop-holds Inv-loop μ-loop
 unfolding startPartiesM
 loop-holds c = (omega arith, refl, refl)
 
--- src/lib.rt:67:9
 start-party-requires : tie.Need-start-party-requires Inv-loop μ-loop
 start-party-requires c κs =
     let h : c .before .before .loop .v ≤ c .before .before .before .before .args .p = omega arith in
     let a = c .before .before .before .before .args in
     (c .before .before .before .before .pre .0, (omega arith, omega (arith, mul-le-mul-left (a .d) h)))
 
--- src/lib.rt:66:5
 loop-again : tie.Need-loop-again Inv-loop μ-loop
 loop-again c =
     let a = c .before .before .before .before .before .before .before .args in
     let l = c .before .before .before .before .before .loop in
     (omega arith, search needs, c .before .before .start-party .ensures ∙ ap (startPartyM (a .u) (a .p) (a .d) (l .v)) (l .inv .2) ∙ sym (parties-more (a .u) (a .p) (a .s .now) (a .d) (l .v)))
 
--- src/lib.rt:60:1
 returns : tie.Need-returns Inv-loop μ-loop
 returns c =
     let e : c .before .loop .v ≡ c .before .before .before .args .p = omega arith in

@@ -3,7 +3,6 @@ use borrow.Author.Needs.{needs}
 use Rattle.two_color.proofs.start_party.Statement.{statement}
 use Rattle.two_color.proofs.start_party.Tie as tie
 
--- src/lib.rt:49:1
 returns : tie.Need-returns
 unfolding startPartyM
 returns c = cc

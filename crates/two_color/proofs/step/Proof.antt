@@ -8,20 +8,17 @@ use borrow.Author.Needs.{needs}
 use Rattle.two_color.proofs.step.Statement.{statement}
 use Rattle.two_color.proofs.step.Tie as tie
 
--- src/lib.rt:189:9
 returns : tie.Need-returns
 returns c =
     let a = c .before .before .before .before .args in
     sym (step-rests (a .u) (a .p) (a .s .now) (λ e. c .if1 .taken (c .before .get .ensures .0 ∙ e)))
 
--- src/lib.rt:194:9
 returns-2 : tie.Need-returns-2
 returns-2 c =
     let a = c .before .before .before .before .before .before .before .before .before .before .before .args in
     let h : word (a .s .now) (a .u + 4 * a .p) ≡ 0 = omega (arith, c .before .before .before .before .before .before .before .before .get .ensures .0, c .before .before .before .before .before .before .before .if1 .left) in
     c .before .before .next-party .ensures ∙ sym (step-next (a .u) (a .p) (a .s .now) h (sym (c .before .before .before .before .before .get2 .ensures .0) ∙ c .before .before .before .before .if2 .taken))
 
--- src/lib.rt:183:1
 returns-3 : tie.Need-returns-3
 returns-3 c =
     let a = c .before .before .before .before .before .before .before .before .before .before .before .args in

@@ -3,7 +3,6 @@ use borrow.Author.Needs.{needs}
 use Rattle.two_color.proofs.take_off.Statement.{statement}
 use Rattle.two_color.proofs.take_off.Tie as tie
 
--- src/lib.rt:157:1
 returns : tie.Need-returns
 unfolding takeOffM
 returns c = cc

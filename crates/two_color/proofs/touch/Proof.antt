@@ -7,20 +7,17 @@ use borrow.Author.Needs.{needs}
 use Rattle.two_color.proofs.touch.Statement.{statement}
 use Rattle.two_color.proofs.touch.Tie as tie
 
--- src/lib.rt:120:9
 returns : tie.Need-returns
 returns c =
     let a = c .before .before .before .before .args in
     sym (touch-rests (a .u) (a .p) (a .s .now) (a .color) (a .w) (λ e. c .if1 .taken (c .before .get .ensures .0 ∙ e)))
 
--- src/lib.rt:125:9
 returns-2 : tie.Need-returns-2
 returns-2 c =
     let a = c .before .before .before .before .before .before .before .before .before .before .before .args in
     let h : word (a .s .now) (a .u + 4 * a .p) ≡ 0 = omega (arith, c .before .before .before .before .before .before .before .before .get .ensures .0, c .before .before .before .before .before .before .before .if1 .left) in
     cc (touch-refuses (a .u) (a .p) (a .s .now) (a .color) (a .w) h (sym (c .before .before .before .before .before .get2 .ensures .0) ∙ c .before .before .before .before .if2 .taken))
 
--- src/lib.rt:113:1
 returns-3 : tie.Need-returns-3
 returns-3 c =
     let a = c .before .before .before .before .before .before .before .before .before .before .before .before .args in
@@ -28,7 +25,6 @@ returns-3 c =
     let e = c .before .before .before .before .before .before .get2 .ensures .0 in
     c .before .before .color-party .ensures ∙ sym (touch-colors (a .u) (a .p) (a .s .now) (a .color) (a .w) h (λ k. c .before .before .before .before .before .if2 .left (e ∙ k)) (sym e ∙ c .before .before .before .before .if3 .taken))
 
--- src/lib.rt:113:1
 returns-4 : tie.Need-returns-4
 returns-4 c =
     let a = c .before .before .before .before .before .before .before .before .args in

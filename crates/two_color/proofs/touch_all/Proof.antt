@@ -15,12 +15,10 @@ Inv-loop s₀ u p v color n row t₀ s t =
 abbrev μ-loop : tie.MeasureT-loop
 μ-loop s₀ u p v color n row t₀ s t = n - t
 
--- src/lib.rt:150:5
 loop-holds : tie.Need-loop-holds Inv-loop μ-loop
 unfolding looksM
 loop-holds c = (omega arith, refl, refl)
 
--- src/lib.rt:150:5
 loop-again : tie.Need-loop-again Inv-loop μ-loop
 loop-again c =
     let a = c .before .before .before .before .before .before .before .before .before .before .before .before .before .args in
@@ -32,7 +30,6 @@ loop-again c =
       c .before .before .look .ensures ∙ ap (lookM (a .u) (a .p) color (row + l .t)) (l .inv .2) ∙ sym (looks-more (a .u) (a .p) (a .s .now) color row (l .t)),
     )
 
--- src/lib.rt:141:1
 returns : tie.Need-returns Inv-loop μ-loop
 unfolding touchAllM
 returns c =

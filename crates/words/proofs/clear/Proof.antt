@@ -15,27 +15,21 @@ Inv-loop s₀ n i₀ s i = (i ≤ n) × (length s ≡ length s₀) × (s ≡ cle
 abbrev μ-loop : tie.MeasureT-loop
 μ-loop s₀ n i₀ s i = n - i
 
--- src/lib.rt:54:5
 loop-holds : tie.Need-loop-holds Inv-loop μ-loop
 loop-holds c = (search needs, refl, refl)
 
--- src/lib.rt:55:9
 mul-s : tie.Need-mul-s Inv-loop μ-loop
 mul-s c = search needs
 
--- src/lib.rt:55:9
 slice-write-s : tie.Need-slice-write-s Inv-loop μ-loop
 slice-write-s c = search needs
 
--- src/lib.rt:56:9
 add-i : tie.Need-add-i Inv-loop μ-loop
 add-i c = search needs
 
--- src/lib.rt:54:5
 loop-less : tie.Need-loop-less Inv-loop μ-loop
 loop-less c = search needs
 
--- src/lib.rt:54:5
 loop-again : tie.Need-loop-again Inv-loop μ-loop
 loop-again c =
     let inv = c .before .loop .inv in
@@ -45,11 +39,9 @@ loop-again c =
       ap (λ l. set l (c .before .loop .i) 0) (inv .2) ∙ cleared-more (c .before .loop .i) (c .before .before .args .s .now) h,
     )
 
--- src/lib.rt:49:1
 same-length : tie.Need-same-length Inv-loop μ-loop
 same-length c = search needs
 
--- src/lib.rt:49:1
 returns : tie.Need-returns Inv-loop μ-loop
 returns c =
     let inv = c .before .loop .inv in

@@ -8,23 +8,18 @@ use Rattle.words.proofs.get.Tie as tie
 use Rattle.words.proofs.get.Reads as reads
 use Rattle.words.proofs.get.Lts as lts
 
--- src/lib.rt:13:17
 mul-x : tie.Need-mul-x
 mul-x c = search needs
 
--- src/lib.rt:13:17
 shared-slice-read-x : tie.Need-shared-slice-read-x
 shared-slice-read-x c = search needs
 
--- src/lib.rt:14:16
 cast-result : tie.Need-cast-result
 cast-result c = omega (arith, c .shared-slice-known .given (c .before .before .args .i))
 
--- src/lib.rt:14:9
 returns : tie.Need-returns
 returns c = (refl, omega (arith, c .shared-slice-known .given (c .before .before .args .i)))
 
--- src/lib.rt:9:1
 returns-2 : tie.Need-returns-2
 returns-2 c =
     let h : length (c .before .args .s .now) ≤ c .before .args .i = omega arith in

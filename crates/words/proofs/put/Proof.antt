@@ -9,27 +9,21 @@ use Rattle.words.proofs.put.Tie as tie
 use Rattle.words.proofs.put.Reads as reads
 use Rattle.words.proofs.put.Lts as lts
 
--- src/lib.rt:24:16
 cast-s : tie.Need-cast-s
 cast-s c = search needs
 
--- src/lib.rt:24:9
 mul-s : tie.Need-mul-s
 mul-s c = search needs
 
--- src/lib.rt:24:9
 slice-write-s : tie.Need-slice-write-s
 slice-write-s c = search needs
 
--- src/lib.rt:20:1
 same-length : tie.Need-same-length
 same-length c = search needs
 
--- src/lib.rt:20:1
 returns : tie.Need-returns
 returns c = search needs
 
--- src/lib.rt:20:1
 returns-2 : tie.Need-returns-2
 returns-2 c =
     let h : length (c .before .args .s .now) ≤ c .before .args .i = omega arith in

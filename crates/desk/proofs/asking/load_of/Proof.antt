@@ -18,17 +18,14 @@ Inv-loop list party n₀ i₀ n i = (i ≤ length list) × (n ≡ count party (t
 abbrev μ-loop : tie.MeasureT-loop
 μ-loop list party n₀ i₀ n i = length list - i
 
--- src/asking.rt:20:5
 loop-holds : tie.Need-loop-holds Inv-loop μ-loop
 unfolding count
 loop-holds c = (omega arith, refl)
 
--- src/asking.rt:22:13
 add-n : tie.Need-add-n Inv-loop μ-loop
 add-n c =
     omega (arith, count-le (c .before .before .before .before .args .party) (take (c .before .before .before .loop .i) (c .before .before .before .before .args .list .now)), length-take (c .before .before .before .loop .i) (c .before .before .before .before .args .list .now))
 
--- src/asking.rt:20:5
 loop-again : tie.Need-loop-again Inv-loop μ-loop
 loop-again c =
     let a = c .before .before .before .before .args in
@@ -39,7 +36,6 @@ loop-again c =
     (λ w. (omega arith, omega (arith, more, is-ne {u = a .party} {v = getD (a .list .now) i 0} (λ e. w .0 .left (sym e)))))
     (c .if1 .came)
 
--- src/asking.rt:15:1
 returns : tie.Need-returns Inv-loop μ-loop
 returns c =
     let a = c .before .before .args in

@@ -5,25 +5,21 @@ use borrow.Author.Needs.{needs}
 use Rattle.desk.proofs.asking.waiting.Statement.{statement}
 use Rattle.desk.proofs.asking.waiting.Tie as tie
 
--- src/asking.rt:38:17
 returns : tie.Need-returns
 returns c =
     let a = c .before .before .before .before .before .before .args in
     asked-5 (a .p) (a .list .now) (a .party) (c .before .before .listed2 .given .0 .0) (sym (c .before .before .before .before .check-list .ensures) ∙ c .before .before .listed2 .given .1) (c .if1 .taken)
 
--- src/asking.rt:41:26
 sub-t12 : tie.Need-sub-t12
 sub-t12 c =
     let a = c .before .before .before .before .before .before .before .args in
     rw (c .load-of .ensures) (load-under (a .p) (a .list .now) (a .party) (c .before .before .before .listed2 .given .0 .0) (sym (c .before .before .before .before .before .check-list .ensures) ∙ c .before .before .before .listed2 .given .1) (c .before .if1 .left))
 
--- src/asking.rt:30:1
 returns-2 : tie.Need-returns-2
 returns-2 c =
     let a = c .before .before .before .before .before .args in
     asked-refused (a .p) (a .list .now) (a .party) (c .before .listed .given .0 .0) (c .before .listed .given .0 .1 .0) (sym (c .before .before .before .check-list .ensures) ∙ c .before .listed .given .1)
 
--- src/asking.rt:30:1
 returns-3 : tie.Need-returns-3
 returns-3 c =
     let a = c .before .before .before .before .before .before .before .args in

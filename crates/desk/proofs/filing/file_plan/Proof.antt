@@ -5,37 +5,31 @@ use borrow.Author.Needs.{needs}
 use Rattle.desk.proofs.filing.file_plan.Statement.{statement}
 use Rattle.desk.proofs.filing.file_plan.Tie as tie
 
--- src/filing.rt:62:9
 returns : tie.Need-returns
 returns c =
     let a = c .before .before .before .before .args in
     barred-1 (a .p) (a .list .now) (a .slots .now) (a .output .now) (c .if1 .taken)
 
--- src/filing.rt:65:9
 returns-2 : tie.Need-returns-2
 returns-2 c =
     let a = c .before .before .before .before .before .args in
     barred-2 (a .p) (a .list .now) (a .slots .now) (a .output .now) (c .before .if1 .left) (c .if2 .taken)
 
--- src/filing.rt:69:9
 returns-3 : tie.Need-returns-3
 returns-3 c =
     let a = c .before .before .before .before .before .before .args in
     barred-3 (a .p) (a .list .now) (a .slots .now) (a .output .now) (c .before .before .if1 .left) (c .before .if2 .left) (c .if3 .taken)
 
--- src/filing.rt:72:9
 returns-4 : tie.Need-returns-4
 returns-4 c =
     let a = c .before .before .before .before .before .before .before .args in
     barred-7 (a .p) (a .list .now) (a .slots .now) (a .output .now) (c .before .before .before .if1 .left) (c .before .before .if2 .left) (c .before .if3 .left) (c .if4 .taken)
 
--- src/filing.rt:76:9
 returns-5 : tie.Need-returns-5
 returns-5 c =
     let a = c .before .before .before .before .before .before .before .before .args in
     barred-13 (a .p) (a .list .now) (a .slots .now) (a .output .now) (c .before .before .before .before .if1 .left) (c .before .before .before .if2 .left) (c .before .before .if3 .left) (c .before .if4 .left) (c .if5 .taken)
 
--- src/filing.rt:57:1
 returns-6 : tie.Need-returns-6
 returns-6 c =
     let a = c .before .before .before .before .before .before .before .before .before .before .before .before .args in

@@ -6,33 +6,27 @@ use borrow.Author.Needs.{needs}
 use Rattle.desk.proofs.filing.number_at.Statement.{statement}
 use Rattle.desk.proofs.filing.number_at.Tie as tie
 
--- src/filing.rt:87:19
 cast-low : tie.Need-cast-low
 cast-low c = omega (arith, c .shared-slice-known .given (2 * c .before .before .args .k))
 
--- src/filing.rt:88:20
 cast-high : tie.Need-cast-high
 cast-high c =
     omega (arith, c .shared-slice-known2 .given (2 * c .before .before .before .args .k + 1))
 
--- src/filing.rt:89:22
 mul-result : tie.Need-mul-result
 mul-result c =
     omega (arith, c .shared-slice-known2 .given (2 * c .before .before .before .args .k + 1))
 
--- src/filing.rt:89:16
 add-result : tie.Need-add-result
 add-result c =
     omega (arith, c .shared-slice-known2 .given (2 * c .before .before .before .args .k + 1), c .shared-slice-known2 .given (2 * c .before .before .before .args .k))
 
--- src/filing.rt:89:9
 returns : tie.Need-returns
 returns c = (
   word-at (c .before .before .before .args .bytes .now) (c .before .before .before .args .k) (omega arith),
   omega (arith, c .shared-slice-known2 .given (2 * c .before .before .before .args .k + 1), c .shared-slice-known2 .given (2 * c .before .before .before .args .k)),
 )
 
--- src/filing.rt:83:1
 returns-2 : tie.Need-returns-2
 returns-2 c =
     (word-past (c .before .args .bytes .now) (c .before .args .k) (omega arith), omega arith)

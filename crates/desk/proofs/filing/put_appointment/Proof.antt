@@ -3,7 +3,6 @@ use borrow.Author.Needs.{needs}
 use Rattle.desk.proofs.filing.put_appointment.Statement.{statement}
 use Rattle.desk.proofs.filing.put_appointment.Tie as tie
 
--- src/filing.rt:31:1
 returns : tie.Need-returns
 returns c = cc
 

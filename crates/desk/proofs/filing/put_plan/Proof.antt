@@ -28,7 +28,6 @@ header-left c =
     header-put (a .p) (a .list .now) (a .slots .now) (a .output .now) _ _ (omega arith) (omega arith)
     (c .before .before .before .before .before .before .put-bytes .ensures) (c .before .before .put-bytes2 .ensures)
 
--- src/filing.rt:50:5
 loop-holds : tie.Need-loop-holds Inv-loop μ-loop
 loop-holds c =
     let a = c .before .before .before .before .before .before .before .before .before .before .before .args in (
@@ -40,7 +39,6 @@ loop-holds c =
       ),
     )
 
--- src/filing.rt:50:5
 loop-again : tie.Need-loop-again Inv-loop μ-loop
 loop-again c =
     let a = c .before .before .before .before .before .before .before .before .before .before .before .before .before .before .before .before .before .args in
@@ -54,7 +52,6 @@ loop-again c =
       ),
     )
 
--- src/filing.rt:42:1
 returns : tie.Need-returns Inv-loop μ-loop
 returns c =
     let a = c .before .before .before .before .before .before .before .before .before .before .before .before .before .args in

@@ -5,43 +5,36 @@ use borrow.Author.Needs.{needs}
 use Rattle.desk.proofs.filing.read_plan.Statement.{statement}
 use Rattle.desk.proofs.filing.read_plan.Tie as tie
 
--- src/filing.rt:130:9
 returns : tie.Need-returns
 returns c =
     let a = c .before .before .before .before .args in
     short-12 (a .bytes .now) (a .list .now) (a .slots .now) (c .if1 .taken)
 
--- src/filing.rt:135:9
 returns-2 : tie.Need-returns-2
 returns-2 c =
     let a = c .before .before .before .before .before .before .before .args in
     barred-12 (a .bytes .now) (a .list .now) (a .slots .now) (c .before .before .number-at .result) (c .before .number-at2 .result) (c .before .before .before .if1 .left) (c .before .before .number-at .ensures .0) (c .before .number-at2 .ensures .0) (c .if2 .taken)
 
--- src/filing.rt:138:9
 returns-3 : tie.Need-returns-3
 returns-3 c =
     let a = c .before .before .before .before .before .before .before .before .args in
     barred-1 (a .bytes .now) (a .list .now) (a .slots .now) (c .before .before .before .number-at .result) (c .before .before .number-at2 .result) (c .before .before .before .before .if1 .left) (c .before .before .before .number-at .ensures .0) (c .before .before .number-at2 .ensures .0) (c .before .if2 .left) (c .if3 .taken)
 
--- src/filing.rt:141:9
 returns-4 : tie.Need-returns-4
 returns-4 c =
     let a = c .before .before .before .before .before .before .before .before .before .args in
     barred-3 (a .bytes .now) (a .list .now) (a .slots .now) (c .before .before .before .before .number-at .result) (c .before .before .before .number-at2 .result) (c .before .before .before .before .before .if1 .left) (c .before .before .before .before .number-at .ensures .0) (c .before .before .before .number-at2 .ensures .0) (c .before .before .if2 .left) (c .before .if3 .left) (c .if4 .taken)
 
--- src/filing.rt:144:9
 returns-5 : tie.Need-returns-5
 returns-5 c =
     let a = c .before .before .before .before .before .before .before .before .before .before .args in
     list-13 (a .bytes .now) (a .list .now) (a .slots .now) (c .before .before .before .before .before .number-at .result) (c .before .before .before .before .number-at2 .result) (c .before .before .before .before .before .before .if1 .left) (c .before .before .before .before .before .number-at .ensures .0) (c .before .before .before .before .number-at2 .ensures .0) (c .before .before .before .if2 .left) (c .before .before .if3 .left) (c .before .if4 .left) (c .if5 .taken)
 
--- src/filing.rt:147:9
 returns-6 : tie.Need-returns-6
 returns-6 c =
     let a = c .before .before .before .before .before .before .before .before .before .before .before .args in
     slots-13 (a .bytes .now) (a .list .now) (a .slots .now) (c .before .before .before .before .before .before .number-at .result) (c .before .before .before .before .before .number-at2 .result) (c .before .before .before .before .before .before .before .if1 .left) (c .before .before .before .before .before .before .number-at .ensures .0) (c .before .before .before .before .before .number-at2 .ensures .0) (c .before .before .before .before .if2 .left) (c .before .before .before .if3 .left) (c .before .before .if4 .left) (c .if6 .taken)
 
--- src/filing.rt:124:1
 returns-7 : tie.Need-returns-7
 returns-7 c =
     let a = c .before .before .before .before .before .before .before .before .before .before .before .before .before .before .before .before .before .before .args in

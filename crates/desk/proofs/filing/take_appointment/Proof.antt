@@ -4,7 +4,6 @@ use borrow.Author.Needs.{needs}
 use Rattle.desk.proofs.filing.take_appointment.Statement.{statement}
 use Rattle.desk.proofs.filing.take_appointment.Tie as tie
 
--- src/filing.rt:95:1
 returns : tie.Need-returns
 returns c =
     let first = mod-eq-of-lt (c .before .before .before .before .before .before .before .before .before .before .before .before .before .before .number-at .ensures .1) in

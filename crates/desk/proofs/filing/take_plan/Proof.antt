@@ -19,7 +19,6 @@ Inv-loop bytes count list₀ slots₀ i₀ list slots i =
 abbrev μ-loop : tie.MeasureT-loop
 μ-loop bytes count list₀ slots₀ i₀ list slots i = count - i
 
--- src/filing.rt:117:5
 loop-again : tie.Need-loop-again Inv-loop μ-loop
 loop-again c =
     let a = c .before .before .before .before .before .before .before .before .before .before .before .before .args in
@@ -35,7 +34,6 @@ loop-again c =
       ),
     )
 
--- src/filing.rt:109:1
 same-length : tie.Need-same-length Inv-loop μ-loop
 same-length c =
     let s = c .before .before .before .before .before in
@@ -43,7 +41,6 @@ same-length c =
     ap length (c .before .loop .inv .1 .0)
     ∙ filled-length (rows-list (filed-rows (a .bytes .now))) (2 * c .before .loop .i) (a .list .now) (omega (arith, ends-long (a .bytes .now) (a .count) (s .pre .1 .0))) (omega arith)
 
--- src/filing.rt:109:1
 same-length-2 : tie.Need-same-length-2 Inv-loop μ-loop
 same-length-2 c =
     let s = c .before .before .before .before .before in
@@ -51,7 +48,6 @@ same-length-2 c =
     ap length (c .before .loop .inv .1 .1)
     ∙ filled-length (rows-slots (filed-rows (a .bytes .now))) (c .before .loop .i) (a .slots .now) (omega (arith, slots-long (a .bytes .now) (a .count) (s .pre .1 .0))) (omega arith)
 
--- src/filing.rt:109:1
 returns : tie.Need-returns Inv-loop μ-loop
 returns c =
     let all : c .before .loop .i ≡ c .before .before .before .before .before .args .count = omega arith in

@@ -6,12 +6,10 @@ use borrow.Author.Needs.{needs}
 use Rattle.desk.proofs.viewing.names_at.Statement.{statement}
 use Rattle.desk.proofs.viewing.names_at.Tie as tie
 
--- src/viewing.rt:39:9
 returns : tie.Need-returns
 returns c =
     named-first (c .before .before .args .party) (getD (c .before .before .args .list .now) (2 * c .before .before .args .i) 0) (getD (c .before .before .args .list .now) (2 * c .before .before .args .i + 1) 0) (c .if1 .taken)
 
--- src/viewing.rt:34:1
 returns-2 : tie.Need-returns-2
 returns-2 c =
     named-second (c .before .before .before .args .party) (getD (c .before .before .before .args .list .now) (2 * c .before .before .before .args .i) 0) (getD (c .before .before .before .args .list .now) (2 * c .before .before .before .args .i + 1) 0) (c .before .if1 .left)

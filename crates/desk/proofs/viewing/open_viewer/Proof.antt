@@ -5,17 +5,14 @@ use Rattle.desk.specs.Viewer.{viewer-answer}
 use Rattle.desk.proofs.viewing.open_viewer.Statement.{statement}
 use Rattle.desk.proofs.viewing.open_viewer.Tie as tie
 
--- src/viewing.rt:25:9
 returns : tie.Need-returns
 unfolding viewer-answer
 returns c = simp (eq-eqb _ _ (c .if1 .taken))
 
--- src/viewing.rt:28:9
 returns-2 : tie.Need-returns-2
 unfolding viewer-answer
 returns-2 c = simp (ne-eqb _ _ (c .before .if1 .left), appts-count, lt-ltb _ _ (c .if2 .taken))
 
--- src/viewing.rt:21:1
 returns-3 : tie.Need-returns-3
 unfolding viewer-answer
 returns-3 c = simp (ne-eqb _ _ (c .before .if1 .left), appts-count, le-ltb _ _ (c .if2 .left))

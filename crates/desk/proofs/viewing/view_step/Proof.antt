@@ -15,7 +15,6 @@ Inv-loop party list slots from count i₀ i = seek party list from ≡ seek part
 abbrev μ-loop : tie.MeasureT-loop
 μ-loop party list slots from count i₀ i = length list / 2 - i
 
--- src/viewing.rt:53:13
 returns : tie.Need-returns Inv-loop μ-loop
 returns c =
     let a = c .before .before .before .before .before .before .before .args in
@@ -24,14 +23,12 @@ returns c =
     c .before .before .before .before .loop .inv ∙ seek-here (a .party) (a .list .now) i (omega arith) (sym (c .before .before .names-at .ensures) ∙ c .before .if1 .taken) in
     rw (c .get16 .ensures .0) (told-found (a .party) (a .list .now) (a .slots .now) (a .from) i here)
 
--- src/viewing.rt:51:5
 loop-again : tie.Need-loop-again Inv-loop μ-loop
 loop-again c =
     let a = c .before .before .before .before .before .before .args in
     let i = c .before .before .before .loop .i in
     c .before .before .before .loop .inv ∙ seek-on (a .party) (a .list .now) i (omega arith) (sym (c .before .names-at .ensures) ∙ c .if1 .left)
 
--- src/viewing.rt:46:1
 returns-2 : tie.Need-returns-2 Inv-loop μ-loop
 returns-2 c =
     let a = c .before .before .before .before .args in

@@ -13,46 +13,37 @@ Inv-loop bytes v₀ i₀ v i = Digits-so-far bytes v i
 abbrev μ-loop : tie.MeasureT-loop
 μ-loop bytes v₀ i₀ v i = length bytes - i
 
--- src/parsing.rt:54:5
 loop-holds : tie.Need-loop-holds Inv-loop μ-loop
 loop-holds c = digits-start (c .args .bytes .now)
 
--- src/parsing.rt:55:17
 cast-b : tie.Need-cast-b Inv-loop μ-loop
 cast-b c = omega (arith, c .shared-slice-known .given (c .before .before .loop .i))
 
--- src/parsing.rt:57:13
 returns : tie.Need-returns Inv-loop μ-loop
 returns c =
     let inv = c .before .before .before .loop .inv in
     digits-other inv (omega arith) (below-digits _ (c .if1 .taken))
 
--- src/parsing.rt:60:13
 returns-2 : tie.Need-returns-2 Inv-loop μ-loop
 returns-2 c =
     let inv = c .before .before .before .before .loop .inv in
     digits-other inv (omega arith) (above-digits _ (c .if2 .taken))
 
--- src/parsing.rt:62:13
 mul-v : tie.Need-mul-v Inv-loop μ-loop
 mul-v c = omega (arith, digits-small (c .before .before .before .before .loop .inv) (omega arith))
 
--- src/parsing.rt:62:13
 add-v : tie.Need-add-v Inv-loop μ-loop
 add-v c =
     omega (arith, digits-small (c .before .before .before .before .loop .inv) (omega arith), c .before .before .shared-slice-known .given (c .before .before .before .before .loop .i))
 
--- src/parsing.rt:54:5
 loop-less : tie.Need-loop-less Inv-loop μ-loop
 loop-less c = omega arith
 
--- src/parsing.rt:54:5
 loop-again : tie.Need-loop-again Inv-loop μ-loop
 loop-again c =
     let inv = c .before .before .before .before .loop .inv in
     digits-more inv (omega arith) (omega arith) (omega arith)
 
--- src/parsing.rt:48:1
 returns-3 : tie.Need-returns-3 Inv-loop μ-loop
 returns-3 c = digits-all (c .before .loop .inv) (omega arith)
 

@@ -5,11 +5,9 @@ use borrow.Author.Needs.{needs}
 use Rattle.text.proofs.parsing.end_in.Statement.{statement}
 use Rattle.text.proofs.parsing.end_in.Tie as tie
 
--- src/parsing.rt:93:9
 returns : tie.Need-returns
 returns c = end-empty (c .before .before .args .bytes .now) (c .if1 .taken)
 
--- src/parsing.rt:89:1
 returns-2 : tie.Need-returns-2
 returns-2 c =
     c .number-in .ensures ∙ end-filled (c .before .before .before .args .bytes .now) (c .before .if1 .left)

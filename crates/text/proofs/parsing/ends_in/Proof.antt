@@ -9,38 +9,32 @@ use borrow.Author.Needs.{needs}
 use Rattle.text.proofs.parsing.ends_in.Statement.{statement}
 use Rattle.text.proofs.parsing.ends_in.Tie as tie
 
--- src/parsing.rt:104:9
 returns : tie.Need-returns
 returns c =
     ends-unparted (c .before .before .before .args .line .now) (c .before .find .result) (c .before .find .ensures) (c .if1 .taken)
 
--- src/parsing.rt:108:9
 returns-2 : tie.Need-returns-2
 returns-2 c =
     let line = c .before .before .before .before .before .before .args .line .now in
     let i = c .before .before .before .before .find .result in
     ends-three line _ i (c .before .find2 .result) (c .before .before .before .before .find .ensures) (omega (arith, c .before .before .before .before .find .ensures .inside)) (to-the-end line (i + 1)) (c .before .find2 .ensures) (c .if2 .taken)
 
--- src/parsing.rt:110:24
 slice-aggregate-end-in : tie.Need-slice-aggregate-end-in
 slice-aggregate-end-in c =
     sym (length-take-le (c .before .before .before .before .before .find .result) (c .before .before .before .before .before .before .before .args .line .now) (c .before .before .before .before .before .find .ensures .inside))
 
--- src/parsing.rt:112:9
 returns-3 : tie.Need-returns-3
 returns-3 c =
     let line = c .before .before .before .before .before .before .before .before .before .before .args .line .now in
     let i = c .before .before .before .before .before .before .before .before .find .result in
     ends-no-first line _ i (c .before .before .before .before .before .find2 .result) (c .before .before .before .before .before .before .before .before .find .ensures) (omega (arith, c .before .before .before .before .before .before .before .before .find .ensures .inside)) (to-the-end line (i + 1)) (c .before .before .before .before .before .find2 .ensures) (c .before .before .before .before .if2 .left) (sym (c .enum-told .given .1) ∙ c .before .before .end-in .ensures)
 
--- src/parsing.rt:116:9
 returns-4 : tie.Need-returns-4
 returns-4 c =
     let line = c .before .before .before .before .before .before .before .before .before .before .before .before .before .before .args .line .now in
     let i = c .before .before .before .before .before .before .before .before .before .before .before .before .find .result in
     ends-no-second line _ i (c .before .before .before .before .before .before .before .before .before .find2 .result) (c .before .before .before .before .before .before .before .before .before .before .before .before .find .ensures) (omega (arith, c .before .before .before .before .before .before .before .before .before .before .before .before .find .ensures .inside)) (to-the-end line (i + 1)) (c .before .before .before .before .before .before .before .before .before .find2 .ensures) (c .before .before .before .before .before .before .before .before .if2 .left) (sym (c .enum-told2 .given .1) ∙ c .before .before .end-in2 .ensures)
 
--- src/parsing.rt:99:1
 returns-5 : tie.Need-returns-5
 returns-5 c =
     let line = c .before .before .before .before .before .before .before .before .before .before .before .before .before .before .before .args .line .now in

@@ -15,17 +15,14 @@ Inv-loop bytes separator i₀ i =
 abbrev μ-loop : tie.MeasureT-loop
 μ-loop bytes separator i₀ i = length bytes - i
 
--- src/parsing.rt:40:13
 returns : tie.Need-returns Inv-loop μ-loop
 returns c =
     record { inside = omega arith; before = c .before .before .before .loop .inv .1; here = λ h. c .if1 .taken }
 
--- src/parsing.rt:38:5
 loop-again : tie.Need-loop-again Inv-loop μ-loop
 loop-again c =
     (search needs, below-more _ _ (c .before .before .before .loop .inv .1) (c .if1 .left))
 
--- src/parsing.rt:34:1
 returns-2 : tie.Need-returns-2 Inv-loop μ-loop
 returns-2 c =
     record { inside = omega arith; before = c .before .loop .inv .1; here = λ h. absurd (omega arith) }

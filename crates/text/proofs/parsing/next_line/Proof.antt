@@ -8,24 +8,20 @@ use borrow.Author.Needs.{needs}
 use Rattle.text.proofs.parsing.next_line.Statement.{statement}
 use Rattle.text.proofs.parsing.next_line.Tie as tie
 
--- src/parsing.rt:129:9
 returns : tie.Need-returns
 returns c =
     let a = c .before .before .before .before .args in
     line-unended (a .bytes .now) _ (a .from) (c .before .find .result) (to-the-end (a .bytes .now) (a .from)) (c .before .before .before .before .pre) (c .before .find .ensures) (c .if1 .taken)
 
--- src/parsing.rt:131:24
 slice-aggregate-ends-in : tie.Need-slice-aggregate-ends-in
 slice-aggregate-ends-in c =
     sym (length-take-le (c .before .before .find .result) _ (c .before .before .find .ensures .inside))
 
--- src/parsing.rt:133:9
 returns-2 : tie.Need-returns-2
 returns-2 c =
     let a = c .before .before .before .before .before .before .before .before .args in
     line-malformed (a .bytes .now) _ (a .from) (c .before .before .before .before .before .find .result) (to-the-end (a .bytes .now) (a .from)) (c .before .before .before .before .before .before .before .before .pre) (c .before .before .before .before .before .find .ensures) (omega (arith, c .before .before .before .before .before .find .ensures .inside)) (sym (c .enum-told .given .1) ∙ c .before .before .ends-in .ensures)
 
--- src/parsing.rt:122:1
 returns-3 : tie.Need-returns-3
 returns-3 c =
     let a = c .before .before .before .before .before .before .before .before .before .args in

@@ -5,27 +5,22 @@ use borrow.Author.Needs.{needs}
 use Rattle.text.proofs.parsing.number_in.Statement.{statement}
 use Rattle.text.proofs.parsing.number_in.Tie as tie
 
--- src/parsing.rt:73:9
 returns : tie.Need-returns
 returns c = number-empty (c .before .before .args .bytes .now) (c .if1 .taken)
 
--- src/parsing.rt:76:9
 returns-2 : tie.Need-returns-2
 returns-2 c = number-long (c .before .before .before .args .bytes .now) (c .if2 .taken)
 
--- src/parsing.rt:80:9
 returns-3 : tie.Need-returns-3
 returns-3 c =
     let a = c .before .before .before .before .before .before .args .bytes .now in
     number-other a (c .before .before .before .before .if1 .left) (c .before .before .before .if2 .left) (sym (c .enum-told .given .1) ∙ c .before .before .digits-in .ensures)
 
--- src/parsing.rt:83:9
 returns-4 : tie.Need-returns-4
 returns-4 c =
     let a = c .before .before .before .before .before .before .before .before .args .bytes .now in
     number-large a (c .before .before .before .before .before .before .if1 .left) (c .before .before .before .before .before .if2 .left) (c .before .before .value .given .0 .0) (sym (c .before .before .value .given .1) ∙ c .before .before .before .before .digits-in .ensures) (c .if3 .taken)
 
--- src/parsing.rt:69:1
 returns-5 : tie.Need-returns-5
 returns-5 c =
     let a = c .before .before .before .before .before .before .before .before .args .bytes .now in

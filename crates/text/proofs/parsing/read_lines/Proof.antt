@@ -13,45 +13,37 @@ Inv-loop p bytes list₀ n₀ count₀ from₀ list n count from = So-far p byte
 abbrev μ-loop : tie.MeasureT-loop
 μ-loop p bytes list₀ n₀ count₀ from₀ list n count from = length bytes - from
 
--- src/parsing.rt:155:5
 loop-holds : tie.Need-loop-holds Inv-loop μ-loop
 loop-holds c =
     let a = c .before .before .args in
     so-far-start (a .p) (a .bytes .now) (a .list .now)
 
--- src/parsing.rt:158:13
 same-length : tie.Need-same-length Inv-loop μ-loop
 same-length c =
     so-far-length (c .before .before .before .before .loop .inv) (c .before .before .before .before .before .before .before .pre)
 
--- src/parsing.rt:158:13
 returns : tie.Need-returns Inv-loop μ-loop
 returns c =
     so-far-malformed (c .before .before .before .before .loop .inv) (c .before .before .before .before .before .before .before .pre) (told-malformed (c .before .before .before .before .before .before .before .args .bytes .now) (c .before .before .before .before .loop .from) (c .enum-told .given .1) (c .before .before .next-line .ensures))
 
--- src/parsing.rt:160:9
 put-ends-requires : tie.Need-put-ends-requires Inv-loop μ-loop
 put-ends-requires c κs =
     let o = told-line (c .before .before .line .given .1) (c .before .before .before .before .next-line .ensures) in
     (omega (arith, so-far-length (c .before .before .before .before .before .before .loop .inv) (c .before .before .before .before .before .before .before .before .before .pre)), (o .first-end, o .second-end))
 
--- src/parsing.rt:155:5
 loop-less : tie.Need-loop-less Inv-loop μ-loop
 loop-less c =
     let o = told-line (c .before .before .before .before .before .line .given .1) (c .before .before .before .before .before .before .before .next-line .ensures) in
     omega arith
 
--- src/parsing.rt:155:5
 loop-again : tie.Need-loop-again Inv-loop μ-loop
 loop-again c =
     let o = told-line (c .before .before .before .before .before .line .given .1) (c .before .before .before .before .before .before .before .next-line .ensures) in
     rw (c .before .before .put-ends .ensures) (so-far-more (c .before .before .before .before .before .before .before .before .before .loop .inv) (c .before .before .before .before .before .before .before .before .before .before .before .before .pre) _ _ _ o)
 
--- src/parsing.rt:148:1
 same-length-2 : tie.Need-same-length-2 Inv-loop μ-loop
 same-length-2 c = so-far-length (c .before .loop .inv) (c .before .before .before .before .pre)
 
--- src/parsing.rt:148:1
 returns-2 : tie.Need-returns-2 Inv-loop μ-loop
 returns-2 c =
     so-far-all (c .before .loop .inv) (c .before .before .before .before .pre) (omega arith)

@@ -13,29 +13,24 @@ use borrow.Author.Needs.{needs}
 use Rattle.text.proofs.parsing.read_text.Statement.{statement}
 use Rattle.text.proofs.parsing.read_text.Tie as tie
 
--- src/parsing.rt:176:9
 returns : tie.Need-returns
 returns c =
     text-unended (c .before .before .before .before .args .input .now) (c .before .find .result) (c .before .find .ensures) (c .if1 .taken) _ _
 
--- src/parsing.rt:178:29
 slice-aggregate-number-in : tie.Need-slice-aggregate-number-in
 slice-aggregate-number-in c =
     sym (length-take-le (c .before .before .find .result) (c .before .before .before .before .before .args .input .now) (c .before .before .find .ensures .inside))
 
--- src/parsing.rt:180:9
 returns-2 : tie.Need-returns-2
 returns-2 c =
     text-no-number (c .before .before .before .before .before .before .before .before .args .input .now) (c .before .before .before .before .before .find .result) (c .before .before .before .before .before .find .ensures) (omega (arith, c .before .before .before .before .before .find .ensures .inside)) (sym (c .enum-told .given .1) ∙ c .before .before .number-in .ensures) _ _
 
--- src/parsing.rt:182:16
 cast-read-lines : tie.Need-cast-read-lines
 cast-read-lines c =
     let bytes = take (c .before .before .before .before .before .before .find .result) (c .before .before .before .before .before .before .before .before .before .args .input .now) in
     let some-number = is-some (c .before .parties .given .0 .0) (number bytes) (sym (c .before .parties .given .1) ∙ c .before .before .before .number-in .ensures) in
     omega (arith, number-is bytes (c .before .parties .given .0 .0) some-number)
 
--- src/parsing.rt:170:1
 returns-3 : tie.Need-returns-3
 returns-3 c =
     let input = c .before .before .before .before .before .before .before .before .before .before .before .before .before .before .args .input .now in

@@ -23,7 +23,6 @@ abbrev put-decimal-below : ℕ → In 1 put-decimal-kinds.ps
 put-decimal-below t =
     and 1 put-decimal-kinds.ps (falls 1 put-decimal-kinds.ps _<_ μ-put-decimal t) put-decimal.Pre
 
--- src/putting.rt:42:9
 put-decimal-put-byte-requires : (t : ℕ) → put-decimal-lts.Need-put-byte-requires (
   put-byte-reads.Asked,
   put-byte-reads.Learnt,
@@ -34,7 +33,6 @@ put-decimal-put-byte-requires t c κs =
     let n = c .before .before .before .args .n in
     rw (decimal-small n (c .before .if1 .taken)) at (c .before .before .before .pre .1)
 
--- src/putting.rt:42:9
 put-decimal-returns : (t : ℕ) → put-decimal-lts.Need-returns (
   put-byte-reads.Asked,
   put-byte-reads.Learnt,
@@ -45,7 +43,6 @@ put-decimal-returns t c =
     let n = c .before .before .before .before .before .before .args .n in
     rw (decimal-small n (c .before .before .before .before .if1 .taken)) (c .before .before .put-byte .ensures)
 
--- src/putting.rt:44:9
 put-decimal-put-decimal-requires : (t : ℕ) → put-decimal-lts.Need-put-decimal-requires (
   put-byte-reads.Asked,
   put-byte-reads.Learnt,
@@ -56,7 +53,6 @@ put-decimal-put-decimal-requires t c κs =
     let a = c .before .before .before .args in
     (omega (arith, c .before .before .before .pre .0), room-first _ (rw (decimal-large (a .n) (c .before .if1 .left)) at (c .before .before .before .pre .1)))
 
--- src/putting.rt:45:5
 put-decimal-put-byte-requires-2 : (t : ℕ) → put-decimal-lts.Need-put-byte-requires-2 (
   put-byte-reads.Asked,
   put-byte-reads.Learnt,
@@ -67,7 +63,6 @@ put-decimal-put-byte-requires-2 t c κs =
     let n = c .before .before .before .before .before .before .before .args .n in
     room-then _ (rw (decimal-large n (c .before .before .before .before .before .if1 .left)) at (c .before .before .before .before .before .before .before .pre .1)) (c .before .before .before .put-decimal .ensures)
 
--- src/putting.rt:37:1
 put-decimal-returns-2 : (t : ℕ) → put-decimal-lts.Need-returns-2 (
   put-byte-reads.Asked,
   put-byte-reads.Learnt,

@@ -24,26 +24,21 @@ fields c =
 room : (c : tie.After-get163) → Room (c .before .before .before .before .before .before .args .out .now) (c .before .before .before .before .before .before .args .at) (Fields c)
 room c = rw (fields c) at (c .before .before .before .before .before .before .pre .1)
 
--- src/putting.rt:65:9
 put-field-requires : tie.Need-put-field-requires
 put-field-requires c κs = room-first _ (room (c .before))
 
--- src/putting.rt:66:9
 put-field-requires-2 : tie.Need-put-field-requires-2
 put-field-requires-2 c κs =
     room-first _ (room-then _ (room (c .before .before .before .before .before)) (c .before .before .before .put-field .ensures))
 
--- src/putting.rt:67:9
 put-field-requires-3 : tie.Need-put-field-requires-3
 put-field-requires-3 c κs =
     room-first _ (room-then _ (room-then _ (room (c .before .before .before .before .before .before .before .before .before)) (c .before .before .before .before .before .before .before .put-field .ensures)) (c .before .before .before .put-field2 .ensures))
 
--- src/putting.rt:68:5
 put-field-requires-4 : tie.Need-put-field-requires-4
 put-field-requires-4 c κs =
     room-then _ (room-then _ (room-then _ (room (c .before .before .before .before .before .before .before .before .before .before .before .before .before)) (c .before .before .before .before .before .before .before .before .before .before .before .put-field .ensures)) (c .before .before .before .before .before .before .before .put-field2 .ensures)) (c .before .before .before .put-field3 .ensures)
 
--- src/putting.rt:58:1
 returns : tie.Need-returns
 returns c =
     rw (fields (c .before .before .before .before .before .before .before .before .before .before .before .before .before .before .before .before))

@@ -17,30 +17,25 @@ Inv-loop list slots out₀ start count at₀ i₀ out at i =
 abbrev μ-loop : tie.MeasureT-loop
 μ-loop list slots out₀ start count at₀ i₀ out at i = count - i
 
--- src/putting.rt:79:5
 loop-holds : tie.Need-loop-holds Inv-loop μ-loop
 loop-holds c =
     (omega arith, underway-start (c .before .before .before .args .out .now) (c .before .before .before .args .start) _)
 
--- src/putting.rt:80:9
 put-appointment-requires : tie.Need-put-appointment-requires Inv-loop μ-loop
 put-appointment-requires c κs =
     let a = c .before .before .before .before .before .before .args in
     let next = appointment-next (a .list .now) (a .slots .now) (c .before .before .loop .i) (omega arith) in
     (omega arith, underway-room (c .before .before .loop .inv .1) _ _ next (c .before .before .before .before .before .before .pre))
 
--- src/putting.rt:79:5
 loop-again : tie.Need-loop-again Inv-loop μ-loop
 loop-again c =
     let a = c .before .before .before .before .before .before .before .before .before .args in
     let next = appointment-next (a .list .now) (a .slots .now) (c .before .before .before .before .before .loop .i) (omega arith) in
     (omega arith, underway-more (c .before .before .before .before .before .loop .inv .1) _ _ next (c .before .before .put-appointment .ensures))
 
--- src/putting.rt:72:1
 same-length : tie.Need-same-length Inv-loop μ-loop
 same-length c = underway-length (c .before .loop .inv .1)
 
--- src/putting.rt:72:1
 returns : tie.Need-returns Inv-loop μ-loop
 returns c =
     let a = c .before .before .before .before .before .args in

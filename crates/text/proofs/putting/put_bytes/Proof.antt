@@ -14,24 +14,19 @@ Inv-loop out₀ at bytes i₀ out i =
 abbrev μ-loop : tie.MeasureT-loop
 μ-loop out₀ at bytes i₀ out i = length bytes - i
 
--- src/putting.rt:29:5
 loop-holds : tie.Need-loop-holds Inv-loop μ-loop
 loop-holds c = (omega arith, word-start (c .args .out .now) (c .args .at) (c .args .bytes .now))
 
--- src/putting.rt:30:9
 slice-write-out : tie.Need-slice-write-out Inv-loop μ-loop
 slice-write-out c =
     word-room (c .before .before .loop .inv .1) (omega arith) (c .before .before .before .pre)
 
--- src/putting.rt:29:5
 loop-again : tie.Need-loop-again Inv-loop μ-loop
 loop-again c = (omega arith, word-more (c .before .before .loop .inv .1) (omega arith))
 
--- src/putting.rt:24:1
 same-length : tie.Need-same-length Inv-loop μ-loop
 same-length c = underway-length (c .before .loop .inv .1)
 
--- src/putting.rt:24:1
 returns : tie.Need-returns Inv-loop μ-loop
 returns c = word-all (c .before .loop .inv .1) (omega arith)
 

@@ -4,16 +4,13 @@ use borrow.Author.Needs.{needs}
 use Rattle.text.proofs.putting.put_field.Statement.{statement}
 use Rattle.text.proofs.putting.put_field.Tie as tie
 
--- src/putting.rt:53:9
 put-decimal-requires : tie.Need-put-decimal-requires
 put-decimal-requires c κs = room-first _ (c .before .before .pre)
 
--- src/putting.rt:54:5
 put-byte-requires : tie.Need-put-byte-requires
 put-byte-requires c κs =
     room-then _ (c .before .before .before .before .before .before .pre) (c .before .before .before .put-decimal .ensures)
 
--- src/putting.rt:49:1
 returns : tie.Need-returns
 returns c =
     placed-then (c .before .before .before .before .before .before .put-decimal .ensures) (c .before .before .put-byte .ensures)

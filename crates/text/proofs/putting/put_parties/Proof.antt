@@ -15,30 +15,25 @@ Inv-loop p list out₀ start at₀ v₀ out at v =
 abbrev μ-loop : tie.MeasureT-loop
 μ-loop p list out₀ start at₀ v₀ out at v = p - v
 
--- src/putting.rt:116:5
 loop-holds : tie.Need-loop-holds Inv-loop μ-loop
 loop-holds c =
     (omega arith, party-start (c .before .before .args .out .now) (c .before .before .args .start) (c .before .before .args .p) (appts (c .before .before .args .list .now)))
 
--- src/putting.rt:117:9
 put-party-requires : tie.Need-put-party-requires Inv-loop μ-loop
 put-party-requires c κs =
     let a = c .before .before .before .before .before .args in
     let next = party-next (a .p) (appts (a .list .now)) (c .before .before .loop .v) (omega arith) in
     (c .before .before .before .before .before .pre .0, (omega arith, underway-room (c .before .before .loop .inv .1) _ _ next (c .before .before .before .before .before .pre .1)))
 
--- src/putting.rt:116:5
 loop-again : tie.Need-loop-again Inv-loop μ-loop
 loop-again c =
     let a = c .before .before .before .before .before .before .before .before .args in
     let next = party-next (a .p) (appts (a .list .now)) (c .before .before .before .before .before .loop .v) (omega arith) in
     (omega arith, underway-more (c .before .before .before .before .before .loop .inv .1) _ _ next (c .before .before .put-party .ensures))
 
--- src/putting.rt:110:1
 same-length : tie.Need-same-length Inv-loop μ-loop
 same-length c = underway-length (c .before .loop .inv .1)
 
--- src/putting.rt:110:1
 returns : tie.Need-returns Inv-loop μ-loop
 returns c =
     let a = c .before .before .before .before .args in

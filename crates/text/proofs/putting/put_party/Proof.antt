@@ -21,24 +21,20 @@ fields c = party-fields (c .before .before .before .args .p) (appts (c .before .
 room : (c : tie.After-waiting-of) → Room (c .before .before .before .args .out .now) (c .before .before .before .args .at) (Fields c)
 room c = rw (fields c) at (c .before .before .before .pre .1 .1)
 
--- src/putting.rt:104:9
 put-bytes-requires : tie.Need-put-bytes-requires
 unfolding ascii
 put-bytes-requires c κs = room-first _ (room (c .before .before))
 
--- src/putting.rt:105:9
 put-field-requires : tie.Need-put-field-requires
 unfolding ascii
 put-field-requires c κs =
     room-first _ (room-then _ (room (c .before .before .before .before .before .before)) (c .before .before .before .put-bytes .ensures))
 
--- src/putting.rt:106:5
 put-field-requires-2 : tie.Need-put-field-requires-2
 unfolding ascii
 put-field-requires-2 c κs =
     room-then _ (room-then _ (room (c .before .before .before .before .before .before .before .before .before .before)) (c .before .before .before .before .before .before .before .put-bytes .ensures)) (c .before .before .before .put-field .ensures)
 
--- src/putting.rt:99:1
 returns : tie.Need-returns
 unfolding ascii
 returns c =

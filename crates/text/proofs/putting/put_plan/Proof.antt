@@ -24,30 +24,25 @@ fields c = plan-fields (c .args .p) (c .args .list .now) (c .args .d) (c .args .
 room : (c : tie.Start) → Room (c .args .out .now) 0 (Fields c)
 room c = rw (fields c) at (c .pre .1)
 
--- src/putting.rt:128:9
 put-bytes-requires : tie.Need-put-bytes-requires
 unfolding ascii
 put-bytes-requires c κs = room-first _ (room (c .before .before .before .before .before))
 
--- src/putting.rt:129:9
 put-field-requires : tie.Need-put-field-requires
 unfolding ascii
 put-field-requires c κs =
     room-first _ (room-then _ (room (c .before .before .before .before .before .before .before .before .before)) (c .before .before .before .put-bytes .ensures))
 
--- src/putting.rt:130:9
 put-appointments-requires : tie.Need-put-appointments-requires
 unfolding ascii
 put-appointments-requires c κs =
     room-first _ (room-then _ (room-then _ (room (c .before .before .before .before .before .before .before .before .before .before .before .before .before)) (c .before .before .before .before .before .before .before .put-bytes .ensures)) (c .before .before .before .put-field .ensures))
 
--- src/putting.rt:131:5
 put-parties-requires : tie.Need-put-parties-requires
 unfolding ascii
 put-parties-requires c κs =
     (c .before .before .before .before .before .before .before .before .before .before .before .before .before .before .before .before .before .pre .0, room-then _ (room-then _ (room-then _ (room (c .before .before .before .before .before .before .before .before .before .before .before .before .before .before .before .before .before)) (c .before .before .before .before .before .before .before .before .before .before .before .put-bytes .ensures)) (c .before .before .before .before .before .before .before .put-field .ensures)) (c .before .before .before .put-appointments .ensures))
 
--- src/putting.rt:124:1
 returns : tie.Need-returns
 unfolding ascii
 returns c =

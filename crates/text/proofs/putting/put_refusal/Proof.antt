@@ -5,28 +5,24 @@ use borrow.Author.Needs.{needs}
 use Rattle.text.proofs.putting.put_refusal.Statement.{statement}
 use Rattle.text.proofs.putting.put_refusal.Tie as tie
 
--- src/putting.rt:139:9
 put-bytes-requires : tie.Need-put-bytes-requires
 unfolding ascii
 put-bytes-requires c κs =
     let a = c .before .before .before .args in
     room-first _ (rw (refusal-fields (a .number) (a .place)) at (c .before .before .before .pre))
 
--- src/putting.rt:140:9
 put-field-requires : tie.Need-put-field-requires
 unfolding ascii
 put-field-requires c κs =
     let a = c .before .before .before .before .before .before .before .args in
     room-first _ (room-then _ (rw (refusal-fields (a .number) (a .place)) at (c .before .before .before .before .before .before .before .pre)) (c .before .before .before .put-bytes .ensures))
 
--- src/putting.rt:141:5
 put-field-requires-2 : tie.Need-put-field-requires-2
 unfolding ascii
 put-field-requires-2 c κs =
     let a = c .before .before .before .before .before .before .before .before .before .before .before .args in
     room-then _ (room-then _ (rw (refusal-fields (a .number) (a .place)) at (c .before .before .before .before .before .before .before .before .before .before .before .pre)) (c .before .before .before .before .before .before .before .put-bytes .ensures)) (c .before .before .before .put-field .ensures)
 
--- src/putting.rt:135:1
 returns : tie.Need-returns
 unfolding ascii
 returns c =

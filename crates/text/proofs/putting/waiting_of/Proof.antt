@@ -4,14 +4,12 @@ use borrow.Author.Needs.{needs}
 use Rattle.text.proofs.putting.waiting_of.Statement.{statement}
 use Rattle.text.proofs.putting.waiting_of.Tie as tie
 
--- src/putting.rt:87:1
 returns : tie.Need-returns
 returns c =
     let a = c .before .before .before .before .before .args in
     let told = waits (a .p) (a .list .now) (a .party) (c .before .before .before .before .before .pre .0) (c .before .before .before .before .before .pre .1) in
     cc
 
--- src/putting.rt:87:1
 returns-2 : tie.Need-returns-2
 returns-2 c =
     let a = c .before .before .before .before .args in
