@@ -207,3 +207,18 @@ small P list D h e =
       product = le-trans (mul-le-mul-left D p) (omega arith);
       words = le-trans (mul-le-mul-left (128 * P) more) (omega arith);
     }
+
+-- what the code knows once `check_list` has told it D
+pub record Listed (P : ℕ) (list : List ℕ) (D : ℕ) : Type 0 where
+  pub ok : checks-1-to-5 P list passed ≡ passed
+  pub figure : D ≡ largest-load P (appts list)
+  pub small : Small P D
+
+pub listed :
+    (P : ℕ) (list : List ℕ) (D : ℕ) (told : Checked) →
+    told ≡ checked (checks-1-to-5 P list passed) (largest-load P (appts list)) → told ≡ Passed D → Listed P list D
+listed P list D told e k =
+    let h = sym e ∙ k in
+    let ok = checked-passed (checks-1-to-5 P list passed) (largest-load P (appts list)) D h in
+    let figure = checked-figure (checks-1-to-5 P list passed) (largest-load P (appts list)) D h in
+    record { ok = ok; figure = figure; small = small P list D ok figure }
