@@ -1,32 +1,31 @@
 -- `set_aside` over words: each call has what it asks, and together they are `set-aside`. Assumes nothing.
-use Prim.Native.Nat.{ℕ, zero, suc, _+_, _*_, _-_, _/_, _%_, _≤_, _<_}
-use mathlib.Core.Path.{_≡_, refl, sym, _∙_, ap, subst}
-use mathlib.Core.List.{List, [], _∷_}
+use Prim.Native.Nat.{ℕ, _+_, _*_, _-_, _/_, _%_, _≤_, _<_}
+use mathlib.Core.Path.{_≡_, _∙_, ap, subst}
+use mathlib.Core.List.{List}
 use native.Mathlib.Omega.{arith}
 use native.Mathlib.Nat.{mul-zero, mul-one, one-mul, mul-le-mul-left, mul-le-mul-right}
 use borrow.Author.Tests.{eq-eqb, ne-eqb}
-use lib.ListN.{length}
 use Rattle.words.specs.Basics.{Run, ran, Ran}
 use Rattle.words.specs.Words.{word}
-use Rattle.multigraph.specs.Multigraph.{Graph, remove-matching}
-use Rattle.multigraph.specs.Regular.{Regular, Positive}
-use Rattle.multigraph.specs.Stored.{graph-at, matching-at, matchings-at}
-use Rattle.multigraph.specs.Places.{size, number, Removable, Matching-removed, Removes-matching, Changes}
-use Rattle.multigraph.proofs.Numbers.{matching-once, matching-present}
-use Rattle.multigraph.proofs.Kept.{Ends-kept, ends-kept}
-use Rattle.matching.specs.Matching.{rbmg-find-perfect-matching}
-use Rattle.matching.specs.Perfect.{Full, Matching-of}
-use Rattle.matching.specs.Searched.{lefts, rights, Tabled, Spares, Can-find, Matching-found}
-use Rattle.matching.specs.declared.Table.{Table}
+use Rattle.words.proofs.Ranges.{spares-refl, spares-trans, spares-wide, changes-spares}
 use Rattle.mark.specs.declared.Mark.{Mark}
 use Rattle.mark.specs.Taking.{given-back}
+use Rattle.multigraph.specs.Multigraph.{Graph, remove-matching}
+use Rattle.multigraph.specs.Stored.{graph-at, matching-at, matchings-at}
+use Rattle.multigraph.specs.Places.{size, number, Removable, Matching-removed, Removes-matching}
+use Rattle.multigraph.proofs.Numbers.{matching-once, matching-present}
+use Rattle.multigraph.proofs.Kept.{ends-kept, Graph-kept, graph-spares}
+use Rattle.multigraph.proofs.Sizes.{entries-few, entries-copies}
+use Rattle.multigraph.proofs.SideBySide.{matching-kept}
+use Rattle.matching.specs.Perfect.{Full, Matching-of}
+use Rattle.matching.specs.Searched.{lefts, rights, Tabled, Can-find, Matching-found}
+use Rattle.matching.specs.declared.Table.{Table}
 use Rattle.matching.proofs.MatchingLaws.{perfect-single, matching-law}
+use Rattle.matching.proofs.Tables.{tabled-kept}
 use Rattle.edge_color.specs.EdgeColor.{Set-aside, set-aside}
-use Rattle.edge_color.specs.Room.{Colorable, Color-fits, Aside-stored}
+use Rattle.edge_color.specs.Room.{Color-fits, Aside-stored}
 use Rattle.edge_color.proofs.Moving.{full}
 use Rattle.edge_color.proofs.SettingAside.{Aside-of, set-aside-law}
-use Rattle.edge_color.proofs.Placed.{entries-few, Graph-kept, matching-kept}
-use Rattle.edge_color.proofs.Laying.{spares-refl, spares-trans, spares-wide, changes-spares, graph-spares, tabled-kept, copies-few}
 
 -- ── even degree: nothing happens ──
 
@@ -135,7 +134,7 @@ module _ (t : Table) (s : List ℕ) (used g n d out : ℕ) (f : Color-fits t s u
                 copies =
                     λ i h.
                     rw (k .copies i (omega (arith, k .sizes)))
-                    (copies-few (2 * n) (f .side) d s (t .ends) (t .pairs) g (c .regular) i (omega (arith, k .sizes)));
+                    (entries-copies (2 * n) (f .side) d s (t .ends) (t .pairs) g (c .regular) i (omega (arith, k .sizes)));
                 inside = omega (arith, k .sizes, c .below, f .room, fd .spares .len);
                 small = omega (arith, k .sizes, c .below, f .room, c .short);
                 light = omega (arith, small-degree);

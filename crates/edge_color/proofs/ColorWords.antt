@@ -1,154 +1,36 @@
 -- `rbmg_edge_color` over words: each call has what it asks, and the parts are the colouring. Assumes nothing.
 use Prim.Native.Nat.{ℕ, zero, suc, _+_, _*_, _-_, _/_, _%_, _^_, _≤_, _<_}
 use mathlib.Core.Path.{_≡_, refl, sym, _∙_, ap, subst}
-use mathlib.Core.List.{List, [], _∷_, _++_}
+use mathlib.Core.List.{List, _++_}
 use native.Mathlib.Omega.{arith}
-use native.Mathlib.Nat.{mul-le-mul-left, mul-one, mul-zero}
 use native.Mathlib.Decide.{decLt}
 use lib.ListN.{length, take, drop}
-use Rattle.words.specs.Basics.{Run, ran, Ran, and-then, All}
+use Rattle.words.specs.Basics.{Run, ran, Ran, and-then}
 use Rattle.words.specs.Words.{word}
-use Rattle.multigraph.specs.Multigraph.{Graph, add-matching}
-use Rattle.multigraph.specs.Regular.{Regular, Positive, Partition}
-use Rattle.multigraph.specs.Stored.{graph-at, matching-at, matchings-at}
-use Rattle.multigraph.specs.Places.{size, number, Matching-fits, Matching-added, Adds-matching, Changes}
-use Rattle.multigraph.proofs.Kept.{Ends-kept}
-use Rattle.euler.specs.Split.{Halves, rbmg-split-into-two}
+use Rattle.words.specs.Frames.{Spares}
+use Rattle.words.proofs.Ranges.{spares-trans, spares-wide, keeps-spares, stays-spares, changes-spares}
+use Rattle.multigraph.specs.Multigraph.{Graph}
+use Rattle.multigraph.specs.Stored.{graph-at, matchings-at}
+use Rattle.multigraph.specs.Places.{size, Matching-fits, Matching-added, Adds-matching}
+use Rattle.multigraph.proofs.Kept.{Ends-kept, ends-below, Graph-kept, graph-spares}
+use Rattle.multigraph.proofs.Sizes.{entries-few, entries-copies}
+use Rattle.multigraph.proofs.SideBySide.{matchings-append, matchings-kept, matchings-take, matchings-drop}
+use Rattle.euler.specs.Split.{rbmg-split-into-two}
 use Rattle.euler.specs.Room.{Splits, Halves-stored}
 use Rattle.matching.specs.Matching.{power-above}
-use Rattle.matching.specs.Perfect.{Full, Perfect}
-use Rattle.matching.specs.Searched.{lefts, rights, Tabled, Spares, Can-read, Reads-matching, Matching-read}
+use Rattle.matching.specs.Perfect.{Full}
+use Rattle.matching.specs.Searched.{lefts, rights}
 use Rattle.matching.specs.declared.Table.{Table}
-use Rattle.matching.proofs.Powers.{power-above-law, power-above-under}
-use Rattle.matching.proofs.GraphWords.{Sides-kept, sides-kept}
+use Rattle.matching.proofs.Tables.{Sides-kept, sides-kept, tabled-kept}
 use Rattle.edge_color.specs.EdgeColor.{Set-aside, set-aside, add-matchings, rbmg-edge-color-when-power-of-two, rbmg-edge-color}
 use Rattle.edge_color.specs.Coloured.{Colours}
 use Rattle.edge_color.specs.Room.{Colorable, Power-fits, Power-colored, Color-fits, Aside-stored, Colored}
-use Rattle.edge_color.proofs.Moving.{full, add-matchings-law}
+use Rattle.edge_color.proofs.Moving.{full, add-matchings-law, add-matchings-words}
 use Rattle.edge_color.proofs.SettingAside.{Aside-of, set-aside-law}
 use Rattle.edge_color.proofs.ColorLaws.{Cut, cut-law, color-law}
-use Rattle.edge_color.proofs.Placed.{entries-few, entries-one, Graph-kept, matchings-append, matchings-kept, matchings-take, matchings-drop, add-matchings-words, can-read, read-over}
-use Rattle.edge_color.proofs.PowerWords.{splits, Half, Both-halves, both-halves, half-kept, half-colorable}
-use Rattle.edge_color.proofs.Laying.{spares-refl, spares-trans, spares-wide, keeps-spares, stays-spares, changes-spares, graph-spares, tabled-kept, copies-few}
-use Rattle.edge_color.proofs.AsideWords.{Small, small}
-
--- ── degree 0 and 1 ──
-
-pub color-none :
-    (t : Table) (s : List ℕ) (used g n d out : ℕ) → Color-fits t s used g n d out → d ≡ 0 → Colored t s s used used g n d out
-unfolding rbmg-edge-color matchings-at
-color-none t s used g n d out f none =
-    let w : n * d ≡ 0 = ap (λ (k : ℕ). n * k) none ∙ mul-zero n in
-    record {
-      colors = λ fuel le. rw none (go fuel);
-      bounds = λ j h. absurd (omega arith);
-      back = refl;
-      spares = spares-refl _ _ _ _ _ s;
-    }
-  where
-    go : (fuel : ℕ) → rbmg-edge-color fuel (2 * n) (lefts t n s) (rights t n s) 0 (graph-at s (t .ends) (t .pairs) g) ≡ ran []
-    go zero = refl
-    go (suc fuel) = refl
-
-pub color-read :
-    (t : Table) (s u : List ℕ) (used g n d out : ℕ) → Color-fits t s used g n d out → d ≡ 1 → Reads-matching g n out s u →
-    Colored t s u used used g n d out
-unfolding rbmg-edge-color matchings-at
-color-read t s u used g n d out f one reads =
-    record {
-      colors = λ fuel le. rw one (go fuel (omega arith));
-      bounds = λ j h. rw (done .numbers j (omega (arith, w))) (f .graph .numbers j (omega (arith, count, w)));
-      back = refl;
-      spares =
-          record {
-            len = done .changes .len;
-            under = λ i h k. done .changes .under i (omega (arith, f .after-places));
-            between = λ i h k l. done .changes .under i l;
-            over = λ i h k. read-over out n g s u (done .changes) i (omega (arith, w));
-          };
-    }
-  where
-    w : n * d ≡ n
-    w = ap (λ (k : ℕ). n * k) one ∙ mul-one n
-
-    r : Regular (2 * n) (f .side) 1 (graph-at s (t .ends) (t .pairs) g)
-    r = subst (λ (k : ℕ). Regular (2 * n) (f .side) k (graph-at s (t .ends) (t .pairs) g)) one (f .graph .regular)
-
-    count : size s g ≡ n
-    count = entries-one s (t .ends) (t .pairs) g n (f .side) r (f .graph .positive)
-
-    done : Matching-read (t .ends) (t .pairs) g n out s u
-    done =
-        let c = f .graph in
-        reads (t .ends) (t .pairs) (t .pairs)
-        (can-read (f .side) s (t .ends) (t .pairs) g out n r (c .positive) count (c .numbers) (c .after-table)
-        (omega (arith, c .after-out, w)) (omega (arith, c .below, count, f .room)) (c .short))
-
-    go : (fuel : ℕ) → 1 ≤ fuel →
-        rbmg-edge-color fuel (2 * n) (lefts t n s) (rights t n s) 1 (graph-at s (t .ends) (t .pairs) g)
-        ≡ ran (matching-at u (t .ends) (t .pairs) out n ∷ [])
-    go zero le = absurd (omega arith)
-    go (suc fuel) le = ap (λ (m : Graph). ran (m ∷ [])) (sym (done .matching))
-
--- ── the sizes ──
-
--- Products of n with the degree d, its half h, and the power of two r above h.
-pub record Cuts (n d r : ℕ) : Type 0 where
-  pub whole : n * d ≡ n * (d / 2) + n * (d / 2) + n * (d % 2)
-  pub twice : n * (2 * (d / 2)) ≡ n * (d / 2) + n * (d / 2)
-  pub wide : n * (d + 1) ≡ n * (d / 2) + n * (d / 2) + n * (d % 2) + n
-  pub half-wide : n * (d / 2 + 1) ≡ n * (d / 2) + n
-  pub even-wide : n * (2 * (d / 2) + 1) ≡ n * (d / 2) + n * (d / 2) + n
-  pub power-wide : n * (r + 1) ≡ n * r + n
-  pub some : n ≤ n * (d / 2)
-  pub moved : n * (r - d / 2) + n * (d / 2) ≡ n * r
-  pub left : n * (d / 2 - (r - d / 2)) + n * r ≡ n * (d / 2) + n * (d / 2)
-  pub under : n * r + n ≤ n * (d / 2) + n * (d / 2)
-  pub reaches : d / 2 ≤ r
-  pub enough : r - d / 2 ≤ d / 2
-  pub whole-degree : r + (d / 2 - (r - d / 2)) + d % 2 ≡ d
-  pub less : d / 2 < d
-
-pub cuts : (n d r : ℕ) → 1 < d → r ≡ 2 ^ power-above (d / 2) → Cuts n d r
-cuts n d r more e =
-    let above : d / 2 ≤ r = omega (arith, power-above-law (d / 2) .reaches) in
-    let below : r + 1 ≤ 2 * (d / 2) = omega (arith, power-above-under (d / 2) (omega arith)) in
-    let pos : 1 ≤ d / 2 = omega arith in
-    let split : d ≡ d / 2 + d / 2 + d % 2 = omega arith in
-    let parts : n * (d / 2 + d / 2 + d % 2) ≡ n * (d / 2) + n * (d / 2) + n * (d % 2) = omega arith in
-    let whole : n * d ≡ n * (d / 2) + n * (d / 2) + n * (d % 2) = ap (λ (k : ℕ). n * k) split ∙ parts in
-    let sum : r - d / 2 + d / 2 ≡ r = omega arith in
-    let sums : n * (r - d / 2 + d / 2) ≡ n * (r - d / 2) + n * (d / 2) = omega arith in
-    let rest : d / 2 - (r - d / 2) + r ≡ 2 * (d / 2) = omega arith in
-    let rests : n * (d / 2 - (r - d / 2) + r) ≡ n * (d / 2 - (r - d / 2)) + n * r = omega arith in
-    let two : n * (2 * (d / 2)) ≡ n * (d / 2) + n * (d / 2) = omega arith in
-    record {
-      whole = whole;
-      twice = two;
-      wide = omega (arith, whole);
-      half-wide = omega arith;
-      even-wide = omega arith;
-      power-wide = omega arith;
-      some = omega (arith, mul-le-mul-left n pos, mul-one n);
-      moved = sym sums ∙ ap (λ (k : ℕ). n * k) sum;
-      left = sym rests ∙ ap (λ (k : ℕ). n * k) rest ∙ two;
-      under = omega (arith, mul-le-mul-left n below, two);
-      reaches = above;
-      enough = omega arith;
-      whole-degree = omega arith;
-      less = omega arith;
-    }
-
--- room for the second half with the matchings that are moved to it
-second-room :
-    (used m k size h o w x n len : ℕ) → size ≤ h → w + h ≡ x → x + n ≤ h + h → k ≡ h + h + o + n → m ≤ used + 2 * k →
-    used + 40 * k ≤ len → 0 < n → m + 2 * k + 2 + 2 * (size + w) ≤ len
-second-room used m k size h o w x n len a b c d e f g = omega arith
-
-second-below :
-    (m k size h o x n mark back : ℕ) → size ≤ x → x + n ≤ h + h → k ≡ h + h + o + n → mark ≡ m + 4 * k → back ≡ mark → 0 < n →
-    m + 2 * k + 3 + 2 * size ≤ back
-second-below m k size h o x n mark back a b c d e f = omega arith
+use Rattle.edge_color.proofs.SplitHalves.{splits, Half, Both-halves, both-halves, half-kept, half-colorable}
+use Rattle.edge_color.proofs.AsideWords.{small}
+use Rattle.edge_color.proofs.CutSizes.{Cuts, cuts, second-room, second-below}
 
 -- ── the definition, one round ──
 
@@ -295,7 +177,7 @@ module _ (t : Table) (s : List ℕ) (used g n d out r : ℕ) (f : Color-fits t s
                   record {
                     header = second-kept .header ∙ st .second-base;
                     numbers = y .numbers;
-                    copies = copies-few (2 * n) (f .side) (d / 2) s₃ (t .ends) (t .pairs) (m₁ + 2 * (n * (d + 1))) (y .regular);
+                    copies = entries-copies (2 * n) (f .side) (d / 2) s₃ (t .ends) (t .pairs) (m₁ + 2 * (n * (d + 1))) (y .regular);
                     inside = omega (arith, room, len₃);
                     small = omega (arith, room, f .graph .short);
                     light = omega (arith, small t s used g n d out f .degree);
@@ -376,27 +258,20 @@ module _ (t : Table) (s : List ℕ) (used g n d out r : ℕ) (f : Color-fits t s
                 ∙ b .spares .over i (omega (arith, st .above, a .from)) (omega arith)
                 ∙ st .keeps .same i (omega (arith, a .from))
 
-            table₅₃ : Ends-kept (t .ends) (t .pairs) s₃ s₅
-            table₅₃ =
+            under₅ : (i : ℕ) → i < t .places → word s₅ i ≡ word s₃ i
+            under₅ i h =
                 let l = low in
-                let same : (i : ℕ) → i < t .places → word s₅ i ≡ word s₃ i =
-                λ i h.
-                p .stays .under i (omega (arith, b .back, st .above, a .from)) (omega (arith, f .after-places)) ∙ added .changes .under i h in
-                record {
-                  firsts = λ e k. same (t .ends + 2 * e) (omega (arith, f .tabled .after-ends));
-                  seconds = λ e k. same (t .ends + 2 * e + 1) (omega (arith, f .tabled .after-ends));
-                }
+                p .stays .under i (omega (arith, b .back, st .above, a .from)) (omega (arith, f .after-places)) ∙ added .changes .under i h
+
+            table₅₃ : Ends-kept (t .ends) (t .pairs) s₃ s₅
+            table₅₃ = ends-below (t .ends) (t .pairs) (t .places) (omega (arith, f .tabled .after-ends)) under₅
 
             table₅₁ : Ends-kept (t .ends) (t .pairs) s₁ s₅
             table₅₁ =
                 let l = low in
-                let same : (i : ℕ) → i < t .places → word s₃ i ≡ word s₁ i =
-                λ i h.
-                b .spares .under i (omega (arith, st .above, a .from)) h ∙ st .keeps .same i (omega (arith, a .from)) in
-                record {
-                  firsts = λ e k. table₅₃ .firsts e k ∙ same (t .ends + 2 * e) (omega (arith, f .tabled .after-ends));
-                  seconds = λ e k. table₅₃ .seconds e k ∙ same (t .ends + 2 * e + 1) (omega (arith, f .tabled .after-ends));
-                }
+                ends-below (t .ends) (t .pairs) (t .places) (omega (arith, f .tabled .after-ends))
+                (λ i h.
+                under₅ i h ∙ b .spares .under i (omega (arith, st .above, a .from)) h ∙ st .keeps .same i (omega (arith, a .from)))
 
             -- what is left of the first half's
             left-kept :
@@ -494,34 +369,3 @@ module _ (t : Table) (s : List ℕ) (used g n d out r : ℕ) (f : Color-fits t s
 
             pub color-joined : Colored t s s₅ used used g n d out
             color-joined = record { colors = colors-so; bounds = bounds-so; back = refl; spares = spares-so }
-
--- ── sums that fit, and the degree that falls ──
-
-pub above-one : (d : ℕ) → (d ≡ 0 → ⊥) → (d ≡ 1 → ⊥) → 1 < d
-above-one d a b = omega arith
-
-pub record Sums (first n d r out places : ℕ) : Type 0 where
-  pub second : first + 2 * (n * (d + 1)) < 4294967296
-  pub into : out + n * (d / 2) < 4294967296
-  pub moved : n * (r - d / 2) < 4294967296
-  pub reaches : d / 2 ≤ r
-  pub map : places < 4294967296
-
-pub sums :
-    (t : Table) (s : List ℕ) (used g n d out r : ℕ) → Color-fits t s used g n d out → 1 < d → r ≡ 2 ^ power-above (d / 2) →
-    (first : ℕ) → first ≤ used + 2 * (n * (d + 1)) → Sums first n d r out (t .places)
-sums t s used g n d out r f more er first to =
-    let x = small t s used g n d out f in
-    let some : 0 < n = f .graph .some in
-    let one : 1 ≤ d + 1 = omega arith in
-    let some-wide : n * 1 ≤ n * (d + 1) = mul-le-mul-left n one in
-    record {
-      second = omega (arith, x .mark, x .wide, some-wide);
-      into = omega (arith, x .output, x .graph, x .mark, cuts n d r more er .whole);
-      moved = omega (arith, cuts n d r more er .moved, cuts n d r more er .under, cuts n d r more er .whole, x .output, x .graph, x .mark);
-      reaches = cuts n d r more er .reaches;
-      map = omega (arith, x .map, x .output, x .graph, x .mark);
-    }
-
-pub color-falls : (d t : ℕ) → 1 < d → d ≡ t → d / 2 < t
-color-falls d t more e = omega arith

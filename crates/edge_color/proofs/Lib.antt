@@ -2,8 +2,9 @@ pub mod Moving
 pub mod PowerOfTwo
 pub mod SettingAside
 pub mod ColorLaws
-pub mod Placed
+pub mod SplitHalves
+pub mod SingleWords
 pub mod PowerWords
-pub mod Laying
 pub mod AsideWords
+pub mod CutSizes
 pub mod ColorWords

@@ -1,15 +1,18 @@
 -- Matchings added to a regular graph raise its degree by as many, and their copies add up. Assumes nothing.
-use Prim.Native.Nat.{ℕ, _+_, _<_}
-use mathlib.Core.Path.{_≡_}
+use Prim.Native.Nat.{ℕ, zero, suc, _+_, _*_, _<_}
+use mathlib.Core.Path.{_≡_, sym, _∙_}
 use mathlib.Core.List.{List, [], _∷_}
 use native.Mathlib.Omega.{arith}
+use native.Mathlib.Nat.{mul-zero}
 use lib.ListN.{length}
 use Rattle.words.specs.Basics.{total, All}
 use Rattle.words.proofs.Sums.{all-map, total-cong-all, total-const}
 use Rattle.multigraph.specs.Multigraph.{Graph, add-matching}
 use Rattle.multigraph.specs.Regular.{weigh, names, degree, Regular, Positive, Symmetric}
+use Rattle.multigraph.specs.Stored.{matching-at, matchings-at}
 use Rattle.multigraph.proofs.Ends.{names-symmetric}
 use Rattle.multigraph.proofs.Matchings.{weigh-add-matching, Sound, add-matching-sound}
+use Rattle.multigraph.proofs.SideBySide.{add-side-by-side}
 use Rattle.matching.specs.Perfect.{Full, Perfect}
 use Rattle.matching.proofs.MatchingLaws.{perfect-weigh}
 use Rattle.edge_color.specs.EdgeColor.{add-matchings}
@@ -72,3 +75,17 @@ add-matchings-law N side k g ms f h =
           };
       positive = sound .positive;
     }
+
+-- ── over words ──
+
+-- one call adds several matchings
+pub add-matchings-words :
+    (h : Graph) (s : List ℕ) (ends pairs m n k : ℕ) →
+    add-matchings h (matchings-at s ends pairs m n k) ≡ add-matching h (matching-at s ends pairs m (n * k))
+unfolding matchings-at add-matchings add-matching matching-at
+add-matchings-words h s ends pairs m n zero = rw mul-zero
+add-matchings-words h s ends pairs m n (suc k) =
+    let e : n * suc k ≡ n + n * k = omega arith in
+    rw e
+    (add-matchings-words (add-matching h (matching-at s ends pairs m n)) s ends pairs (m + n) n k
+    ∙ sym (add-side-by-side h s ends pairs m n (n * k)))

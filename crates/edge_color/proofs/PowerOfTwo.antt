@@ -7,12 +7,12 @@ use lib.ListN.{length-append}
 use Rattle.words.specs.Basics.{total, Ran}
 use Rattle.words.proofs.Sums.{all-append, total-append}
 use Rattle.words.proofs.Runs.{ran-then}
+use Rattle.words.proofs.PowersOfTwo.{two-pow}
 use Rattle.multigraph.specs.Multigraph.{Graph}
 use Rattle.multigraph.specs.Regular.{weigh, Symmetric}
 use Rattle.euler.specs.Split.{Halves, rbmg-split-into-two}
 use Rattle.euler.specs.Halved.{Split-of}
 use Rattle.matching.specs.Perfect.{Full, Perfect}
-use Rattle.matching.proofs.Powers.{two-pow}
 use Rattle.matching.proofs.Halving.{split-power}
 use Rattle.edge_color.specs.EdgeColor.{rbmg-edge-color-when-power-of-two}
 use Rattle.edge_color.specs.Coloured.{Colours}

@@ -1,147 +1,25 @@
 -- `rbmg_edge_color_when_power_of_two` over words: each call has what it asks, and the parts are the colouring. Assumes nothing.
 use Prim.Native.Nat.{ℕ, zero, suc, _+_, _*_, _-_, _/_, _^_, _≤_, _<_}
-use mathlib.Core.Path.{_≡_, refl, sym, _∙_, ap, subst}
-use mathlib.Core.List.{List, [], _∷_, _++_}
+use mathlib.Core.Path.{_≡_, refl, _∙_, ap}
+use mathlib.Core.List.{List, _++_}
 use native.Mathlib.Omega.{arith}
 use native.Mathlib.Nat.{mul-le-mul-left, mul-le-mul-right, mul-one, one-mul}
 use native.Mathlib.Decide.{decLt}
 use lib.ListN.{length}
 use lib.Pow.{pow-pos}
-use Rattle.words.specs.Basics.{Run, ran, Ran, and-then, total}
+use Rattle.words.specs.Basics.{ran}
 use Rattle.words.specs.Words.{word}
-use Rattle.words.specs.Frames.{Keeps, Stays}
+use Rattle.words.specs.Frames.{Stays}
 use Rattle.words.proofs.Frames.{stays-trans, stays-wide, keeps-stays}
-use Rattle.multigraph.specs.Multigraph.{Pair, Graph}
-use Rattle.multigraph.specs.Regular.{names, Regular, Positive}
-use Rattle.multigraph.specs.Stored.{graph-at, matching-at, matchings-at}
+use Rattle.words.proofs.PowersOfTwo.{two-pow}
+use Rattle.multigraph.specs.Stored.{graph-at, matchings-at}
 use Rattle.multigraph.specs.Places.{size, number}
-use Rattle.multigraph.proofs.Parts.{pairs-le-degree}
-use Rattle.euler.specs.Split.{Halves, rbmg-split-into-two}
-use Rattle.euler.specs.Halved.{Split-of}
-use Rattle.euler.specs.Room.{Splits, Numbers-from, Halves-stored}
-use Rattle.euler.proofs.SplitLaws.{split-law}
-use Rattle.matching.specs.Searched.{Reads-matching, Matching-read}
-use Rattle.matching.proofs.Powers.{two-pow}
-use Rattle.matching.proofs.Narrow.{narrow-reflag, regular-reflag}
+use Rattle.multigraph.proofs.SideBySide.{matchings-append, matchings-kept}
+use Rattle.multigraph.proofs.Kept.{stays-ends, Graph-kept, graph-stays}
+use Rattle.euler.specs.Room.{Splits, Halves-stored}
 use Rattle.edge_color.specs.EdgeColor.{rbmg-edge-color-when-power-of-two}
-use Rattle.edge_color.specs.Room.{Colorable, Bounds-pass, Power-fits, Power-colored}
-use Rattle.edge_color.proofs.Placed.{entries-few, entries-one, matchings-append, matchings-kept, stays-ends, Graph-kept, graph-stays, can-read, read-over}
-
--- ── a split ──
-
--- a graph that can be coloured can be split, if its degree is even
-pub splits :
-    (side : ℕ → ℕ) (pairs : ℕ) (s : List ℕ) (used ends g n d k out width : ℕ) → Colorable side pairs s used ends g n d out →
-    d ≡ 2 * k → d ≤ width → 2 ≤ width → n * (width + 1) ≤ 2097152 → used + 16 * (n * (width + 1)) ≤ length s →
-    Splits s used ends g n width
-splits side pairs s used ends g n d k out width c even wide two sized room =
-    let count : size s g ≤ n * d = entries-few s ends pairs g n side d (c .regular) (c .positive) in
-    let regular : Regular (2 * n) side d (graph-at s ends 0 g) = regular-reflag (2 * n) side d s ends pairs 0 g (c .regular) in
-    record {
-      side = side;
-      half = k;
-      regular = subst (λ (x : ℕ). Regular (2 * n) side x (graph-at s ends 0 g)) even regular;
-      wide =
-          λ v b.
-          omega (
-            arith,
-            narrow-reflag (names v) s ends 0 pairs g,
-            pairs-le-degree v (graph-at s ends pairs g) (c .positive),
-            c .regular .even v b,
-          );
-      some = c .some;
-      few = c .few;
-      two = two;
-      size = sized;
-      pairs = omega (arith, count, mul-le-mul-left n wide);
-      graph = c .below;
-      base = omega (arith, c .after-table, c .after-out, c .below);
-      table = λ i h. omega (arith, c .numbers i h, c .after-table, c .after-out, c .below);
-      room = room;
-      short = c .short;
-    }
-
--- one half as it stands in words
-pub record Half (side : ℕ → ℕ) (pairs : ℕ) (t : List ℕ) (ends h n k : ℕ) : Type 0 where
-  pub regular : Regular (2 * n) side k (graph-at t ends pairs h)
-  pub positive : Positive (graph-at t ends pairs h)
-  pub numbers : (i : ℕ) → i < size t h → number t h i < pairs
-  pub count : size t h ≤ n * k
-
--- the numbers of a half are numbers of the graph
-pub numbers-pass :
-    (s t : List ℕ) (g h bound : ℕ) → Numbers-from s t g h → ((i : ℕ) → i < size s g → number s g i < bound) →
-    (j : ℕ) → j < size t h → number t h j < bound
-numbers-pass s t g h bound f below j a =
-    let r = f .from j a in
-    rw (r .2) (below (r .0) (r .1))
-
-pub record Both-halves (side : ℕ → ℕ) (pairs : ℕ) (t : List ℕ) (used ends n k width : ℕ) : Type 0 where
-  pub first : Half side pairs t ends used n k
-  pub second : Half side pairs t ends (used + 2 * (n * (width + 1))) n k
-
-pub both-halves :
-    (side : ℕ → ℕ) (pairs : ℕ) (s t : List ℕ) (used mark ends g n d k out width : ℕ) → Colorable side pairs s used ends g n d out →
-    d ≡ 2 * k → Halves-stored s t used mark ends g n width → Both-halves side pairs t used ends n k width
-both-halves side pairs s t used mark ends g n d k out width c even st =
-    record {
-      first = half used (law .first-regular) (law .first-positive) (st .first-numbers);
-      second = half (used + 2 * (n * (width + 1))) (law .second-regular) (law .second-positive) (st .second-numbers);
-    }
-  where
-    hs : Halves
-    hs =
-        record {
-          first-half = graph-at t ends pairs used;
-          second-half = graph-at t ends pairs (used + 2 * (n * (width + 1)));
-        }
-
-    law : Split-of (2 * n) side k (graph-at s ends pairs g) hs
-    law =
-        subst (λ (r : Run Halves). Ran (Split-of (2 * n) side k (graph-at s ends pairs g)) r) (st .halves pairs)
-        (split-law (2 * n) side k (graph-at s ends pairs g)
-        (subst (λ (x : ℕ). Regular (2 * n) side x (graph-at s ends pairs g)) even (c .regular)))
-
-    half : (h : ℕ) → Regular (2 * n) side k (graph-at t ends pairs h) → Positive (graph-at t ends pairs h) →
-        Numbers-from s t g h → Half side pairs t ends h n k
-    half h r pos f =
-        record {
-          regular = r;
-          positive = pos;
-          numbers = numbers-pass s t g h pairs f (c .numbers);
-          count = entries-few t ends pairs h n side k r pos;
-        }
-
--- a half whose words stay
-pub half-kept :
-    (side : ℕ → ℕ) (pairs : ℕ) (t u : List ℕ) (ends h n k : ℕ) → Half side pairs t ends h n k → Graph-kept ends pairs t u h →
-    Half side pairs u ends h n k
-half-kept side pairs t u ends h n k a kept =
-    record {
-      regular = rw (kept .same pairs) (a .regular);
-      positive = rw (kept .same pairs) (a .positive);
-      numbers = λ i b. rw (kept .numbers i (omega (arith, kept .sizes))) (a .numbers i (omega (arith, kept .sizes)));
-      count = omega (arith, kept .sizes, a .count);
-    }
-
--- a half that lies below the mark and above its output can be coloured
-pub half-colorable :
-    (side : ℕ → ℕ) (pairs : ℕ) (t : List ℕ) (used ends h n k out : ℕ) → Half side pairs t ends h n k → 0 < n → 2 * n ≤ 2048 →
-    n * (k + 1) ≤ 2097152 → ends + 2 * pairs ≤ out → out + n * k ≤ h → h + 3 + 2 * (n * k) ≤ used → length t ≤ 4294967296 →
-    Colorable side pairs t used ends h n k out
-half-colorable side pairs t used ends h n k out a some few sized table above below short =
-    record {
-      regular = a .regular;
-      positive = a .positive;
-      numbers = a .numbers;
-      some = some;
-      few = few;
-      sized = sized;
-      after-table = table;
-      after-out = above;
-      below = omega (arith, a .count);
-      short = short;
-    }
+use Rattle.edge_color.specs.Room.{Bounds-pass, Power-fits, Power-colored}
+use Rattle.edge_color.proofs.SplitHalves.{splits, Half, numbers-pass, Both-halves, both-halves, half-kept, half-colorable}
 
 -- ── the sizes ──
 
@@ -170,54 +48,35 @@ sized n d (suc e) p more =
       two = omega arith;
     }
 
--- ── degree 1 ──
-
--- an exponent of 1
-none : (e : ℕ) → 1 ≡ 2 ^ e → e ≡ 0
-none zero p = refl
-none (suc e) p = absurd (omega (arith, two-pow e))
-
-pub power-read :
-    (s t : List ℕ) (used ends g n d out : ℕ) → Power-fits s used ends g n d out → d ≡ 1 → Reads-matching g n out s t →
-    Power-colored s t used used ends g n d out
-unfolding rbmg-edge-color-when-power-of-two matchings-at
-power-read s t used ends g n d out f one reads =
-    record {
-      colors =
-          λ pairs e p.
-          let z : e ≡ 0 = none e (sym one ∙ p) in
-          rw (z, one) (ap (λ (m : Graph). ran (m ∷ [])) (sym (done pairs .matching)));
-      bounds = λ bound below j h. rw (done 0 .numbers j (omega (arith, w))) (below j (omega (arith, w, count)));
-      back = refl;
-      stays =
-          record {
-            len = done 0 .changes .len;
-            under = λ i h k. done 0 .changes .under i k;
-            over = λ i h k. read-over out n g s t (done 0 .changes) i (omega (arith, w));
-          };
-    }
-  where
-    w : n * d ≡ n
-    w = ap (λ (k : ℕ). n * k) one ∙ mul-one n
-
-    r : Regular (2 * n) (f .side) 1 (graph-at s ends (f .pairs) g)
-    r = subst (λ (k : ℕ). Regular (2 * n) (f .side) k (graph-at s ends (f .pairs) g)) one (f .graph .regular)
-
-    count : size s g ≡ n
-    count = entries-one s ends (f .pairs) g n (f .side) r (f .graph .positive)
-
-    done : (pairs : ℕ) → Matching-read ends pairs g n out s t
-    done pairs =
-        let c = f .graph in
-        reads ends pairs (f .pairs)
-        (can-read (f .side) s ends (f .pairs) g out n r (c .positive) count (c .numbers) (c .after-table)
-        (omega (arith, c .after-out, w)) (omega (arith, c .below, count, f .room)) (c .short))
-
 -- ── two halves ──
 
 module _ (s : List ℕ) (used ends g n d out : ℕ) (f : Power-fits s used ends g n d out) (more : d ≡ 1 → ⊥) where
   sizes : Sized n d
   sizes = sized n d (f .exponent) (f .power) more
+
+  half-power : (e : ℕ) → d ≡ 2 ^ e → (k : ℕ) × (d / 2 ≡ 2 ^ k)
+  half-power zero p = absurd (more p)
+  half-power (suc k) p = (k, omega (arith, two-pow k))
+
+  -- a half that lies between its output and a mark with room above it
+  half-fits :
+      (t : List ℕ) (mark h into : ℕ) → Half (f .side) (f .pairs) t ends h n (d / 2) → out ≤ into → into + n * (d / 2) ≤ h →
+      h + 3 + 2 * (n * (d / 2)) ≤ mark → mark + 20 * (n * (d / 2 + 1)) ≤ length t → length t ≡ length s →
+      Power-fits t mark ends h n (d / 2) into
+  half-fits t mark h into a after above below room len =
+      let c = f .graph in
+      let z = sizes in
+      let e = half-power (f .exponent) (f .power) in
+      record {
+        side = f .side;
+        pairs = f .pairs;
+        exponent = e .0;
+        power = e .1;
+        graph =
+            half-colorable (f .side) (f .pairs) t mark ends h n (d / 2) into a (c .some) (c .few) (omega (arith, c .sized))
+            (omega (arith, c .after-table)) above below (omega (arith, len, c .short));
+        room = room;
+      }
 
   pub power-splits : Splits s used ends g n d
   power-splits =
@@ -228,27 +87,13 @@ module _ (s : List ℕ) (used ends g n d out : ℕ) (f : Power-fits s used ends 
     halves : Both-halves (f .side) (f .pairs) t used ends n (d / 2) d
     halves = both-halves (f .side) (f .pairs) s t used mark ends g n d (d / 2) out d (f .graph) (sizes .even) st
 
-    half-power : (e : ℕ) → d ≡ 2 ^ e → (k : ℕ) × (e ≡ suc k) × (d / 2 ≡ 2 ^ k)
-    half-power zero p = absurd (more p)
-    half-power (suc k) p = (k, refl, omega (arith, two-pow k))
-
     -- the first half, into the first half of the output
     pub power-first : Power-fits t mark ends used n (d / 2) out
     power-first =
         let c = f .graph in
         let z = sizes in
-        let e = half-power (f .exponent) (f .power) in
-        record {
-          side = f .side;
-          pairs = f .pairs;
-          exponent = e .0;
-          power = e .2;
-          graph =
-              half-colorable (f .side) (f .pairs) t mark ends used n (d / 2) out (halves .first) (c .some) (c .few)
-              (omega (arith, c .sized)) (c .after-table) (omega (arith, c .after-out, c .below))
-              (omega (arith, st .above, c .some)) (omega (arith, st .keeps .len, c .short));
-          room = omega (arith, st .above, st .keeps .len, f .room);
-        }
+        half-fits t mark used out (halves .first) (omega arith) (omega (arith, c .after-out, c .below)) (omega (arith, st .above, c .some))
+        (omega (arith, st .above, st .keeps .len, f .room)) (st .keeps .len)
 
     module _ (u : List ℕ) (mark' : ℕ) (a : Power-colored t u mark mark' ends used n (d / 2) out) where
       second-kept : Graph-kept ends (f .pairs) t u (used + 2 * (n * (d + 1)))
@@ -267,19 +112,9 @@ module _ (s : List ℕ) (used ends g n d out : ℕ) (f : Power-fits s used ends 
       power-second =
           let c = f .graph in
           let z = sizes in
-          let e = half-power (f .exponent) (f .power) in
-          record {
-            side = f .side;
-            pairs = f .pairs;
-            exponent = e .0;
-            power = e .2;
-            graph =
-                half-colorable (f .side) (f .pairs) u mark' ends (used + 2 * (n * (d + 1))) n (d / 2) (out + n * (d / 2)) second-half
-                (c .some) (c .few) (omega (arith, c .sized)) (omega (arith, c .after-table))
-                (omega (arith, c .after-out, c .below)) (omega (arith, st .above, a .back, c .some))
-                (omega (arith, st .keeps .len, a .stays .len, c .short));
-            room = omega (arith, st .above, a .back, st .keeps .len, a .stays .len, f .room);
-          }
+          half-fits u mark' (used + 2 * (n * (d + 1))) (out + n * (d / 2)) second-half (omega arith)
+          (omega (arith, c .after-out, c .below)) (omega (arith, st .above, a .back, c .some))
+          (omega (arith, st .above, a .back, st .keeps .len, a .stays .len, f .room)) (a .stays .len ∙ st .keeps .len)
 
       module _ (v : List ℕ) (mark'' : ℕ) (b : Power-colored u v mark' mark'' ends (used + 2 * (n * (d + 1))) n (d / 2) (out + n * (d / 2))) where
         stays-so : Stays used out (n * d) s v

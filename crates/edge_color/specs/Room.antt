@@ -5,11 +5,11 @@ use mathlib.Core.List.{List}
 use lib.ListN.{length}
 use Rattle.words.specs.Basics.{ran}
 use Rattle.words.specs.Words.{word}
-use Rattle.words.specs.Frames.{Stays}
+use Rattle.words.specs.Frames.{Stays, Spares}
 use Rattle.multigraph.specs.Regular.{Regular, Positive, Partition}
 use Rattle.multigraph.specs.Stored.{graph-at, matchings-at}
 use Rattle.multigraph.specs.Places.{size, number}
-use Rattle.matching.specs.Searched.{lefts, rights, Tabled, Spares}
+use Rattle.matching.specs.Searched.{lefts, rights, Tabled}
 use Rattle.matching.specs.declared.Table.{Table}
 use Rattle.edge_color.specs.EdgeColor.{rbmg-edge-color-when-power-of-two, set-aside, rbmg-edge-color}
 

@@ -1,20 +1,21 @@
 -- One step of evening out: it passes a full party, or adds copies between two short ones, which fills one of them. What holds
 -- at every step is kept, and the steps still needed go down. Assumes nothing.
 use Prim.Native.Nat.{ℕ, _+_, _*_, _-_, _≤_, _<_, min, max}
-use mathlib.Core.Path.{_≡_, sym, _∙_, ap}
+use mathlib.Core.Path.{_≡_, refl, sym, _∙_, ap}
 use mathlib.Core.List.{List, [], _∷_}
 use mathlib.Core.Logic.{⊎-elim}
 use native.Mathlib.Omega.{arith}
 use native.Mathlib.Decide.{ℕ-discrete, decLe}
+use borrow.Author.Tests.{eq-eqb, ne-eqb}
 use lib.ListN.{length}
 use Rattle.words.specs.Basics.{is, count, All}
 use Rattle.words.proofs.Sums.{is-same, is-ne, is-eq, is-le, is-cases}
 use Rattle.multigraph.specs.Multigraph.{Graph, add-edge}
-use Rattle.multigraph.specs.Regular.{names, degree, between, copies-between}
-use Rattle.multigraph.proofs.Ends.{names-symmetric, between-symmetric}
-use Rattle.multigraph.proofs.Adding.{weigh-add-edge, across-add-edge, positive-add-edge, apart-add-edge}
+use Rattle.multigraph.specs.Regular.{degree, between, copies-between}
+use Rattle.multigraph.proofs.Ends.{between-symmetric}
+use Rattle.multigraph.proofs.Adding.{weigh-add-edge, across-add-edge, positive-add-edge, apart-add-edge, degree-added}
 use Rattle.multigraph.proofs.Matchings.{Sound}
-use Rattle.evening.specs.Evening.{Evening, evening}
+use Rattle.evening.specs.Evening.{Evening, evening, even-out-pair, even-out-next}
 
 -- What holds at every step: D bounds all degrees, no copy of the graph at the start is gone, the parties that have been
 -- passed are full, and those still to be filled are on their sides.
@@ -89,19 +90,15 @@ shortfall-fills D a b h k =
       | no n ↦ let e : a + min (D - a) (D - b) ≡ D = omega arith in omega (arith, is-eq e)
     ]
 
--- degrees after copies of a pair l, r have been added
-degree-added : (v : ℕ) (g : Graph) (l r m : ℕ) → degree v (add-edge g l r m 0) ≡ degree v g + m * names v l r
-degree-added v g l r m = weigh-add-edge (names v) (names-symmetric v) g l r m 0
-
 module _ (g : Graph) (l r m : ℕ) (apart : l ≡ r → ⊥) where
   pub added-left : degree l (add-edge g l r m 0) ≡ degree l g + m
-  added-left = degree-added l g l r m ∙ rw (is-same l, is-ne {u = l} {v = r} apart) (omega arith)
+  added-left = degree-added l g l r m 0 ∙ rw (is-same l, is-ne {u = l} {v = r} apart) (omega arith)
 
   pub added-right : degree r (add-edge g l r m 0) ≡ degree r g + m
-  added-right = degree-added r g l r m ∙ rw (is-same r, is-ne {u = r} {v = l} (λ e. apart (sym e))) (omega arith)
+  added-right = degree-added r g l r m 0 ∙ rw (is-same r, is-ne {u = r} {v = l} (λ e. apart (sym e))) (omega arith)
 
   pub added-else : (v : ℕ) → (v ≡ l → ⊥) → (v ≡ r → ⊥) → degree v (add-edge g l r m 0) ≡ degree v g
-  added-else v a b = degree-added v g l r m ∙ rw (is-ne {u = v} {v = l} a, is-ne {u = v} {v = r} b) (omega arith)
+  added-else v a b = degree-added v g l r m 0 ∙ rw (is-ne {u = v} {v = l} a, is-ne {u = v} {v = r} b) (omega arith)
 
 module _ (N : ℕ) (side : ℕ → ℕ) (D : ℕ) (start : Graph) where
   -- a full party is passed, on the left or on the right
@@ -195,3 +192,32 @@ module _ (N : ℕ) (side : ℕ → ℕ) (D : ℕ) (start : Graph) where
     filled =
         rw (added-left g l r m ends-apart, added-right g l r m ends-apart)
         (shortfall-fills D (degree l g) (degree r g) short-l short-r)
+
+-- ── the five cases of a step ──
+
+pub next-done : (D : ℕ) (g : Graph) (right : List ℕ) → even-out-next D g [] right ≡ evening g [] right
+unfolding even-out-next
+next-done D g right = refl
+
+pub next-left :
+    (D : ℕ) (g : Graph) (l : ℕ) (left right : List ℕ) → degree l g ≡ D → even-out-next D g (l ∷ left) right ≡ evening g left right
+unfolding even-out-next
+next-left D g l left right e = rw (eq-eqb (degree l g) D e)
+
+pub next-none :
+    (D : ℕ) (g : Graph) (l : ℕ) (left : List ℕ) → (degree l g ≡ D → ⊥) → even-out-next D g (l ∷ left) [] ≡ evening g (l ∷ left) []
+unfolding even-out-next even-out-pair
+next-none D g l left n = rw (ne-eqb (degree l g) D n)
+
+pub next-right :
+    (D : ℕ) (g : Graph) (l : ℕ) (left : List ℕ) (r : ℕ) (right : List ℕ) → (degree l g ≡ D → ⊥) → degree r g ≡ D →
+    even-out-next D g (l ∷ left) (r ∷ right) ≡ evening g (l ∷ left) right
+unfolding even-out-next even-out-pair
+next-right D g l left r right n e = rw (ne-eqb (degree l g) D n, eq-eqb (degree r g) D e)
+
+pub next-fill :
+    (D : ℕ) (g : Graph) (l : ℕ) (left : List ℕ) (r : ℕ) (right : List ℕ) → (degree l g ≡ D → ⊥) → (degree r g ≡ D → ⊥) →
+    even-out-next D g (l ∷ left) (r ∷ right)
+    ≡ evening (add-edge g l r (min (D - degree l g) (D - degree r g)) 0) (l ∷ left) (r ∷ right)
+unfolding even-out-next even-out-pair
+next-fill D g l left r right n m = rw (ne-eqb (degree l g) D n, ne-eqb (degree r g) D m)

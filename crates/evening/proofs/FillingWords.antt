@@ -1,11 +1,13 @@
--- What the steps of evening out do, by what they have read. Assumes nothing.
-use Prim.Native.Nat.{ℕ, _+_, _*_, _-_, _/_, _≤_, _<_, min}
-use mathlib.Core.Path.{_≡_, refl, sym, _∙_, ap}
+-- What the steps of evening out do, by what they have read, and two counters raised. Assumes nothing.
+use Prim.Native.Nat.{ℕ, _+_, _-_, _/_, _<_, min}
+use mathlib.Core.Path.{_≡_, refl, sym, _∙_}
 use mathlib.Core.List.{List}
-use mathlib.Core.Logic.{_⊎_, inl, inr, ⊎-elim}
+use mathlib.Core.Logic.{inl, inr, ⊎-elim}
 use native.Mathlib.Omega.{arith}
 use native.Mathlib.Decide.{ℕ-discrete}
+use lib.ListN.{length}
 use Rattle.words.specs.Words.{word, put-word}
+use Rattle.words.proofs.Frames.{here, away, length-put}
 use Rattle.multigraph.specs.Places.{size}
 use Rattle.evening.specs.Steps.{Says, Joins, Adds-pair, Pair-found, shortfall, Filled}
 
@@ -56,3 +58,37 @@ filled-by list d ends apair g b from l r s t u v dl dr more m e el er em es foun
       adds = rw is at adds;
       degrees = rw (ev, el, er, is) at et;
     }
+
+-- ── two counters raised ──
+
+-- From words s, and a that have the same counters, to t: the counters of l and r at b are raised, and nothing else changes.
+pub record Raised (b l r more : ℕ) (s a t : List ℕ) : Type 0 where
+  pub len : length t ≡ length a
+  pub left : word t (b + l) ≡ word s (b + l) + more
+  pub right : word t (b + r) ≡ word s (b + r) + more
+  pub elsewhere : (k : ℕ) → (k ≡ b + l → ⊥) → (k ≡ b + r → ⊥) → word t k ≡ word a k
+
+pub raised :
+    (b l r more : ℕ) (s a t : List ℕ) → t ≡ put-word (put-word a (b + l) (word s (b + l) + more)) (b + r) (word s (b + r) + more) →
+    (l ≡ r → ⊥) → b + l < length a → b + r < length a → word s (b + l) + more < 4294967296 → word s (b + r) + more < 4294967296 →
+    Raised b l r more s a t
+raised b l r more s a t e apart il ir sl sr =
+    rw e
+    (record {
+      len = length-put mid (b + r) y ∙ mid-len;
+      left = away mid (b + r) (b + l) y (λ q. apart (omega arith)) ∙ here a (b + l) x il sl;
+      right = here mid (b + r) y (omega (arith, mid-len)) sr;
+      elsewhere = λ k p q. away mid (b + r) k y q ∙ away a (b + l) k x p;
+    })
+  where
+    x : ℕ
+    x = word s (b + l) + more
+
+    y : ℕ
+    y = word s (b + r) + more
+
+    mid : List ℕ
+    mid = put-word a (b + l) x
+
+    mid-len : length mid ≡ length a
+    mid-len = length-put a (b + l) x

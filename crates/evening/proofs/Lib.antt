@@ -7,7 +7,13 @@ pub mod PaddingWords
 pub mod PlainLaws
 pub mod RowsLaws
 pub mod RepsLaws
+pub mod Listed
 pub mod BuildingLaws
+pub mod PairsMade
 pub mod FillingWords
+pub mod StageWords
+pub mod FillStage
 pub mod EveningWords
+pub mod BeginLaws
+pub mod LookLaws
 pub mod DiagonalLaws

@@ -1,36 +1,15 @@
 -- Padding over words is `padded`. Assumes nothing.
-use Prim.Native.Nat.{ℕ, zero, suc, _+_, _*_, _-_, _≤_, _<_, max}
-use mathlib.Core.Path.{_≡_, refl, sym, _∙_, ap}
+use Prim.Native.Nat.{ℕ, zero, suc, _+_, _-_, _≤_, _<_, max}
+use mathlib.Core.Path.{_≡_, refl, _∙_, ap}
 use mathlib.Core.List.{List, [], _∷_, _++_, append-assoc, append-nil}
 use native.Mathlib.Omega.{arith}
-use native.Mathlib.Numerals.{add-one}
-use lib.ListN.{length, length-append}
 use Rattle.words.specs.Words.{word, put-word}
 use Rattle.words.proofs.Frames.{here, away, length-put}
 use Rattle.two_color.specs.Contract.{region}
-use Rattle.multigraph.specs.Places.{Changes}
+use Rattle.two_color.proofs.Regions.{region-length, region-more, region-same}
 use Rattle.evening.specs.Evening.{new-parties, padded}
 use Rattle.evening.specs.Contract.{Can-pad, Sides-padded}
 use Rattle.evening.specs.Steps.{Can-pad-side, Padding}
-
--- ── regions ──
-
-pub region-length : (s : List ℕ) (a n : ℕ) → length (region s a n) ≡ n
-unfolding region
-region-length s a zero = refl
-region-length s a (suc n) = omega (arith, length-append (region s a n) (word s (a + n) ∷ []), region-length s a n)
-
-pub region-more : (s : List ℕ) (a n : ℕ) → region s a (n + 1) ≡ region s a n ++ (word s (a + n) ∷ [])
-unfolding region
-region-more s a n = rw add-one
-
-pub region-same :
-    (s t : List ℕ) (a n : ℕ) → ((i : ℕ) → i < n → word t (a + i) ≡ word s (a + i)) → region t a n ≡ region s a n
-unfolding region
-region-same s t a zero h = refl
-region-same s t a (suc n) h =
-    let last : word t (a + n) ≡ word s (a + n) = h n (omega arith) in
-    rw (last, region-same s t a n (λ i k. h i (omega arith)))
 
 -- ── one side ──
 
@@ -69,7 +48,7 @@ module _ (at k n p : ℕ) (s : List ℕ) (h : Can-pad-side at k n p s) where
       other j d = rw e (away t (at + i) j (p + (i - k)) d)
 
       same : region u at i ≡ region t at i
-      same = region-same t u at i (λ j a. other (at + j) (λ q. omega arith))
+      same = region-same t u at i (λ j lo hi. other j (λ q. omega arith))
 
       new : word u (at + i) ≡ p + (i - k)
       new = rw e (here t (at + i) (p + (i - k)) (omega (arith, x .len, h .room)) (omega (arith, h .few)))
@@ -91,11 +70,11 @@ module _ (p left l right r : ℕ) (s : List ℕ) (h : Can-pad p left l right r s
         record {
           longer = e;
           lefts =
-              region-same t u left n (λ i a. y .under (left + i) (omega arith))
+              region-same t u left n (λ i lo hi. y .under i (omega arith))
               ∙ padded-is s t left l x;
           rights =
               padded-is t u right r y
-              ∙ ap (padded p n) (region-same s t right r (λ i a. x .over (right + i) (omega arith)));
+              ∙ ap (padded p n) (region-same s t right r (λ i lo hi. x .over i (omega arith)));
           changes =
               record {
                 len = y .len ∙ x .len;

@@ -1,24 +1,22 @@
 -- A graph in which a pair's number is its place: what it is as a list of pairs, and that adding a pair whose number is known is
 -- `add-edge`. Assumes nothing.
-use Prim.Native.Nat.{ℕ, zero, suc, _+_, _*_, _-_, _≤_, _<_}
-use mathlib.Core.Path.{_≡_, refl, sym, _∙_, ap}
-use mathlib.Core.Bool.{Bool, true, false}
-use mathlib.Core.List.{List, [], _∷_, _++_}
+use Prim.Native.Nat.{ℕ, _+_, _*_, _≤_, _<_}
+use mathlib.Core.Path.{_≡_, sym, _∙_}
+use mathlib.Core.Bool.{false}
+use mathlib.Core.List.{List}
 use mathlib.Core.Logic.{_⊎_, inl, inr, ⊎-elim}
 use native.Mathlib.Omega.{arith}
-use native.Mathlib.Decide.{ℕ-discrete, decLt}
+use native.Mathlib.Decide.{ℕ-discrete}
 use borrow.Author.Tests.{lt-leb}
 use lib.ListN.{length}
 use Rattle.words.specs.Words.{word, put-word}
 use Rattle.words.proofs.Frames.{here, away, length-put}
-use Rattle.multigraph.specs.Multigraph.{Pair, pair, Graph, joins, with-copies, add-edge}
-use Rattle.multigraph.specs.Regular.{Same-ends}
+use Rattle.multigraph.specs.Multigraph.{pair, joins, add-edge}
 use Rattle.multigraph.specs.Stored.{entry, graph-at}
-use Rattle.multigraph.specs.Places.{size, number, copies-of, Alike, Distinct-ends, Changes}
+use Rattle.multigraph.specs.Places.{size, number, copies-of, Alike, Distinct-ends}
 use Rattle.multigraph.specs.Steps.{span}
-use Rattle.multigraph.proofs.Ends.{true-joins}
+use Rattle.multigraph.proofs.Ends.{true-joins, same-ends-sym, same-ends-trans}
 use Rattle.multigraph.proofs.Spans.{graph-span, span-same, span-snoc, not-joins, add-last, add-there}
-use Rattle.multigraph.proofs.Kept.{same-ends-sym, same-ends-trans}
 use Rattle.evening.specs.Contract.{Has-ends, Plain}
 use Rattle.evening.specs.Steps.{plain-pair, plain-graph, pushed, Pair-fits, Pair-added}
 

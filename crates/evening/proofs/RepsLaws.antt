@@ -1,35 +1,23 @@
 -- Representatives: going through a party's row with a map from the other ends to appointments finds for each appointment whether
 -- an earlier one has its ends. Assumes nothing.
-use Prim.Native.Nat.{ℕ, zero, suc, _+_, _*_, _-_, _/_, _%_, _≤_, _<_}
+use Prim.Native.Nat.{ℕ, _+_, _*_, _/_, _%_, _≤_, _<_}
 use mathlib.Core.Path.{_≡_, refl, sym, _∙_, ap}
 use mathlib.Core.List.{List}
-use mathlib.Core.Logic.{_⊎_, inl, inr, ⊎-elim}
+use mathlib.Core.Logic.{inl, inr, ⊎-elim}
 use native.Mathlib.Omega.{arith}
-use native.Mathlib.Nat.{mul-le-mul-left}
 use native.Mathlib.Decide.{ℕ-discrete, decLt}
 use lib.ListN.{length}
 use Rattle.words.specs.Words.{word, put-word}
+use Rattle.words.specs.Frames.{Changes}
 use Rattle.words.proofs.Frames.{here, away, length-put}
+use Rattle.words.proofs.Ranges.{changes-refl, changes-trans, changes-put, changes-put-low}
+use Rattle.words.proofs.Below.{row-inside}
 use Rattle.multigraph.specs.Regular.{Same-ends}
-use Rattle.multigraph.specs.Places.{Changes}
-use Rattle.multigraph.proofs.Kept.{same-ends-sym, same-ends-trans, changes-refl, changes-trans, changes-put, changes-put-low}
+use Rattle.multigraph.proofs.Ends.{same-ends-sym, same-ends-trans}
 use Rattle.evening.specs.Contract.{first-of, second-of}
-use Rattle.evening.specs.Steps.{row, Rows, Says, mate, Same, Rep, Earlier, candidate, Rep-found, Reps-fit, Row-done, Reps-done}
-use Rattle.evening.proofs.RowsLaws.{row-inside}
+use Rattle.evening.specs.Steps.{row, Says, mate, Same, Rep, Earlier, candidate, Rep-found, Reps-fit, Row-done, Reps-done}
 
 -- ── the two ends ──
-
-pub sums-same : (a b x y : ℕ) → Same-ends a b x y → x + y ≡ a + b
-sums-same a b x y h = ⊎-elim (λ k. omega arith) (λ k. omega arith) h
-
-pub ends-first : (a b x y : ℕ) → x + y ≡ a + b → x ≡ a → Same-ends a b x y
-ends-first a b x y h k = inl (k, omega arith)
-
-pub ends-second : (a b x y : ℕ) → x + y ≡ a + b → x ≡ b → Same-ends a b x y
-ends-second a b x y h k = inr (k, omega arith)
-
-pub ends-neither : (a b x y : ℕ) → (x ≡ a → ⊥) → (x ≡ b → ⊥) → Same-ends a b x y → ⊥
-ends-neither a b x y h k e = ⊎-elim (λ i. h (i .0)) (λ i. k (i .0)) e
 
 -- a half-edge and its mate are the ends of their appointment
 pub half-ends :

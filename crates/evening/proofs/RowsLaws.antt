@@ -1,18 +1,17 @@
 -- The rows of half-edges: what one more half-edge does. Assumes nothing.
-use Prim.Native.Nat.{ℕ, zero, suc, _+_, _*_, _-_, _≤_, _<_}
-use mathlib.Core.Path.{_≡_, refl, sym, _∙_, ap}
-use mathlib.Core.List.{List, [], _∷_, _++_}
+use Prim.Native.Nat.{ℕ, zero, _+_, _*_, _≤_, _<_}
+use mathlib.Core.Path.{_≡_, _∙_, ap}
+use mathlib.Core.List.{List}
 use native.Mathlib.Omega.{arith}
-use native.Mathlib.Nat.{mul-le-mul-left}
-use native.Mathlib.Decide.{ℕ-discrete, decLt}
+use native.Mathlib.Decide.{ℕ-discrete}
 use lib.ListN.{length, take}
 use Rattle.words.specs.Basics.{is, count}
 use Rattle.words.specs.Words.{word, put-word}
-use Rattle.words.specs.Frames.{Keeps}
-use Rattle.words.proofs.Sums.{is-same, is-ne}
+use Rattle.words.proofs.Sums.{is-same, is-ne, count-take-le}
 use Rattle.words.proofs.Frames.{here, away, length-put, keeps-refl, keeps-trans}
+use Rattle.words.proofs.Below.{rows-apart, row-inside}
 use Rattle.appointments.proofs.Flat.{count-more}
-use Rattle.evening.specs.Steps.{row, Cleared, Rows-fit, Rows, Rows-filled}
+use Rattle.evening.specs.Steps.{row, Cleared, Rows-fit, Rows-filled}
 
 -- ── clearing ──
 
@@ -33,29 +32,6 @@ cleared-more b n s t u inside h e =
           | yes q ↦ rw (e, q) (here t (b + n) 0 (omega (arith, h .keeps .len)) (omega arith))
           | no q ↦ rw e (away t (b + n) (b + v) 0 (λ x. q (omega arith))) ∙ h .zero v (omega arith)
         ]
-
--- ── addresses ──
-
--- places of two rows are different
-pub rows-apart : (d v t u k : ℕ) → t < d → k < d → (v ≡ u → ⊥) → d * v + t ≡ d * u + k → ⊥
-rows-apart d v t u k a b n e =
-    elim (decLt v u) [
-      | yes l ↦ omega (arith, mul-le-mul-left d l)
-      | no l ↦ let less : u + 1 ≤ v = omega arith in omega (arith, mul-le-mul-left d less)
-    ]
-
--- a place of a row is inside
-pub row-inside : (d v t q : ℕ) → v < q → t < d → d * v + t < d * q
-row-inside d v t q a b = omega (arith, mul-le-mul-left d a)
-
--- ── counts ──
-
-count-take-le : (v : ℕ) (list : List ℕ) (k : ℕ) → count v (take k list) ≤ count v list
-unfolding count
-count-take-le v [] zero = omega arith
-count-take-le v [] (suc k) = omega arith
-count-take-le v (x ∷ xs) zero = omega arith
-count-take-le v (x ∷ xs) (suc k) = omega (arith, count-take-le v xs k)
 
 -- ── one half-edge more ──
 

@@ -7,11 +7,12 @@ use native.Mathlib.Omega.{arith}
 use native.Mathlib.Nat.{mul-one}
 use native.Mathlib.Decide.{ℕ-discrete}
 use lib.ListN.{length}
-use Rattle.words.specs.Basics.{is, total, count, All}
-use Rattle.words.proofs.Sums.{is-sym, total-cong, total-cong-all, total-add, total-mul, total-swap, total-const, total-zero-all, total-all-zero, count-total, zero-count, all-counted, all-map, all-both}
+use Rattle.words.specs.Basics.{total, count, All}
+use Rattle.words.proofs.Sums.{total-cong-all, total-add, total-swap, total-const, total-zero-all, total-all-zero, zero-count, all-counted, all-map, all-both}
 use Rattle.multigraph.specs.Multigraph.{Pair, Graph}
 use Rattle.multigraph.specs.Regular.{weigh, names, degree, Across, Partition}
 use Rattle.multigraph.proofs.Sizes.{all-copies}
+use Rattle.multigraph.proofs.Weights.{total-names}
 
 -- ── counts on a side ──
 
@@ -35,13 +36,6 @@ module _ (N : ℕ) (side : ℕ → ℕ) (left right : List ℕ) (part : Partitio
       ]
 
 -- ── the degrees of a list of parties ──
-
-total-is : (a : ℕ) (vs : List ℕ) → total (λ v. is v a) vs ≡ count a vs
-total-is a vs = total-cong (λ v. is-sym v a) vs ∙ sym (count-total a vs)
-
-total-names : (c a b : ℕ) (vs : List ℕ) → total (λ v. c * names v a b) vs ≡ c * (count a vs + count b vs)
-total-names c a b vs =
-    rw (total-mul c (λ v. names v a b) vs, total-add (λ v. is v a) (λ v. is v b) vs, total-is a vs, total-is b vs)
 
 -- a pair has just one end in a list of parties
 abbrev pub One-end : List ℕ → Pair → Type 0

@@ -6,24 +6,16 @@ use mathlib.Core.Logic.{_⊎_}
 use lib.ListN.{length}
 use Rattle.words.specs.Basics.{All, ran}
 use Rattle.words.specs.Words.{word}
+use Rattle.words.specs.Frames.{Changes, Changes-three}
 use Rattle.appointments.specs.Appointments.{appts, load}
 use Rattle.two_color.specs.Contract.{region}
 use Rattle.multigraph.specs.Multigraph.{pair}
 use Rattle.multigraph.specs.Regular.{Same-ends, Across, Partition}
 use Rattle.multigraph.specs.Stored.{graph-at}
-use Rattle.multigraph.specs.Places.{size, number, copies-of, Distinct-ends, Changes}
+use Rattle.multigraph.specs.Places.{size, number, copies-of, Distinct-ends}
 use Rattle.evening.specs.Evening.{add-appointments, padded, even-out}
 
 -- ── what all steps speak of ──
-
--- Every word below the mark is the same but for three ranges, each further up than the one before: from a up to a + u, from b up
--- to b + v, from c up to c + w.
-pub record Changes-three (a u b v c w mark : ℕ) (s t : List ℕ) : Type 0 where
-  pub len : length t ≡ length s
-  pub under : (i : ℕ) → i < mark → i < a → word t i ≡ word s i
-  pub after-first : (i : ℕ) → i < mark → a + u ≤ i → i < b → word t i ≡ word s i
-  pub after-second : (i : ℕ) → i < mark → b + v ≤ i → i < c → word t i ≡ word s i
-  pub after-third : (i : ℕ) → i < mark → c + w ≤ i → word t i ≡ word s i
 
 -- pair e of the table has these ends, either way round
 abbrev pub Has-ends : List ℕ → ℕ → ℕ → ℕ → ℕ → Type 0

@@ -1,8 +1,8 @@
 -- Small lists worked out by hand from the Rust's text, in which a wrong turn shows. Assumes nothing.
 use mathlib.Core.Path.{_≡_, refl}
-use mathlib.Core.List.{List, [], _∷_}
+use mathlib.Core.List.{[], _∷_}
 use Rattle.words.specs.Basics.{ran}
-use Rattle.appointments.specs.Appointments.{Appt, appt}
+use Rattle.appointments.specs.Appointments.{appt}
 use Rattle.multigraph.specs.Multigraph.{pair}
 use Rattle.evening.specs.Evening.{add-appointments, padded, even-out}
 use Rattle.evening.specs.Computing.{computing}

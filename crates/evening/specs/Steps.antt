@@ -2,21 +2,20 @@
 use Prim.Native.Nat.{ℕ, _+_, _*_, _-_, _/_, _%_, _<_, _≤_, min}
 use mathlib.Core.Path.{_≡_}
 use mathlib.Core.List.{List, [], _++_}
-use mathlib.Core.Bool.{Bool}
 use lib.Dec.{ltb}
 use mathlib.Core.Logic.{_⊎_}
 use lib.ListN.{length, take}
 use Rattle.words.specs.Basics.{pick, count}
-use Rattle.words.specs.Frames.{Keeps}
+use Rattle.words.specs.Frames.{Keeps, Changes, Changes-three}
 use Rattle.words.specs.Words.{word, put-word}
+use Rattle.appointments.specs.Appointments.{appts}
 use Rattle.two_color.specs.Contract.{region}
 use Rattle.multigraph.specs.Multigraph.{Pair, pair, Graph, add-edge}
 use Rattle.multigraph.specs.Regular.{Same-ends}
-use Rattle.multigraph.specs.Places.{size, number, copies-of, Distinct-ends, Changes}
+use Rattle.multigraph.specs.Places.{size, number, copies-of}
 use Rattle.multigraph.specs.Steps.{span}
-use Rattle.appointments.specs.Appointments.{appts}
 use Rattle.evening.specs.Evening.{new-parties, add-appointments}
-use Rattle.evening.specs.Contract.{first-of, second-of, Has-ends, Plain, Changes-three}
+use Rattle.evening.specs.Contract.{first-of, second-of, Has-ends, Plain}
 
 -- ── padding one side ──
 

@@ -3,5 +3,4 @@ mod Again
 pub mod Holding
 pub mod Lending
 pub mod Marking
-pub mod Turning
 pub mod Walking

@@ -1,37 +1,30 @@
 -- Flagged pairs and flagged copies of a graph that lies in words, counted entry by entry; and the least power of two, doubled
 -- up to. Assumes nothing.
-use Prim.Native.Nat.{ℕ, zero, suc, _+_, _*_, _-_, _^_, _≤_, _<_}
+use Prim.Native.Nat.{ℕ, suc, _+_, _*_, _^_, _≤_, _<_}
 use mathlib.Core.Path.{_≡_, refl, _∙_, ap}
 use mathlib.Core.Bool.{Bool, true, false}
-use mathlib.Core.List.{List, [], _∷_, _++_}
+use mathlib.Core.List.{List}
 use native.Mathlib.Omega.{arith}
-use native.Mathlib.Nat.{one-mul, zero-mul, add-zero, mul-le-mul-left, mul-le-mul-right}
+use native.Mathlib.Nat.{one-mul, zero-mul, add-zero}
 use native.Mathlib.Numerals.{add-one}
 use native.Mathlib.Decide.{decLt}
 use borrow.Author.Tests.{lt-leb, le-leb}
 use lib.Dec.{leb}
 use lib.ListN.{length, take, drop, length-take, length-drop}
 use lib.Seq.{getD-take, getD-drop}
-use Rattle.words.specs.Basics.{pick, total, sum-below}
+use Rattle.words.specs.Basics.{pick, sum-below}
 use Rattle.words.specs.Words.{word}
-use Rattle.words.proofs.Sums.{total-append, sum-below-cong}
-use Rattle.multigraph.specs.Multigraph.{Pair, Graph}
+use Rattle.words.proofs.Sums.{sum-below-cong}
+use Rattle.words.proofs.PowersOfTwo.{two-pow}
+use Rattle.multigraph.specs.Multigraph.{Graph}
 use Rattle.multigraph.specs.Stored.{entry, graph-at}
 use Rattle.multigraph.specs.Places.{size, number, copies-of}
-use Rattle.multigraph.specs.Steps.{span}
-use Rattle.multigraph.proofs.Spans.{graph-span, span-snoc}
+use Rattle.multigraph.proofs.Spans.{graph-span, total-span}
 use Rattle.matching.specs.Matching.{power-above, flagged-pairs, flagged-copies}
 use Rattle.matching.specs.Choosing.{flagged-by, flagged-entry, fewer, Chooses}
-use Rattle.matching.proofs.Powers.{power-above-law, two-pow}
+use Rattle.matching.proofs.Powers.{power-above-law}
 
 -- ── entry by entry ──
-
-total-span : (f : Pair → ℕ) (h : ℕ → Pair) (k : ℕ) → total f (span h 0 k) ≡ sum-below (λ i. f (h i)) k
-unfolding total span sum-below
-total-span f h zero = refl
-total-span f h (suc k) =
-    let snoc : span h 0 (suc k) ≡ span h 0 k ++ h k ∷ [] = rw add-one at (span-snoc h k) in
-    omega (arith, ap (total f) snoc, total-append f (span h 0 k) (h k ∷ []), total-span f h k)
 
 pub flagged-sum :
     (by : Bool) (s : List ℕ) (ends pairs g : ℕ) →
@@ -173,10 +166,3 @@ doubling-done m t h d =
     let reach : m ≤ 2 ^ d .times = rw (d .power) at h in
     let same : d .times ≡ power-above m = omega (arith, d .least, power-above-law m .least (d .times) reach) in
     rw same at (d .power)
-
--- the product of two words
-pub product-fits : (a b : ℕ) → a < 4294967296 → b < 4294967296 → a * b < 18446744073709551616
-product-fits a b h k =
-    let x : a ≤ 4294967295 = omega arith in
-    let y : b ≤ 4294967295 = omega arith in
-    omega (arith, mul-le-mul-left a y, mul-le-mul-right 4294967295 x)

@@ -1,43 +1,23 @@
 -- Left i with right i added for every i, one number after the other, over words. Assumes nothing.
-use Prim.Native.Nat.{ℕ, suc, _+_, _*_, _-_, _≤_, _<_}
+use Prim.Native.Nat.{ℕ, _+_, _*_, _-_, _≤_, _<_}
 use mathlib.Core.Path.{_≡_, sym, _∙_, ap}
-use mathlib.Core.List.{List, [], _∷_}
+use mathlib.Core.List.{List}
 use native.Mathlib.Omega.{arith}
 use native.Mathlib.Nat.{mul-le-mul-right}
 use borrow.Author.Tests.{le-leb}
 use lib.Dec.{leb}
 use Rattle.words.specs.Basics.{pick}
 use Rattle.words.specs.Words.{word}
+use Rattle.words.specs.Frames.{Changes}
+use Rattle.words.proofs.Ranges.{changes-trans, changes-wide}
 use Rattle.multigraph.specs.Multigraph.{Graph, add-edge}
 use Rattle.multigraph.specs.Stored.{graph-at}
-use Rattle.multigraph.specs.Places.{size, Changes, Stored, Mapped, Maps-places, Places-mapped, Edge-added, Adds-edge}
-use Rattle.multigraph.proofs.Kept.{changes-trans, changes-wide, Ends-kept, ends-kept, alike-kept, graph-kept}
+use Rattle.multigraph.specs.Places.{size, Stored, Mapped, Maps-places, Places-mapped, Edge-added, Adds-edge}
+use Rattle.multigraph.proofs.Kept.{Ends-kept, ends-kept, alike-kept, graph-kept}
 use Rattle.matching.specs.Matching.{add-diagonal}
 use Rattle.matching.specs.Searched.{column, lefts, rights, Diagonal-fits, Diagonal-added}
 use Rattle.matching.specs.declared.Table.{Table}
-
--- ── the sides, from place i on ──
-
-column-cons :
-    (s : List ℕ) (at n i : ℕ) → i < n →
-    column s (at + 2 * i) (n - i) ≡ word s (at + 2 * i) ∷ column s (at + 2 * (i + 1)) (n - (i + 1))
-unfolding column
-column-cons s at n i h =
-    let e : n - i ≡ suc (n - (i + 1)) = omega arith in
-    let a : at + 2 * i + 2 ≡ at + 2 * (i + 1) = omega arith in
-    rw (e, a)
-
-column-all : (s : List ℕ) (at n : ℕ) → column s (at + 2 * 0) (n - 0) ≡ column s at n
-column-all s at n =
-    let e : n - 0 ≡ n = omega arith in
-    let a : at + 2 * 0 ≡ at = omega arith in
-    rw (e, a)
-
-column-none : (s : List ℕ) (at n : ℕ) → column s at (n - n) ≡ []
-unfolding column
-column-none s at n =
-    let e : n - n ≡ 0 = omega arith in
-    rw e
+use Rattle.matching.proofs.Columns.{column-cons, column-all, column-none}
 
 -- what is still to be added from place i on
 abbrev pub rest-of : Table → ℕ → ℕ → ℕ → List ℕ → Graph → Graph

@@ -1,35 +1,32 @@
--- Both searches over words, and the matching's numbers written out: `rbmg-find-perfect-matching`. Assumes nothing.
-use Prim.Native.Nat.{ℕ, _+_, _*_, _-_, _≤_, _<_}
-use mathlib.Core.Path.{_≡_, refl, sym, _∙_, ap}
+-- Both searches over words are `rbmg-find-perfect-matching`; its numbers are then written out (Reading). Assumes nothing.
+use Prim.Native.Nat.{ℕ, _+_, _*_, _≤_, _<_}
+use mathlib.Core.Path.{_≡_, sym, _∙_, ap}
 use mathlib.Core.Bool.{true, false}
 use mathlib.Core.List.{List}
-use mathlib.Core.Logic.{_⊎_, inl, inr, ⊎-elim}
 use native.Mathlib.Omega.{arith}
-use native.Mathlib.Decide.{ℕ-discrete, decLe}
+use native.Mathlib.Decide.{decLe}
 use borrow.Author.Tests.{eq-eqb, ne-eqb, le-leb}
 use lib.Dec.{leb}
 use lib.ListN.{length}
 use Rattle.words.specs.Basics.{pick, ran}
-use Rattle.words.specs.Words.{word, put-word}
+use Rattle.words.specs.Words.{word}
 use Rattle.words.specs.Frames.{Stays}
 use Rattle.words.proofs.Sums.{total-zero-all}
-use Rattle.words.proofs.Frames.{here, away, length-put, stays-trans}
+use Rattle.words.proofs.Frames.{stays-trans}
 use Rattle.multigraph.specs.Multigraph.{Pair, Graph}
-use Rattle.multigraph.specs.Regular.{Regular}
 use Rattle.multigraph.specs.Stored.{entry, graph-at}
-use Rattle.multigraph.specs.Places.{size, number, copies-of}
-use Rattle.multigraph.proofs.Matchings.{single-copies}
-use Rattle.multigraph.proofs.Sizes.{matching-pairs}
-use Rattle.multigraph.proofs.Spans.{graph-span, matching-span, matched, span-same, all-span}
-use Rattle.multigraph.proofs.Kept.{Ends-kept, alike-kept, alike-back, graph-kept, numbered-kept}
+use Rattle.multigraph.specs.Places.{size, number}
+use Rattle.multigraph.proofs.Sizes.{entries-one}
+use Rattle.multigraph.proofs.Spans.{graph-span, all-span}
+use Rattle.multigraph.proofs.Kept.{Ends-kept, graph-kept}
 use Rattle.matching.specs.Matching.{power-above, search-graph, halve, flagged-pairs, flagged-copies, rbmg-find-perfect-matching}
 use Rattle.matching.specs.Perfect.{Matching-of}
-use Rattle.matching.specs.Searched.{lefts, rights, On-diagonal, Tabled, Can-search, Search-done, Searches-done, Can-read, Matching-read, Reads-matching, Can-find, Matching-found}
+use Rattle.matching.specs.Searched.{lefts, rights, Can-search, Search-done, Searches-done, Can-read, Matching-read, Reads-matching, Can-find, Matching-found}
 use Rattle.matching.specs.declared.Table.{Table}
 use Rattle.matching.proofs.MatchingLaws.{matching-law}
-use Rattle.matching.proofs.Narrow.{length-graph}
-use Rattle.matching.proofs.GraphWords.{Sides-kept, sides-kept}
-use Rattle.matching.proofs.SearchWords.{length-column}
+use Rattle.matching.proofs.Columns.{length-column}
+use Rattle.matching.proofs.Tables.{Sides-kept, sides-kept, rows-kept, tabled-kept}
+use Rattle.matching.proofs.Reading.{can-read}
 
 -- ── after a search another one can follow ──
 
@@ -42,11 +39,7 @@ module _ (t : Table) (g n k mark : ℕ) (s u : List ℕ) (can : Can-search t g n
   high i a b = st .over i b (omega (arith, can .after-places))
 
   kept : Ends-kept (t .ends) (t .pairs + n) s u
-  kept =
-      record {
-        firsts = λ e a. low (t .ends + 2 * e) (omega (arith, can .tabled .after-ends));
-        seconds = λ e a. low (t .ends + 2 * e + 1) (omega (arith, can .tabled .after-ends));
-      }
+  kept = rows-kept t n s u (can .tabled) low
 
   size-same : size u g ≡ size s g
   size-same = high (g + 1) (omega arith) (omega (arith, can .below))
@@ -62,34 +55,6 @@ module _ (t : Table) (g n k mark : ℕ) (s u : List ℕ) (can : Can-search t g n
   pub sides-same : Sides-kept t n s u
   sides-same = sides-kept t n s u (can .tabled .after-ends) low
 
-  tabled-same : Tabled t n u
-  tabled-same =
-      record {
-        distinct =
-            record {
-              distinct =
-                  λ e f a b x. can .tabled .distinct .distinct e f a b (alike-back kept e f (omega arith) (omega arith) x);
-            };
-        diagonal = diagonal;
-        after-diag = can .tabled .after-diag;
-        after-ends = can .tabled .after-ends;
-      }
-    where
-      key : (i : ℕ) → i < n → word u (t .diag + i) ≡ word s (t .diag + i)
-      key i a = low (t .diag + i) (omega (arith, can .tabled .after-diag))
-
-      diagonal : (i : ℕ) → i < n → On-diagonal t i u
-      diagonal i a =
-          ⊎-elim
-          (λ x.
-          inl (
-            rw (key i a) (x .0),
-            rw (key i a) (alike-kept kept (word s (t .diag + i)) (t .pairs + i) (omega (arith, x .0)) (omega arith) (x .1)),
-          ))
-          (λ x.
-          inr (rw (key i a) (x .0), λ e b y. x .1 e b (alike-back kept e (t .pairs + i) (omega arith) (omega arith) y)))
-          (can .tabled .diagonal i a)
-
   pub can-search-again : Can-search t g n k mark u
   can-search-again =
       record {
@@ -102,7 +67,7 @@ module _ (t : Table) (g n k mark : ℕ) (s u : List ℕ) (can : Can-search t g n
         few = can .few;
         most = can .most;
         numbers = λ i a. rw (number-same i (omega (arith, size-same))) (can .numbers i (omega (arith, size-same)));
-        tabled = tabled-same;
+        tabled = tabled-kept t n s u (can .tabled) low;
         after-places = can .after-places;
         below = omega (arith, can .below, size-same);
         room = omega (arith, can .room, st .len);
@@ -170,66 +135,6 @@ two-searches t g n k mark middle new flagged later s u v can d some e =
         )
         at (e .left)
 
--- ── the numbers written out ──
-
--- i numbers are written
-pub record Reading (h out i : ℕ) (s u : List ℕ) : Type 0 where
-  pub len : length u ≡ length s
-  pub numbers : (j : ℕ) → j < i → word u (out + j) ≡ number s h j
-  pub under : (j : ℕ) → j < out → word u j ≡ word s j
-  pub over : (j : ℕ) → out + i ≤ j → word u j ≡ word s j
-
-pub reading-none : (h out : ℕ) (s : List ℕ) → Reading h out 0 s s
-reading-none h out s =
-    record { len = refl; numbers = λ j a. absurd (omega arith); under = λ j a. refl; over = λ j a. refl }
-
-pub reading-more :
-    (ends rows h n out i : ℕ) (s u v : List ℕ) → Can-read ends rows h n out s → i < n → Reading h out i s u →
-    v ≡ put-word u (out + i) (word u (h + 2 + 2 * i)) → Reading h out (i + 1) s v
-reading-more ends rows h n out i s u v can a r e =
-    rw e
-    (record {
-      len = length-put u (out + i) x ∙ r .len;
-      numbers = λ j b. elim (ℕ-discrete j i) [ yes k ↦ rw k new | no k ↦ away u (out + i) (out + j) x (λ y. omega arith) ∙ r .numbers j (omega arith) ];
-      under = λ j b. away u (out + i) j x (λ y. omega arith) ∙ r .under j b;
-      over = λ j b. away u (out + i) j x (λ y. omega arith) ∙ r .over j (omega arith);
-    })
-  where
-    x : ℕ
-    x = word u (h + 2 + 2 * i)
-
-    its : x ≡ number s h i
-    its = r .over (h + 2 + 2 * i) (omega (arith, can .before-graph))
-
-    new : word (put-word u (out + i) x) (out + i) ≡ number s h i
-    new =
-        here u (out + i) x (omega (arith, r .len, can .before-graph, can .inside))
-        (omega (arith, its, can .numbers i a, can .after-ends, can .before-graph, can .inside, can .short))
-        ∙ its
-
-pub reading-done :
-    (ends pairs rows h n out : ℕ) (s u : List ℕ) → Can-read ends rows h n out s → Reading h out n s u →
-    Matching-read ends pairs h n out s u
-reading-done ends pairs rows h n out s u can r =
-    record {
-      matching =
-          rw (matching-span u ends pairs out n, graph-span s ends pairs h, can .sized)
-          (span-same (entry s ends pairs h) (matched u ends pairs out) 0 n (λ j a b. same j (omega arith)));
-      numbers = r .numbers;
-      changes =
-          record { len = r .len; under = r .under; between = λ i a b. r .over i a; over = λ i a. r .over i (omega (arith, can .before-graph)) };
-    }
-  where
-    kept : Ends-kept ends rows s u
-    kept =
-        record {
-          firsts = λ e a. r .under (ends + 2 * e) (omega (arith, can .after-ends));
-          seconds = λ e a. r .under (ends + 2 * e + 1) (omega (arith, can .after-ends));
-        }
-
-    same : (j : ℕ) → j < n → matched u ends pairs out j ≡ entry s ends pairs h j
-    same j a = rw (r .numbers j a, can .single j a) (numbered-kept kept pairs (number s h j) 1 (can .numbers j a))
-
 -- ── the whole ──
 
 module _ (t : Table) (g n k out mark new : ℕ) (s u : List ℕ) (can : Can-find t g n k out mark s)
@@ -245,17 +150,7 @@ module _ (t : Table) (g n k out mark new : ℕ) (s u : List ℕ) (can : Can-find
       (omega (arith, can .search .some)))
 
   sized : size u mark ≡ n
-  sized =
-      let double : 2 * n ≡ n + n = omega arith in
-      let reg : Regular (n + n) (can .search .side) 1 M = rw double at (its .perfect .regular) in
-      sym (length-graph u (t .ends) (t .pairs) mark) ∙ matching-pairs n (can .search .side) M reg (its .perfect .positive)
-
-  single : (i : ℕ) → i < n → copies-of u mark i ≡ 1
-  single i a =
-      all-span (λ p. p .copies ≡ 1) (entry u (t .ends) (t .pairs) mark) 0 (size u mark)
-      (rw (graph-span u (t .ends) (t .pairs) mark)
-      at (single-copies (2 * n) (can .search .side) M (its .perfect .regular) (its .perfect .positive)))
-      i (omega arith) (omega (arith, sized))
+  sized = entries-one u (t .ends) (t .pairs) mark n (can .search .side) (its .perfect .regular) (its .perfect .positive)
 
   -- no number is flagged
   unflagged : (i : ℕ) → i < n → number u mark i < t .pairs
@@ -272,17 +167,11 @@ module _ (t : Table) (g n k out mark new : ℕ) (s u : List ℕ) (can : Can-find
           (rw (graph-span u (t .ends) (t .pairs) mark) at (total-zero-all (λ (p : Pair). p .bad) M (its .unflagged))) i
           (omega arith) (omega (arith, sized))
 
-  pub can-read : Can-read (t .ends) (t .pairs + n) mark n out u
-  can-read =
-      record {
-        sized = sized;
-        single = single;
-        numbers = λ i a. d .numbers i (omega (arith, sized));
-        after-ends = omega (arith, can .search .tabled .after-ends, can .after-places);
-        before-graph = can .below;
-        inside = omega (arith, can .search .room, d .stays .len);
-        short = omega (arith, can .search .short, d .stays .len);
-      }
+  pub found-can-read : Can-read (t .ends) (t .pairs + n) mark n out u
+  found-can-read =
+      can-read (can .search .side) u (t .ends) (t .pairs) (t .pairs + n) mark out n (its .perfect .regular) (its .perfect .positive)
+      (d .numbers) (omega (arith, can .search .tabled .after-ends, can .after-places)) (can .below)
+      (omega (arith, can .search .room, d .stays .len)) (omega (arith, can .search .short, d .stays .len))
 
   pub matching-found : (v : List ℕ) → Reads-matching mark n out u v → Matching-found t g n k out mark new s v
   matching-found v reads =
@@ -300,4 +189,4 @@ module _ (t : Table) (g n k out mark new : ℕ) (s u : List ℕ) (can : Can-find
       }
     where
       r : Matching-read (t .ends) (t .pairs) mark n out u v
-      r = reads (t .ends) (t .pairs) (t .pairs + n) can-read
+      r = reads (t .ends) (t .pairs) (t .pairs + n) found-can-read

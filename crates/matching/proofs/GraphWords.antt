@@ -1,24 +1,28 @@
 -- The graph of a search over words: the copy with copies times α is `add-times`, and the diagonal comes on top. Assumes nothing.
-use Prim.Native.Nat.{ℕ, zero, suc, _+_, _*_, _-_, _≤_, _<_}
+use Prim.Native.Nat.{ℕ, zero, suc, _+_, _*_, _<_}
 use mathlib.Core.Path.{_≡_, refl, sym, _∙_, ap}
 use mathlib.Core.List.{List, []}
-use mathlib.Core.Logic.{_⊎_, inl, ⊎-elim}
+use mathlib.Core.Logic.{inl, ⊎-elim}
 use native.Mathlib.Omega.{arith}
 use native.Mathlib.Nat.{add-zero}
 use borrow.Author.Tests.{lt-leb}
 use Rattle.words.specs.Words.{word}
+use Rattle.words.specs.Frames.{Changes}
+use Rattle.words.proofs.Ranges.{changes-trans}
 use Rattle.multigraph.specs.Multigraph.{Pair, pair, Graph, add-edge}
 use Rattle.multigraph.specs.Regular.{Apart}
 use Rattle.multigraph.specs.Stored.{entry, graph-at}
-use Rattle.multigraph.specs.Places.{size, number, copies-of, Alike, Changes, Stored, Mappable}
+use Rattle.multigraph.specs.Places.{size, number, copies-of, Alike, Stored, Mappable}
 use Rattle.multigraph.specs.Steps.{span}
 use Rattle.multigraph.proofs.Spans.{graph-span, span-same, span-snoc, apart-span, not-joins, add-last}
 use Rattle.multigraph.proofs.Numbers.{numbers-once}
-use Rattle.multigraph.proofs.Kept.{same-ends-sym, same-ends-trans, changes-trans, Ends-kept, alike-back, alike-kept, entry-is}
+use Rattle.multigraph.proofs.Kept.{Ends-kept, alike-back, alike-kept, entry-is}
+use Rattle.multigraph.proofs.Ends.{same-ends-sym, same-ends-trans}
 use Rattle.matching.specs.Matching.{add-times}
 use Rattle.matching.specs.Choosing.{Can-copy, Copied}
-use Rattle.matching.specs.Searched.{column, lefts, rights, Tabled, Diagonal-fits, Diagonal-added, Can-build, Graph-built, Adds-diagonal}
+use Rattle.matching.specs.Searched.{Tabled, Diagonal-fits, Diagonal-added, Can-build, Graph-built, Adds-diagonal}
 use Rattle.matching.specs.declared.Table.{Table}
+use Rattle.matching.proofs.Tables.{Sides-kept, sides-kept, rows-kept}
 
 -- ── copies times α, as a list given place by place ──
 
@@ -46,29 +50,6 @@ unfolding span
 times-span α f k apart =
     let e : 0 + k ≡ k = omega arith in
     rw e at (times-from α f 0 k (rw e apart))
-
--- ── the sides stay ──
-
-column-same :
-    (s u : List ℕ) (bound at n : ℕ) → at + 2 * n ≤ bound + 1 → ((i : ℕ) → i < bound → word u i ≡ word s i) →
-    column u at n ≡ column s at n
-unfolding column
-column-same s u bound at zero h same = refl
-column-same s u bound at (suc n) h same = rw (same at (omega arith), column-same s u bound (at + 2) n (omega arith) same)
-
--- the sides are the same where the words below the map are
-pub record Sides-kept (t : Table) (n : ℕ) (s u : List ℕ) : Type 0 where
-  pub left : lefts t n u ≡ lefts t n s
-  pub right : rights t n u ≡ rights t n s
-
-pub sides-kept :
-    (t : Table) (n : ℕ) (s u : List ℕ) → t .ends + 2 * (t .pairs + n) ≤ t .places →
-    ((i : ℕ) → i < t .places → word u i ≡ word s i) → Sides-kept t n s u
-sides-kept t n s u h same =
-    record {
-      left = column-same s u (t .places) (t .ends + 2 * t .pairs) n (omega arith) same;
-      right = column-same s u (t .places) (t .ends + 2 * t .pairs + 1) n (omega arith) same;
-    }
 
 -- ── the diagonal's numbers ──
 
@@ -104,11 +85,7 @@ module _ (most : ℕ) (t : Table) (g h n α β : ℕ) (s : List ℕ) (can : Can-
     low i a = c .under i (omega (arith, can .after-places, can .below))
 
     kept : Ends-kept (t .ends) (t .pairs + n) s u
-    kept =
-        record {
-          firsts = λ e a. low (t .ends + 2 * e) (omega (arith, can .tabled .after-ends));
-          seconds = λ e a. low (t .ends + 2 * e + 1) (omega (arith, can .tabled .after-ends));
-        }
+    kept = rows-kept t n s u (can .tabled) low
 
     key : (i : ℕ) → i < n → word u (t .diag + i) ≡ word s (t .diag + i)
     key i a = low (t .diag + i) (omega (arith, can .tabled .after-diag))

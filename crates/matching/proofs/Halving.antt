@@ -11,13 +11,13 @@ use lib.Dec.{leb}
 use Rattle.words.specs.Basics.{pick, Ran}
 use Rattle.words.proofs.Sums.{all-map, total-cong-all}
 use Rattle.words.proofs.Runs.{ran-then, ran-map}
+use Rattle.words.proofs.PowersOfTwo.{two-pow}
 use Rattle.multigraph.specs.Multigraph.{Graph}
 use Rattle.multigraph.specs.Regular.{weigh, Regular, Positive, Symmetric, Agrees}
 use Rattle.euler.specs.Split.{Halves, rbmg-split-into-two}
 use Rattle.euler.specs.Halved.{Split-of}
 use Rattle.euler.proofs.SplitLaws.{split-law}
 use Rattle.matching.specs.Matching.{flagged-copies, fewer-flagged, halve}
-use Rattle.matching.proofs.Powers.{two-pow}
 
 -- one of the two halves of a graph
 pub record Half-of (N : ℕ) (side : ℕ → ℕ) (k : ℕ) (g c : Graph) : Type 0 where

@@ -1,5 +1,5 @@
 -- A halving over words: what the split asks, what the chooser and the copy give, and halving after halving. Assumes nothing.
-use Prim.Native.Nat.{ℕ, zero, suc, _+_, _*_, _-_, _/_, _^_, _≤_, _<_}
+use Prim.Native.Nat.{ℕ, zero, suc, _+_, _*_, _/_, _^_, _≤_, _<_}
 use mathlib.Core.Path.{_≡_, refl, sym, _∙_, ap}
 use mathlib.Core.Bool.{Bool, true, false}
 use mathlib.Core.List.{List}
@@ -7,19 +7,21 @@ use native.Mathlib.Omega.{arith}
 use native.Mathlib.Nat.{one-mul}
 use lib.Dec.{leb}
 use lib.ListN.{length}
-use lib.Pow.{pow-pos}
 use Rattle.words.specs.Basics.{pick, ran, total}
 use Rattle.words.specs.Words.{word}
 use Rattle.words.specs.Frames.{Keeps}
 use Rattle.words.proofs.Frames.{keeps-refl, keeps-trans, keeps-less}
+use Rattle.words.proofs.PowersOfTwo.{no-power, two-pow, pow-same}
 use Rattle.multigraph.specs.Multigraph.{Pair, Graph}
 use Rattle.multigraph.specs.Regular.{names, between, Regular}
 use Rattle.multigraph.specs.Stored.{entry, graph-at}
 use Rattle.multigraph.specs.Places.{size, number, copies-of}
 use Rattle.multigraph.proofs.Ends.{between-symmetric}
-use Rattle.multigraph.proofs.Spans.{graph-span, span-same, all-span}
-use Rattle.multigraph.proofs.Kept.{Ends-kept, entry-is}
+use Rattle.multigraph.proofs.Spans.{graph-span, span-same, length-graph}
+use Rattle.multigraph.proofs.Kept.{Ends-kept, ends-below, entry-is}
 use Rattle.multigraph.proofs.Parts.{parts-at}
+use Rattle.multigraph.proofs.Sizes.{entries-copies}
+use Rattle.multigraph.proofs.Flags.{narrow-reflag, regular-reflag}
 use Rattle.euler.specs.Split.{Halves, rbmg-split-into-two}
 use Rattle.euler.specs.Halved.{Split-of}
 use Rattle.euler.specs.Room.{Splits, Numbers-from, Halves-stored}
@@ -28,9 +30,8 @@ use Rattle.matching.specs.Matching.{fewer-flagged, halve}
 use Rattle.matching.specs.Choosing.{flagged-by, Chooses, Can-copy, Copied, Copies}
 use Rattle.matching.specs.Searched.{Search-laid, Searching, Can-halve, Halved, Can-halve-all, Halved-all}
 use Rattle.matching.specs.declared.Table.{Table}
-use Rattle.matching.proofs.Powers.{two-pow, pow-same}
 use Rattle.matching.proofs.Halving.{Half-of, half-of}
-use Rattle.matching.proofs.Narrow.{copies-le, Lies-within, lies-within, length-graph, narrow-reflag, regular-reflag}
+use Rattle.matching.proofs.Narrow.{Lies-within, lies-within}
 
 -- ── what is asked ──
 
@@ -78,11 +79,12 @@ module _ (t : Table) (h n width mark : ℕ) (s : List ℕ) (can : Can-halve t h 
 
     half-copies : (j : ℕ) → j < size v x → 1 * copies-of v x j < 4294967296
     half-copies j a =
-        let le : copies-of v x j ≤ can .half =
-        all-span (λ p. p .copies ≤ can .half) (entry v (t .ends) (t .pairs) x) 0 (size v x)
-        (rw (graph-span v (t .ends) (t .pairs) x) at (copies-le (2 * n) (can .side) (can .half) _ regular)) j (omega arith)
-        (omega arith) in
-        omega (arith, le, can .light, one-mul (copies-of v x j))
+        omega (
+          arith,
+          entries-copies (2 * n) (can .side) (can .half) v (t .ends) (t .pairs) x regular j a,
+          can .light,
+          one-mul (copies-of v x j),
+        )
 
     pub half-copy : Can-copy x h 1 v
     half-copy =
@@ -97,11 +99,7 @@ module _ (t : Table) (h n width mark : ℕ) (s : List ℕ) (can : Can-halve t h 
 
     module _ (u : List ℕ) (c : Copied x h 1 v u) where
       half-ends : Ends-kept (t .ends) (t .pairs + n) v u
-      half-ends =
-          record {
-            firsts = λ e a. c .under (t .ends + 2 * e) (omega (arith, can .laid .table));
-            seconds = λ e a. c .under (t .ends + 2 * e + 1) (omega (arith, can .laid .table));
-          }
+      half-ends = ends-below (t .ends) (t .pairs + n) h (can .laid .table) (c .under)
 
       pub half-graph : graph-at u (t .ends) (t .pairs) h ≡ graph-at v (t .ends) (t .pairs) x
       half-graph =
@@ -272,11 +270,6 @@ halving-more t h n width side e by x mark new s u v more o d =
               (λ y z. half .copies (between y z) (between-symmetric y z)),
           o .graph .narrow a b,
         ))
-
--- at degree 1 no halving is left
-no-power : (x f : ℕ) → x ≡ 2 ^ f → x ≤ 1 → f ≡ 0
-no-power x zero p h = refl
-no-power x (suc f) p h = absurd (omega (arith, two-pow f, pow-pos f))
 
 pub halving-done :
     (t : Table) (h n width : ℕ) (side : ℕ → ℕ) (e : ℕ) (by : Bool) (degree x mark new : ℕ) (s u : List ℕ) → degree ≡ 2 ^ e →

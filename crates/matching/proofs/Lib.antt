@@ -5,10 +5,13 @@ pub mod Halving
 pub mod MatchingLaws
 pub mod Counts
 pub mod CopyLaws
+pub mod Columns
+pub mod Tables
 pub mod DiagonalWords
 pub mod GraphWords
 pub mod Narrow
 pub mod HalvingWords
 pub mod SearchWords
+pub mod Reading
 pub mod FindWords
 pub mod SmallSearch

@@ -3,7 +3,7 @@
 use Prim.Native.Nat.{ℕ, zero, suc, _*_, _^_, _≤_, _<_}
 use mathlib.Core.Path.{_≡_, refl}
 use mathlib.Core.Bool.{Bool, true, false}
-use mathlib.Core.List.{List, [], _∷_}
+use mathlib.Core.List.{List}
 use mathlib.Core.Logic.{inl, ⊎-elim}
 use native.Mathlib.Omega.{arith}
 use native.Mathlib.Nat.{mul-zero, mul-one, mul-suc, mul-le-mul-left, mul-le-mul-right}
@@ -14,25 +14,14 @@ use Rattle.words.specs.Basics.{pick, ran, Ran}
 use Rattle.words.proofs.Sums.{is-cases, all-map, all-both, total-zero-all, total-all-zero}
 use Rattle.words.proofs.Runs.{ran-then, ran-map, ran-both}
 use Rattle.multigraph.specs.Multigraph.{Pair, Graph}
-use Rattle.multigraph.specs.Regular.{weigh, between, copies-between, pairs-between, Regular, Positive, Partition, Symmetric, Agrees}
-use Rattle.multigraph.proofs.Ends.{same-weight, between-cases}
-use Rattle.multigraph.proofs.Weights.{weigh-none, weigh-cons, apart-le}
+use Rattle.multigraph.specs.Regular.{weigh, between, copies-between, pairs-between, Regular, Positive, Partition, Agrees}
+use Rattle.multigraph.proofs.Weights.{apart-le, copies-in-weight}
 use Rattle.multigraph.proofs.Matchings.{weigh-ends, single-copies, single-weigh}
 use Rattle.matching.specs.Matching.{power-above, flagged-pairs, flagged-copies, halve, search-graph, rbmg-find-perfect-matching}
 use Rattle.matching.specs.Perfect.{Perfect, Matching-of}
 use Rattle.matching.proofs.Powers.{power-above-law}
 use Rattle.matching.proofs.Searching.{lacks, lacks-symmetric, Search-of, search-law}
 use Rattle.matching.proofs.Halving.{Left-of, halve-law, alon-halving}
-
--- the copies between two parties are a part of every symmetric weight
-pub copies-in-weight : (w : ℕ → ℕ → ℕ) → Symmetric w → (u v : ℕ) (g : Graph) → copies-between u v g * w u v ≤ weigh w g
-copies-in-weight w s u v [] = rw (weigh-none (between u v), weigh-none w) (omega arith)
-copies-in-weight w s u v (p ∷ g) =
-    rw (weigh-cons (between u v) p g, weigh-cons w p g)
-    (⊎-elim
-    (λ k. rw (k .1, same-weight w s u v (p .first) (p .second) (k .0)) (omega (arith, copies-in-weight w s u v g)))
-    (λ k. rw (k .1, mul-zero) (omega (arith, copies-in-weight w s u v g)))
-    (between-cases u v (p .first) (p .second)))
 
 -- a perfect matching weighs what its pairs weigh, each once
 pub perfect-weigh :

@@ -5,36 +5,19 @@ use mathlib.Core.Path.{_≡_, refl}
 use mathlib.Core.Bool.{Bool, true, false}
 use native.Mathlib.Omega.{arith}
 use native.Mathlib.Decide.{decLe}
-use native.Mathlib.Nat.{pow-succ', mod-lt, div-add-mod, le-div-iff-mul-le}
+use native.Mathlib.Nat.{mod-lt, div-add-mod, le-div-iff-mul-le}
 use native.Mathlib.Numerals.{add-one}
 use borrow.Author.Tests.{leb-true, leb-false}
 use lib.Dec.{leb}
-use lib.Pow.{pow-pos, pow-mono}
+use lib.Pow.{pow-pos}
 use Rattle.words.specs.Basics.{pick}
+use Rattle.words.proofs.PowersOfTwo.{two-pow, exponent-lt}
 use Rattle.matching.specs.Matching.{power-above}
 
 -- 2^e is the least power of two not below m.
 pub record Least-power (m e : ℕ) : Type 0 where
   pub reaches : m ≤ 2 ^ e
   pub least : (i : ℕ) → m ≤ 2 ^ i → e ≤ i
-
-pub two-pow : (e : ℕ) → 2 ^ suc e ≡ 2 * 2 ^ e
-two-pow e = pow-succ' 2 e
-
--- a higher power has a higher exponent
-exponent-lt : (e i : ℕ) → 2 ^ e < 2 ^ i → e < i
-exponent-lt e i h = elim (decLe i e) [ yes k ↦ absurd (omega (arith, pow-mono {i = i} {j = e} k)) | no k ↦ omega arith ]
-
--- a power has one exponent
-pub pow-same : (e i : ℕ) → 2 ^ e ≡ 2 ^ i → e ≡ i
-pow-same e i h =
-    elim (decLe e i) [
-      | yes k ↦ elim (decLe i e) [ yes l ↦ omega arith | no l ↦ absurd (omega (arith, pow-less e i (omega arith))) ]
-      | no k ↦ absurd (omega (arith, pow-less i e (omega arith)))
-    ]
-  where
-    pow-less : (a b : ℕ) → suc a ≤ b → 2 ^ a < 2 ^ b
-    pow-less a b l = omega (arith, pow-mono {i = suc a} {j = b} l, two-pow a, pow-pos a)
 
 pub power-above-law : (m : ℕ) → Least-power m (power-above m)
 unfolding power-above

@@ -1,72 +1,27 @@
 -- One search over words: what its steps ask follows from what it asks, and what it leaves is the definition's. Assumes nothing.
-use Prim.Native.Nat.{ℕ, zero, suc, _+_, _*_, _-_, _/_, _^_, _≤_, _<_}
+use Prim.Native.Nat.{ℕ, _+_, _*_, _-_, _/_, _^_, _≤_, _<_}
 use mathlib.Core.Path.{_≡_, refl, sym, _∙_, ap}
 use mathlib.Core.Bool.{Bool}
 use mathlib.Core.List.{List, []}
-use mathlib.Core.Logic.{_⊎_, ⊎-elim}
+use mathlib.Core.Logic.{⊎-elim}
 use native.Mathlib.Omega.{arith}
 use native.Mathlib.Nat.{mul-comm, mul-one, mul-le-mul-left, mul-le-mul-right, one-mul}
-use native.Mathlib.Decide.{ℕ-discrete, decLt}
-use lib.ListN.{length}
-use Rattle.words.specs.Basics.{is, count, All}
+use Rattle.words.specs.Basics.{is}
 use Rattle.words.specs.Words.{word}
-use Rattle.words.proofs.Sums.{is-eq}
 use Rattle.words.proofs.Frames.{stays-trans, keeps-stays}
+use Rattle.words.proofs.Ranges.{changes-stays}
 use Rattle.multigraph.specs.Multigraph.{Graph}
 use Rattle.multigraph.specs.Regular.{Regular}
-use Rattle.multigraph.specs.Stored.{entry, graph-at}
+use Rattle.multigraph.specs.Stored.{graph-at}
 use Rattle.multigraph.specs.Places.{size, copies-of, Alike}
-use Rattle.multigraph.proofs.Sizes.{regular-pairs}
-use Rattle.multigraph.proofs.Spans.{graph-span, all-span}
-use Rattle.multigraph.proofs.Kept.{changes-stays}
+use Rattle.multigraph.proofs.Sizes.{entries-few, entries-copies}
 use Rattle.matching.specs.Matching.{power-above, add-times, add-diagonal, search-graph, flagged-pairs}
-use Rattle.matching.specs.Searched.{column, lefts, rights, Can-build, Graph-built, Searching, Can-halve-all, Halved-all, Can-search, Search-done}
+use Rattle.matching.specs.Searched.{lefts, rights, Can-build, Graph-built, Searching, Can-halve-all, Halved-all, Can-search, Search-done}
 use Rattle.matching.specs.declared.Table.{Table}
+use Rattle.matching.proofs.Columns.{length-column, column-at, column-once}
 use Rattle.matching.proofs.Powers.{power-above-law, power-above-under, Shares, shares}
 use Rattle.matching.proofs.Searching.{search-law}
-use Rattle.matching.proofs.Narrow.{copies-le, length-graph, search-narrow}
-
--- ── the sides in the table ──
-
-pub length-column : (s : List ℕ) (at n : ℕ) → length (column s at n) ≡ n
-unfolding column
-length-column s at zero = refl
-length-column s at (suc n) = ap suc (length-column s (at + 2) n)
-
-next-at : (s : List ℕ) (at i : ℕ) → word s (at + 2 + 2 * i) ≡ word s (at + 2 * suc i)
-next-at s at i = ap (word s) (omega arith)
-
-column-at :
-    (P : ℕ → Type 0) (s : List ℕ) (at n : ℕ) → All P (column s at n) → (i : ℕ) → i < n → P (word s (at + 2 * i))
-unfolding column
-column-at P s at zero h i a = absurd (omega arith)
-column-at P s at (suc n) h zero a =
-    let e : at + 2 * 0 ≡ at = omega arith in
-    rw e (h .0)
-column-at P s at (suc n) h (suc i) a = rw (← next-at s at i) (column-at P s (at + 2) n (h .1) i (omega arith))
-
-column-once : (s : List ℕ) (at n i : ℕ) → i < n → 0 < count (word s (at + 2 * i)) (column s at n)
-unfolding column count
-column-once s at zero i a = absurd (omega arith)
-column-once s at (suc n) zero a = omega (arith, is-eq {u = word s (at + 2 * 0)} {v = word s at} (ap (word s) (omega arith)))
-column-once s at (suc n) (suc i) a =
-    let ih : 0 < count (word s (at + 2 * suc i)) (column s (at + 2) n) = rw (← next-at s at i) (column-once s (at + 2) n i (omega arith)) in
-    omega arith
-
-column-twice :
-    (s : List ℕ) (at n i j : ℕ) → i < j → j < n → word s (at + 2 * i) ≡ word s (at + 2 * j) →
-    2 ≤ count (word s (at + 2 * j)) (column s at n)
-unfolding column count
-column-twice s at zero i j a b e = absurd (omega arith)
-column-twice s at (suc n) i zero a b e = absurd (omega arith)
-column-twice s at (suc n) zero (suc j) a b e =
-    let later : 0 < count (word s (at + 2 * suc j)) (column s (at + 2) n) = rw (← next-at s at j) (column-once s (at + 2) n j (omega arith)) in
-    omega (arith, is-eq {u = word s (at + 2 * suc j)} {v = word s at} (sym e ∙ ap (word s) (omega arith)))
-column-twice s at (suc n) (suc i) (suc j) a b e =
-    let same : word s (at + 2 + 2 * i) ≡ word s (at + 2 + 2 * j) = next-at s at i ∙ e ∙ sym (next-at s at j) in
-    let ih : 2 ≤ count (word s (at + 2 * suc j)) (column s (at + 2) n) =
-    rw (← next-at s at j) (column-twice s (at + 2) n i j (omega arith) (omega arith) same) in
-    omega arith
+use Rattle.matching.proofs.Narrow.{search-narrow}
 
 -- ── how the degree is cut ──
 
@@ -91,15 +46,10 @@ module _ (t : Table) (g n k mark : ℕ) (s : List ℕ) (can : Can-search t g n k
   G = graph-at s (t .ends) (t .pairs) g
 
   few-pairs : size s g ≤ n * k
-  few-pairs =
-      let double : 2 * n ≡ n + n = omega arith in
-      let reg : Regular (n + n) (can .side) k G = rw double at (can .regular) in
-      omega (arith, regular-pairs n (can .side) k G reg (can .positive), length-graph s (t .ends) (t .pairs) g)
+  few-pairs = entries-few s (t .ends) (t .pairs) g n (can .side) k (can .regular) (can .positive)
 
   few-copies : (i : ℕ) → i < size s g → copies-of s g i ≤ k
-  few-copies i a =
-      all-span (λ p. p .copies ≤ k) (entry s (t .ends) (t .pairs) g) 0 (size s g)
-      (rw (graph-span s (t .ends) (t .pairs) g) at (copies-le (2 * n) (can .side) k G (can .regular))) i (omega arith) (omega arith)
+  few-copies = entries-copies (2 * n) (can .side) k s (t .ends) (t .pairs) g (can .regular)
 
   -- no two rows of the diagonal have the same ends
   lone : (i j : ℕ) → i < n → j < n → Alike s (t .ends) (t .pairs + i) (t .pairs + j) → i ≡ j
@@ -129,21 +79,7 @@ module _ (t : Table) (g n k mark : ℕ) (s : List ℕ) (can : Can-search t g n k
 
       same : word s (l + 2 * i) ≡ word s (l + 2 * j) → i ≡ j
       same e =
-          elim (ℕ-discrete i j) [
-            | yes y ↦ y
-            | no y ↦
-                elim (decLt i j) [
-                  | yes z ↦
-                      absurd (omega (arith, column-twice s l n i j z b e, can .partition .once (word s (l + 2 * j)) (below j b)))
-                  | no z ↦
-                      absurd
-                      (omega (
-                        arith,
-                        column-twice s l n j i (omega arith) a (sym e),
-                        can .partition .once (word s (l + 2 * i)) (below i a),
-                      ))
-                ]
-          ]
+          column-once (word s (l + 2 * j)) s l n (omega (arith, can .partition .once (word s (l + 2 * j)) (below j b))) i j a b e refl
 
   -- every address fits a word
   pub record Addresses : Type 0 where

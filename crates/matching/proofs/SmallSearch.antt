@@ -1,12 +1,13 @@
 -- What `rbmg_find_perfect_matching` asks can be met: one pair, at number 0 with ends 0 and 1, two copies of it in a graph at 8;
 -- the diagonal's number at 0, the table of ends at 1, the map at 5, and the matching goes to 7. Assumes nothing.
-use Prim.Native.Nat.{ℕ, zero, suc, _*_, _<_}
+use Prim.Native.Nat.{ℕ, _*_, _<_}
 use mathlib.Core.Path.{_≡_, refl}
 use mathlib.Core.List.{List, [], _∷_}
 use mathlib.Core.Logic.{inl}
 use native.Mathlib.Omega.{arith}
 use lib.ListN.{replicate}
 use Rattle.words.specs.Basics.{ran}
+use Rattle.words.proofs.Below.{only, both}
 use Rattle.multigraph.specs.Multigraph.{pair}
 use Rattle.multigraph.specs.Regular.{degree, Regular, Positive, Partition}
 use Rattle.multigraph.specs.Stored.{graph-at}
@@ -21,15 +22,6 @@ table = record { ends = 1; places = 5; diag = 0; pairs = 1 }
 
 abbrev small : List ℕ
 small = 0 ∷ 0 ∷ 1 ∷ 0 ∷ 1 ∷ 9 ∷ 9 ∷ 9 ∷ 8 ∷ 1 ∷ 0 ∷ 2 ∷ replicate 72 0
-
-only : (P : ℕ → Type 0) → P 0 → (i : ℕ) → i < 1 → P i
-only P p zero h = p
-only P p (suc i) h = absurd (omega arith)
-
-both : (P : ℕ → Type 0) → P 0 → P 1 → (i : ℕ) → i < 2 → P i
-both P p q zero h = p
-both P p q (suc zero) h = q
-both P p q (suc (suc i)) h = absurd (omega arith)
 
 small-regular : Regular (2 * 1) (λ v. v) 2 (graph-at small 1 1 8)
 unfolding computing

@@ -1,5 +1,5 @@
 -- What a search for a perfect matching asks of the words, and what its steps give. Assumes nothing.
-use Prim.Native.Nat.{ℕ, zero, suc, _+_, _*_, _-_, _^_, _<_, _≤_}
+use Prim.Native.Nat.{ℕ, zero, suc, _+_, _*_, _^_, _<_, _≤_}
 use mathlib.Core.Path.{_≡_}
 use mathlib.Core.Bool.{Bool}
 use mathlib.Core.List.{List, [], _∷_}
@@ -7,11 +7,11 @@ use mathlib.Core.Logic.{_⊎_}
 use lib.ListN.{length}
 use Rattle.words.specs.Basics.{total, ran}
 use Rattle.words.specs.Words.{word}
-use Rattle.words.specs.Frames.{Keeps, Stays}
+use Rattle.words.specs.Frames.{Keeps, Stays, Spares, Changes}
 use Rattle.multigraph.specs.Multigraph.{Pair}
 use Rattle.multigraph.specs.Regular.{names, Apart, Regular, Positive, Partition}
 use Rattle.multigraph.specs.Stored.{graph-at, matching-at}
-use Rattle.multigraph.specs.Places.{size, number, copies-of, Alike, Distinct-ends, Changes, Stored, Mappable}
+use Rattle.multigraph.specs.Places.{size, number, copies-of, Alike, Distinct-ends, Stored, Mappable}
 use Rattle.euler.specs.Split.{Halves, rbmg-split-into-two}
 use Rattle.matching.specs.Matching.{add-times, add-diagonal, fewer-flagged, halve, search-graph, power-above, flagged-pairs, rbmg-find-perfect-matching}
 use Rattle.matching.specs.Choosing.{flagged-by}
@@ -213,14 +213,6 @@ pub record Can-find (t : Table) (g n k out mark : ℕ) (s : List ℕ) : Type 0 w
   pub search : Can-search t g n k mark s
   pub after-places : t .places + (t .pairs + n) ≤ out
   pub below : out + n ≤ mark
-
--- The same length, and every word below the mark the same but for those from a up to a + v and those from b up to b + w, which
--- lie further up.
-pub record Spares (mark a v b w : ℕ) (s t : List ℕ) : Type 0 where
-  pub len : length t ≡ length s
-  pub under : (i : ℕ) → i < mark → i < a → word t i ≡ word s i
-  pub between : (i : ℕ) → i < mark → a + v ≤ i → i < b → word t i ≡ word s i
-  pub over : (i : ℕ) → i < mark → b + w ≤ i → word t i ≡ word s i
 
 -- The perfect matching of document 01's module 5, its n pair numbers at `out`, none of them flagged. The mark is as it was, and
 -- below it only the map and the matching's words have changed.

@@ -1,15 +1,15 @@
 -- `add-edge` adds its copies to every weight, and keeps the graph's pairs apart. Assumes nothing.
-use Prim.Native.Nat.{ℕ, zero, suc, _+_, _*_, _≤_, _<_}
-use mathlib.Core.Path.{_≡_, refl, sym, _∙_, ap}
+use Prim.Native.Nat.{ℕ, _+_, _*_, _<_}
+use mathlib.Core.Path.{_≡_, refl, sym, _∙_}
 use mathlib.Core.Bool.{Bool, true, false}
-use mathlib.Core.List.{List, [], _∷_}
-use mathlib.Core.Logic.{_⊎_, inl, inr, ⊎-elim}
+use mathlib.Core.List.{[], _∷_}
+use mathlib.Core.Logic.{inl, inr, ⊎-elim}
 use native.Mathlib.Omega.{arith}
 use Rattle.words.specs.Basics.{pick, All}
 use Rattle.words.proofs.Bools.{never-true}
 use Rattle.multigraph.specs.Multigraph.{Pair, pair, Graph, with-copies, joins, add-edge}
-use Rattle.multigraph.specs.Regular.{weigh, between, pairs-between, Apart, Across, Positive, Symmetric, Agrees}
-use Rattle.multigraph.proofs.Ends.{joins-true, true-joins, same-weight, between-cases, not-between}
+use Rattle.multigraph.specs.Regular.{weigh, names, degree, between, pairs-between, Apart, Across, Positive, Symmetric, Agrees}
+use Rattle.multigraph.proofs.Ends.{joins-true, true-joins, same-weight, names-symmetric, between-cases, not-between}
 use Rattle.multigraph.proofs.Weights.{weigh-none, weigh-cons, pairs-between-none, pairs-between-cons}
 
 -- one law for degrees, copies between two parties and flagged copies
@@ -28,6 +28,10 @@ weigh-add-edge w s (p ∷ g) a b m f = go (joins a b p) refl (weigh-add-edge w s
         let r = weigh-cons w p g in
         rw (l, r, same) (omega arith)
     go false e ih = rw (weigh-cons w p g, weigh-cons w p (add-edge g a b m f), ih) (omega arith)
+
+-- degrees after copies of a pair l, r have been added
+pub degree-added : (v : ℕ) (g : Graph) (l r m f : ℕ) → degree v (add-edge g l r m f) ≡ degree v g + m * names v l r
+degree-added v g l r m f = weigh-add-edge (names v) (names-symmetric v) g l r m f
 
 -- A property of all pairs is kept where it passes to a new pair, if no pair has its ends, and to an old one with more copies.
 pub all-add-edge :

@@ -10,14 +10,15 @@ use lib.Dec.{leb}
 use lib.ListN.{length}
 use Rattle.words.specs.Basics.{pick}
 use Rattle.words.specs.Words.{word, put-word}
+use Rattle.words.specs.Frames.{Changes}
 use Rattle.words.proofs.Frames.{here, away, length-put}
 use Rattle.multigraph.specs.Multigraph.{joins, add-edge}
 use Rattle.multigraph.specs.Stored.{numbered, entry, graph-at}
-use Rattle.multigraph.specs.Places.{size, number, copies-of, Alike, Changes, Stored, Mapped, Edge-fits, Edge-added, Adds-edge}
-use Rattle.multigraph.proofs.Ends.{true-joins}
+use Rattle.multigraph.specs.Places.{size, number, copies-of, Alike, Stored, Mapped, Edge-fits, Edge-added, Adds-edge}
 use Rattle.multigraph.specs.Steps.{span}
+use Rattle.multigraph.proofs.Ends.{true-joins, same-ends-sym, same-ends-trans}
 use Rattle.multigraph.proofs.Spans.{graph-span, span-same, span-snoc, not-joins, add-last, add-there}
-use Rattle.multigraph.proofs.Kept.{same-ends-sym, same-ends-trans, Ends-kept, ends-kept, alike-back, alike-kept, entry-is}
+use Rattle.multigraph.proofs.Kept.{Ends-kept, ends-kept, alike-back, alike-kept, entry-is}
 
 -- ── what is written ──
 

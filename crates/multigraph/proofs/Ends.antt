@@ -1,30 +1,16 @@
--- What `joins` and `between` say of a pair's ends. Assumes nothing.
-use Prim.Native.Nat.{ℕ, zero, suc, _+_, _*_, _≤_, _<_}
-use mathlib.Core.Path.{_≡_, refl, sym, _∙_, ap}
-use mathlib.Core.Bool.{Bool, true, false, _&&_, _||_, or-comm, and-comm}
+-- What `joins`, `between` and `Same-ends` say of a pair's ends. Assumes nothing.
+use Prim.Native.Nat.{ℕ, _+_, _≤_, _<_}
+use mathlib.Core.Path.{_≡_, refl, sym, _∙_}
+use mathlib.Core.Bool.{Bool, true, false, _&&_, or-comm, and-comm}
 use mathlib.Core.Logic.{_⊎_, inl, inr, ⊎-elim}
 use native.Mathlib.Omega.{arith}
 use borrow.Author.Tests.{eq-eqb, eqb-true}
 use lib.Dec.{eqb}
-use Rattle.words.specs.Basics.{pick, is}
-use Rattle.words.proofs.Bools.{either, never-true}
+use Rattle.words.specs.Basics.{pick}
+use Rattle.words.proofs.Bools.{either, never-true, both-true, true-left, true-right, true-both}
 use Rattle.multigraph.specs.Multigraph.{Pair, pair, joins}
 use Rattle.multigraph.specs.Regular.{names, between, Symmetric}
 pub use Rattle.multigraph.specs.Regular.{Same-ends}
-
-both-true : (t u : Bool) → (t && u) ≡ true → (t ≡ true) × (u ≡ true)
-both-true true u e = (refl, e)
-both-true false u e = never-true e
-
-true-left : (t u : Bool) → t ≡ true → (t || u) ≡ true
-true-left t u e = rw e
-
-true-right : (t u : Bool) → u ≡ true → (t || u) ≡ true
-true-right true u e = refl
-true-right false u e = e
-
-true-both : (t u : Bool) → t ≡ true → u ≡ true → (t && u) ≡ true
-true-both t u e f = rw e f
 
 pub joins-true : (a b : ℕ) (p : Pair) → joins a b p ≡ true → Same-ends a b (p .first) (p .second)
 joins-true a b p e =
@@ -95,3 +81,27 @@ between-ends u v c d a b h =
 pub not-between : (a b : ℕ) (p : Pair) → joins a b p ≡ false → between a b (p .first) (p .second) ≡ 0
 not-between a b p e =
     ⊎-elim (λ k. never-true (sym e ∙ true-joins a b p (k .0))) (λ k. k .1) (between-cases a b (p .first) (p .second))
+
+-- ── `Same-ends` ──
+
+pub same-ends-sym : {a b c d : ℕ} → Same-ends a b c d → Same-ends c d a b
+same-ends-sym h = ⊎-elim (λ k. inl (sym (k .0), sym (k .1))) (λ k. inr (sym (k .1), sym (k .0))) h
+
+pub same-ends-trans : {a b c d x y : ℕ} → Same-ends a b c d → Same-ends c d x y → Same-ends a b x y
+same-ends-trans h k =
+    ⊎-elim
+    (λ p. ⊎-elim (λ q. inl (q .0 ∙ p .0, q .1 ∙ p .1)) (λ q. inr (q .0 ∙ p .1, q .1 ∙ p .0)) k)
+    (λ p. ⊎-elim (λ q. inr (q .0 ∙ p .0, q .1 ∙ p .1)) (λ q. inl (q .0 ∙ p .1, q .1 ∙ p .0)) k) h
+
+-- by the sum of the two: the first end settles it
+pub sums-same : (a b x y : ℕ) → Same-ends a b x y → x + y ≡ a + b
+sums-same a b x y h = ⊎-elim (λ k. omega arith) (λ k. omega arith) h
+
+pub ends-first : (a b x y : ℕ) → x + y ≡ a + b → x ≡ a → Same-ends a b x y
+ends-first a b x y h k = inl (k, omega arith)
+
+pub ends-second : (a b x y : ℕ) → x + y ≡ a + b → x ≡ b → Same-ends a b x y
+ends-second a b x y h k = inr (k, omega arith)
+
+pub ends-neither : (a b x y : ℕ) → (x ≡ a → ⊥) → (x ≡ b → ⊥) → Same-ends a b x y → ⊥
+ends-neither a b x y h k e = ⊎-elim (λ i. h (i .0)) (λ i. k (i .0)) e

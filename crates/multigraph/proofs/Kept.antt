@@ -1,100 +1,39 @@
--- The laws of `Changes`: what a table, a graph and a map keep while only other words change. Assumes nothing.
+-- What the table of ends and a graph keep while only other words change. Assumes nothing.
 use Prim.Native.Nat.{ℕ, _+_, _*_, _≤_, _<_}
-use mathlib.Core.Path.{_≡_, refl, sym, _∙_}
+use mathlib.Core.Path.{_≡_}
 use mathlib.Core.List.{List}
-use mathlib.Core.Logic.{_⊎_, inl, inr, ⊎-elim}
 use native.Mathlib.Omega.{arith}
-use Rattle.words.specs.Words.{word, put-word}
-use Rattle.words.specs.Frames.{Stays}
-use Rattle.words.proofs.Frames.{away, length-put}
-use Rattle.multigraph.specs.Regular.{Same-ends}
+use Rattle.words.specs.Words.{word}
+use Rattle.words.specs.Frames.{Stays, Spares, Changes}
 use Rattle.multigraph.specs.Stored.{numbered, entry, graph-at}
-use Rattle.multigraph.specs.Places.{size, number, copies-of, Alike, Changes}
+use Rattle.multigraph.specs.Places.{size, number, copies-of, Alike}
 use Rattle.multigraph.proofs.Spans.{graph-span, span-same}
 
-pub same-ends-sym : {a b c d : ℕ} → Same-ends a b c d → Same-ends c d a b
-same-ends-sym h = ⊎-elim (λ k. inl (sym (k .0), sym (k .1))) (λ k. inr (sym (k .1), sym (k .0))) h
-
-pub same-ends-trans : {a b c d x y : ℕ} → Same-ends a b c d → Same-ends c d x y → Same-ends a b x y
-same-ends-trans h k =
-    ⊎-elim
-    (λ p. ⊎-elim (λ q. inl (q .0 ∙ p .0, q .1 ∙ p .1)) (λ q. inr (q .0 ∙ p .1, q .1 ∙ p .0)) k)
-    (λ p. ⊎-elim (λ q. inr (q .0 ∙ p .0, q .1 ∙ p .1)) (λ q. inl (q .0 ∙ p .1, q .1 ∙ p .0)) k) h
-
--- ── `Changes` ──
-
-pub changes-refl : (a v b w : ℕ) (s : List ℕ) → Changes a v b w s s
-changes-refl a v b w s =
-    record { len = refl; under = λ i h. refl; between = λ i h k. refl; over = λ i h. refl }
-
-pub changes-trans :
-    {a v b w : ℕ} {s t u : List ℕ} → Changes a v b w s t → Changes a v b w t u → Changes a v b w s u
-changes-trans x y =
-    record {
-      len = y .len ∙ x .len;
-      under = λ i h. y .under i h ∙ x .under i h;
-      between = λ i h k. y .between i h k ∙ x .between i h k;
-      over = λ i h. y .over i h ∙ x .over i h;
-    }
-
--- more words of the second range may change
-pub changes-wide :
-    {a v b w : ℕ} {s t : List ℕ} (wide : ℕ) → w ≤ wide → Changes a v b w s t → Changes a v b wide s t
-changes-wide wide h x =
-    record {
-      len = x .len;
-      under = λ i p. x .under i p;
-      between = λ i p q. x .between i p q;
-      over = λ i p. x .over i (omega arith);
-    }
-
--- a word put into the second range
-pub changes-put :
-    (a v b w : ℕ) (s : List ℕ) (i x : ℕ) → a + v ≤ b → b ≤ i → i < b + w → Changes a v b w s (put-word s i x)
-changes-put a v b w s i x p q r =
-    record {
-      len = length-put s i x;
-      under = λ j h. away s i j x (λ e. omega arith);
-      between = λ j h k. away s i j x (λ e. omega arith);
-      over = λ j h. away s i j x (λ e. omega arith);
-    }
-
--- a word put into the first range
-pub changes-put-low :
-    (a v b w : ℕ) (s : List ℕ) (i x : ℕ) → a + v ≤ b → a ≤ i → i < a + v → Changes a v b w s (put-word s i x)
-changes-put-low a v b w s i x p q r =
-    record {
-      len = length-put s i x;
-      under = λ j h. away s i j x (λ e. omega arith);
-      between = λ j h k. away s i j x (λ e. omega arith);
-      over = λ j h. away s i j x (λ e. omega arith);
-    }
-
--- as a frame of `words`: where the second range lies above the mark, only the first one counts
-pub changes-stays :
-    {a v b w : ℕ} {s t : List ℕ} (mark : ℕ) → mark ≤ b → Changes a v b w s t → Stays mark a v s t
-changes-stays mark h x =
-    record {
-      len = x .len;
-      under = λ i p q. x .under i q;
-      over = λ i p q. x .between i q (omega arith);
-    }
-
--- ── the table of ends lies below the map ──
+-- ── the table of ends ──
 
 -- the first `rows` rows are the same
 pub record Ends-kept (ends rows : ℕ) (s t : List ℕ) : Type 0 where
   pub firsts : (e : ℕ) → e < rows → word t (ends + 2 * e) ≡ word s (ends + 2 * e)
   pub seconds : (e : ℕ) → e < rows → word t (ends + 2 * e + 1) ≡ word s (ends + 2 * e + 1)
 
+-- below all that changes
+pub ends-below :
+    {s t : List ℕ} (ends rows bound : ℕ) → ends + 2 * rows ≤ bound → ((i : ℕ) → i < bound → word t i ≡ word s i) →
+    Ends-kept ends rows s t
+ends-below ends rows bound h same =
+    record {
+      firsts = λ e k. same (ends + 2 * e) (omega arith);
+      seconds = λ e k. same (ends + 2 * e + 1) (omega arith);
+    }
+
 pub ends-kept :
     (ends rows : ℕ) {places v g w : ℕ} {s t : List ℕ} → ends + 2 * rows ≤ places → Changes places v g w s t →
     Ends-kept ends rows s t
-ends-kept ends rows h ch =
-    record {
-      firsts = λ e k. ch .under (ends + 2 * e) (omega arith);
-      seconds = λ e k. ch .under (ends + 2 * e + 1) (omega arith);
-    }
+ends-kept ends rows {places = places} h ch = ends-below ends rows places h (λ i k. ch .under i k)
+
+pub stays-ends :
+    {ends rows mark o w : ℕ} {s t : List ℕ} → ends + 2 * rows ≤ o → o ≤ mark → Stays mark o w s t → Ends-kept ends rows s t
+stays-ends {ends} {rows} {mark} {o} a b st = ends-below ends rows o a (λ i k. st .under i (omega arith) k)
 
 module _ {ends rows : ℕ} {s t : List ℕ} (k : Ends-kept ends rows s t) where
   pub numbered-kept : (pairs e c : ℕ) → e < rows → numbered t ends pairs e c ≡ numbered s ends pairs e c
@@ -122,3 +61,42 @@ module _ {ends rows : ℕ} {s t : List ℕ} (k : Ends-kept ends rows s t) where
       (span-same (entry s ends pairs g) (entry t ends pairs g) 0 (size s g)
       (λ j a b.
       entry-is pairs g j (number s g j) (copies-of s g j) (x j (omega arith)) (y j (omega arith)) (below j (omega arith))))
+
+-- ── a graph above the ranges that change ──
+
+-- all words of a graph are the same, so it is the same
+pub record Graph-kept (ends rows : ℕ) (s t : List ℕ) (g : ℕ) : Type 0 where
+  pub same : (pairs : ℕ) → graph-at t ends pairs g ≡ graph-at s ends pairs g
+  pub header : word t g ≡ word s g
+  pub sizes : size t g ≡ size s g
+  pub numbers : (i : ℕ) → i < size s g → number t g i ≡ number s g i
+  pub copies : (i : ℕ) → i < size s g → copies-of t g i ≡ copies-of s g i
+
+pub kept-above :
+    {ends rows : ℕ} {s t : List ℕ} (g : ℕ) → Ends-kept ends rows s t → ((i : ℕ) → i < size s g → number s g i < rows) →
+    ((i : ℕ) → g ≤ i → i < g + 2 + 2 * size s g → word t i ≡ word s i) → Graph-kept ends rows s t g
+kept-above {ends} {rows} {s} {t} g k below same =
+    let count : size t g ≡ size s g = same (g + 1) (omega arith) (omega arith) in
+    let num : (i : ℕ) → i < size s g → number t g i ≡ number s g i =
+    λ i h. same (g + 2 + 2 * i) (omega arith) (omega arith) in
+    let cop : (i : ℕ) → i < size s g → copies-of t g i ≡ copies-of s g i =
+    λ i h. same (g + 3 + 2 * i) (omega arith) (omega arith) in
+    record {
+      same = λ pairs. graph-kept k pairs g count num cop below;
+      header = same g (omega arith) (omega arith);
+      sizes = count;
+      numbers = num;
+      copies = cop;
+    }
+
+pub graph-stays :
+    {ends rows mark o w : ℕ} {s t : List ℕ} (g : ℕ) → ends + 2 * rows ≤ o → Stays mark o w s t → o + w ≤ g →
+    g + 2 + 2 * size s g ≤ mark → ((i : ℕ) → i < size s g → number s g i < rows) → Graph-kept ends rows s t g
+graph-stays g a st b m below =
+    kept-above g (stays-ends a (omega arith) st) below (λ i h k. st .over i (omega arith) (omega arith))
+
+pub graph-spares :
+    {ends rows mark a v b w : ℕ} {s t : List ℕ} (g : ℕ) → ends + 2 * rows ≤ a → a ≤ mark → Spares mark a v b w s t → b + w ≤ g →
+    g + 2 + 2 * size s g ≤ mark → ((i : ℕ) → i < size s g → number s g i < rows) → Graph-kept ends rows s t g
+graph-spares {ends} {rows} {mark} {a} g p q st above m below =
+    kept-above g (ends-below ends rows a p (λ i k. st .under i (omega arith) k)) below (λ i h k. st .over i (omega arith) (omega arith))

@@ -7,10 +7,12 @@ use native.Mathlib.Omega.{arith}
 use native.Mathlib.Decide.{ℕ-discrete, decLt, decLe}
 use lib.ListN.{length}
 use Rattle.words.specs.Words.{word, put-word}
+use Rattle.words.specs.Frames.{Changes}
 use Rattle.words.proofs.Frames.{here, away, length-put}
-use Rattle.multigraph.specs.Places.{size, number, Alike, Changes, Mappable, Places-mapped}
+use Rattle.words.proofs.Ranges.{changes-trans}
+use Rattle.multigraph.specs.Places.{size, number, Alike, Mappable, Places-mapped}
 use Rattle.multigraph.specs.Steps.{Written, Writable, Writes}
-use Rattle.multigraph.proofs.Kept.{changes-trans, Ends-kept, ends-kept, alike-back}
+use Rattle.multigraph.proofs.Kept.{Ends-kept, ends-kept, alike-back}
 
 pub written-none : (key value : ℕ → ℕ) (rows places : ℕ) (s : List ℕ) → Written key value 0 rows places s s
 written-none key value rows places s =

@@ -1,47 +1,21 @@
 -- `add_matching` over words is `add-matching`, one number after the other. Assumes nothing.
-use Prim.Native.Nat.{ℕ, zero, suc, _+_, _*_, _-_, _≤_, _<_}
-use mathlib.Core.Path.{_≡_, refl, sym, _∙_, ap}
-use mathlib.Core.List.{List, [], _∷_, _++_}
+use Prim.Native.Nat.{ℕ, _+_, _*_, _-_, _≤_, _<_}
+use mathlib.Core.Path.{_≡_, refl, sym, _∙_}
+use mathlib.Core.List.{List, [], _∷_}
 use mathlib.Core.Logic.{inl}
 use native.Mathlib.Omega.{arith}
-use native.Mathlib.Nat.{add-zero, zero-add, add-assoc}
+use native.Mathlib.Nat.{add-assoc}
 use borrow.Author.Tests.{lt-leb}
 use Rattle.words.specs.Words.{word}
-use Rattle.multigraph.specs.Multigraph.{Pair, Graph, add-matching}
+use Rattle.words.specs.Frames.{Changes}
+use Rattle.words.proofs.Ranges.{changes-trans, changes-wide}
+use Rattle.multigraph.specs.Multigraph.{Pair, add-matching}
 use Rattle.multigraph.specs.Stored.{numbered, graph-at, matching-at}
-use Rattle.multigraph.specs.Places.{size, Changes, Laid, Stored, Mapped, Mappable, Places-mapped, Maps-places, Edge-added, Adds-edge, Matching-fits, Matching-added}
+use Rattle.multigraph.specs.Places.{size, Laid, Stored, Mapped, Mappable, Places-mapped, Maps-places, Edge-added, Adds-edge, Matching-fits, Matching-added}
 use Rattle.multigraph.proofs.Spans.{add-matching-append}
+use Rattle.multigraph.proofs.SideBySide.{matching-snoc}
 use Rattle.multigraph.proofs.Numbers.{numbers-once}
-use Rattle.multigraph.proofs.Kept.{changes-trans, changes-wide, Ends-kept, ends-kept, graph-kept}
-
--- ── matchings side by side ──
-
--- two stretches of numbers are two matchings, one after the other
-pub matching-append :
-    (s : List ℕ) (ends pairs m k l : ℕ) →
-    matching-at s ends pairs m (k + l) ≡ matching-at s ends pairs m k ++ matching-at s ends pairs (m + k) l
-unfolding matching-at
-matching-append s ends pairs m zero l = rw (zero-add, add-zero)
-matching-append s ends pairs m (suc k) l =
-    let n : suc k + l ≡ suc (k + l) = omega arith in
-    let e : m + 1 + k ≡ m + suc k = omega arith in
-    let ih = matching-append s ends pairs (m + 1) k l in
-    rw n (ap (λ x. numbered s ends pairs (word s m) 1 ∷ x) (rw e at ih))
-
-pub matching-snoc :
-    (s : List ℕ) (ends pairs m k : ℕ) →
-    matching-at s ends pairs m (k + 1) ≡ matching-at s ends pairs m k ++ numbered s ends pairs (word s (m + k)) 1 ∷ []
-unfolding matching-at
-matching-snoc s ends pairs m k = matching-append s ends pairs m k 1
-
--- Matchings side by side are added one after the other: so one call adds several.
-pub add-side-by-side :
-    (h : Graph) (s : List ℕ) (ends pairs m k l : ℕ) →
-    add-matching h (matching-at s ends pairs m (k + l))
-    ≡ add-matching (add-matching h (matching-at s ends pairs m k)) (matching-at s ends pairs (m + k) l)
-add-side-by-side h s ends pairs m k l =
-    rw (matching-append s ends pairs m k l)
-    (add-matching-append h (matching-at s ends pairs m k) (matching-at s ends pairs (m + k) l))
+use Rattle.multigraph.proofs.Kept.{Ends-kept, ends-kept, graph-kept}
 
 -- ── the numbers one after the other ──
 

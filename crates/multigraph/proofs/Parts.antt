@@ -1,16 +1,17 @@
 -- A graph whose pairs are all joined in another has no more pairs than it, at any party and in all. Assumes nothing.
 use Prim.Native.Nat.{ℕ, zero, suc, _+_, _*_, _≤_, _<_}
-use mathlib.Core.Path.{_≡_, refl, sym, _∙_, ap}
-use mathlib.Core.List.{List, [], _∷_}
-use mathlib.Core.Logic.{_⊎_, inl, inr, ⊎-elim}
+use mathlib.Core.Path.{_≡_, refl, sym, _∙_}
+use mathlib.Core.Bool.{Bool, true, false}
+use mathlib.Core.List.{[], _∷_}
+use mathlib.Core.Logic.{⊎-elim}
 use native.Mathlib.Omega.{arith}
 use native.Mathlib.Nat.{mul-le-mul-right, one-mul}
 use lib.ListN.{length}
-use Rattle.words.specs.Basics.{is, total, All, sum-below}
+use Rattle.words.specs.Basics.{pick, is, total, All, sum-below}
 use Rattle.words.proofs.Sums.{total-zero-all, total-const, total-cong-all, all-map, all-both, sum-below-add, sum-below-is, sum-below-le, sum-below-const, sum-below-total}
-use Rattle.multigraph.specs.Multigraph.{Pair, Graph}
+use Rattle.multigraph.specs.Multigraph.{Pair, Graph, with-copies, joins, add-edge}
 use Rattle.multigraph.specs.Regular.{weigh, names, degree, between, copies-between, pairs-between, Apart, Across, Positive, Symmetric}
-use Rattle.multigraph.proofs.Ends.{Same-ends, same-weight, between-cases, between-same, between-symmetric, names-symmetric}
+use Rattle.multigraph.proofs.Ends.{same-ends-sym, same-weight, between-cases, between-same, between-symmetric, names-symmetric}
 use Rattle.multigraph.proofs.Weights.{own-copies, no-pairs-no-copies}
 use Rattle.multigraph.proofs.Matchings.{weigh-ends}
 
@@ -18,12 +19,9 @@ use Rattle.multigraph.proofs.Matchings.{weigh-ends}
 pub between-swap : (u v a b : ℕ) → between u v a b ≡ between a b u v
 between-swap u v a b =
     ⊎-elim
-    (λ h. h .1 ∙ sym (between-same a b u v (turned (h .0))))
-    (λ h. h .1 ∙ sym (⊎-elim (λ k. absurd (h .0 (turned (k .0)))) (λ k. k .1) (between-cases a b u v)))
+    (λ h. h .1 ∙ sym (between-same a b u v (same-ends-sym (h .0))))
+    (λ h. h .1 ∙ sym (⊎-elim (λ k. absurd (h .0 (same-ends-sym (k .0)))) (λ k. k .1) (between-cases a b u v)))
     (between-cases u v a b)
-  where
-    turned : {u v a b : ℕ} → Same-ends u v a b → Same-ends a b u v
-    turned s = ⊎-elim (λ k. inl (sym (k .0), sym (k .1))) (λ k. inr (sym (k .1), sym (k .0))) s
 
 -- a graph without one pair that has the given ends
 pub record Without (a b : ℕ) (g : Graph) : Type 0 where
@@ -131,3 +129,15 @@ pairs-le-degree v (p ∷ g) pos =
       mul-le-mul-right (names v (p .first) (p .second)) (pos .0),
       one-mul (names v (p .first) (p .second)),
     )
+
+-- `add-edge` adds at most one pair
+pub ends-add-edge :
+    (w : ℕ → ℕ → ℕ) (g : Graph) (a b m f : ℕ) → weigh-ends w (add-edge g a b m f) ≤ weigh-ends w g + w a b
+unfolding add-edge total
+ends-add-edge w [] a b m f = omega arith
+ends-add-edge w (p ∷ g) a b m f = go (joins a b p) (ends-add-edge w g a b m f)
+  where
+    go : (t : Bool) → weigh-ends w (add-edge g a b m f) ≤ weigh-ends w g + w a b →
+        weigh-ends w (pick t (with-copies (p .copies + m) p ∷ g) (p ∷ add-edge g a b m f)) ≤ weigh-ends w (p ∷ g) + w a b
+    go true ih = omega arith
+    go false ih = omega arith

@@ -1,10 +1,11 @@
 -- What the routines over words ask can be met: one pair, at number 0 with ends 0 and 1, two copies of it in a graph at 4, a
 -- matching of it at 3, the map at 2, and room for a second graph at 8. Assumes nothing.
-use Prim.Native.Nat.{ℕ, zero, suc, _+_, _*_, _≤_, _<_}
+use Prim.Native.Nat.{ℕ, _+_, _*_, _≤_, _<_}
 use mathlib.Core.Path.{_≡_, refl}
 use mathlib.Core.List.{List, [], _∷_}
 use native.Mathlib.Omega.{arith}
 use Rattle.words.specs.Words.{word}
+use Rattle.words.proofs.Below.{only}
 use Rattle.multigraph.specs.Computing.{computing}
 use Rattle.multigraph.specs.Multigraph.{pair, add-matching, remove-matching}
 use Rattle.multigraph.specs.Regular.{Apart, Positive}
@@ -13,10 +14,6 @@ use Rattle.multigraph.specs.Places.{Distinct-ends, Stored, Matching-fits
 
 abbrev small : List ℕ
 small = 0 ∷ 1 ∷ 9 ∷ 0 ∷ 4 ∷ 1 ∷ 0 ∷ 2 ∷ 0 ∷ 0 ∷ 0 ∷ 0 ∷ []
-
-only : (P : ℕ → Type 0) → P 0 → (i : ℕ) → i < 1 → P i
-only P p zero h = p
-only P p (suc i) h = absurd (omega arith)
 
 small-distinct : Distinct-ends 0 1 small
 small-distinct = record { distinct = λ e f a b x. omega arith }

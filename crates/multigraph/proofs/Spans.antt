@@ -1,14 +1,17 @@
 -- A list given place by place, `span f i k` = f i, f (i + 1), .. (k of them). Graphs and matchings in words are such lists; what
 -- `add-edge`, `remove-edge` and their folds make of them. Assumes nothing.
-use Prim.Native.Nat.{ℕ, zero, suc, _+_, _-_, _≤_, _<_}
-use mathlib.Core.Path.{_≡_, refl, ap}
+use Prim.Native.Nat.{ℕ, zero, suc, _+_, _≤_, _<_}
+use mathlib.Core.Path.{_≡_, refl, _∙_, ap}
 use mathlib.Core.Bool.{Bool, true, false}
 use mathlib.Core.List.{List, [], _∷_, _++_}
 use native.Mathlib.Omega.{arith}
+use native.Mathlib.Numerals.{add-one}
 use native.Mathlib.Nat.{add-zero, zero-add}
 use native.Mathlib.Decide.{ℕ-discrete}
-use Rattle.words.specs.Basics.{All}
+use lib.ListN.{length}
+use Rattle.words.specs.Basics.{All, total, sum-below}
 use Rattle.words.specs.Words.{word}
+use Rattle.words.proofs.Sums.{total-append}
 use Rattle.multigraph.specs.Multigraph.{Pair, pair, Graph, with-copies, joins, add-edge, add-matching, remove-matching}
 use Rattle.multigraph.specs.Regular.{Same-ends, between, pairs-between, Apart}
 use Rattle.multigraph.specs.Stored.{numbered, entry, entries, graph-at, matching-at}
@@ -48,6 +51,15 @@ matching-span s ends pairs m k = rw add-zero at (matching-from s ends pairs m 0 
 
 -- ── spans ──
 
+pub span-length : (f : ℕ → Pair) (i k : ℕ) → length (span f i k) ≡ k
+unfolding span
+span-length f i zero = refl
+span-length f i (suc k) = ap suc (span-length f (i + 1) k)
+
+-- a graph has as many pairs as entries
+pub length-graph : (s : List ℕ) (ends pairs g : ℕ) → length (graph-at s ends pairs g) ≡ size s g
+length-graph s ends pairs g = ap length (graph-span s ends pairs g) ∙ span-length (entry s ends pairs g) 0 (size s g)
+
 pub span-same :
     (f h : ℕ → Pair) (i k : ℕ) → ((j : ℕ) → i ≤ j → j < i + k → h j ≡ f j) → span h i k ≡ span f i k
 unfolding span
@@ -68,6 +80,13 @@ span-append f i (suc k) l =
 pub span-snoc : (f : ℕ → Pair) (k : ℕ) → span f 0 (k + 1) ≡ span f 0 k ++ f k ∷ []
 unfolding span
 span-snoc f k = rw zero-add at (span-append f 0 k 1)
+
+pub total-span : (f : Pair → ℕ) (h : ℕ → Pair) (k : ℕ) → total f (span h 0 k) ≡ sum-below (λ i. f (h i)) k
+unfolding total span sum-below
+total-span f h zero = refl
+total-span f h (suc k) =
+    let snoc : span h 0 (suc k) ≡ span h 0 k ++ h k ∷ [] = rw add-one at (span-snoc h k) in
+    omega (arith, ap (total f) snoc, total-append f (span h 0 k) (h k ∷ []), total-span f h k)
 
 pub all-span :
     (P : Pair → Type 0) (f : ℕ → Pair) (i k : ℕ) → All P (span f i k) → (j : ℕ) → i ≤ j → j < i + k → P (f j)

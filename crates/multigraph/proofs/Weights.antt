@@ -1,15 +1,15 @@
 -- Weights of a graph, copies and pairs between two parties. Assumes nothing.
-use Prim.Native.Nat.{ℕ, zero, suc, _+_, _*_, _≤_, _<_}
-use mathlib.Core.Path.{_≡_, refl, sym, _∙_, ap}
+use Prim.Native.Nat.{ℕ, _+_, _*_, _≤_, _<_}
+use mathlib.Core.Path.{_≡_, refl, sym}
 use mathlib.Core.List.{List, [], _∷_}
-use mathlib.Core.Logic.{_⊎_, inl, inr, ⊎-elim}
+use mathlib.Core.Logic.{⊎-elim}
 use native.Mathlib.Omega.{arith}
 use native.Mathlib.Nat.{mul-le-mul-left, mul-le-mul-right, mul-one, one-mul, mul-zero}
-use Rattle.words.specs.Basics.{pick, is, total, All}
-use Rattle.words.proofs.Sums.{is-cases, total-cong, total-le-all, total-zero-all, total-all-zero, all-map}
-use Rattle.multigraph.specs.Multigraph.{Pair, pair, Graph}
-use Rattle.multigraph.specs.Regular.{weigh, names, degree, between, copies-between, pairs-between, Apart, Positive}
-use Rattle.multigraph.proofs.Ends.{Same-ends, between-cases, between-self, between-ends, between-pos, between-le}
+use Rattle.words.specs.Basics.{is, total, count, All}
+use Rattle.words.proofs.Sums.{is-cases, total-is, total-mul, total-add, total-cong, all-map}
+use Rattle.multigraph.specs.Multigraph.{Pair, Graph}
+use Rattle.multigraph.specs.Regular.{weigh, names, degree, between, copies-between, pairs-between, Apart, Positive, Symmetric}
+use Rattle.multigraph.proofs.Ends.{Same-ends, same-weight, between-cases, between-self, between-ends}
 
 pub weigh-none : (w : ℕ → ℕ → ℕ) → weigh w [] ≡ 0
 unfolding weigh total
@@ -106,3 +106,18 @@ own-copies g h = go g h (part-of-weight g)
         let own : p .copies * between (p .first) (p .second) (p .first) (p .second) ≡ p .copies =
         rw (between-self (p .first) (p .second), mul-one) in
         (omega (arith, part, own, pos .0), go k (pos .1) (parts .1))
+
+-- how often the ends of c copies stand in a list of parties
+pub total-names : (c a b : ℕ) (vs : List ℕ) → total (λ v. c * names v a b) vs ≡ c * (count a vs + count b vs)
+total-names c a b vs =
+    rw (total-mul c (λ v. names v a b) vs, total-add (λ v. is v a) (λ v. is v b) vs, total-is a vs, total-is b vs)
+
+-- the copies between two parties are a part of every symmetric weight
+pub copies-in-weight : (w : ℕ → ℕ → ℕ) → Symmetric w → (u v : ℕ) (g : Graph) → copies-between u v g * w u v ≤ weigh w g
+copies-in-weight w s u v [] = rw (weigh-none (between u v), weigh-none w) (omega arith)
+copies-in-weight w s u v (p ∷ g) =
+    rw (weigh-cons (between u v) p g, weigh-cons w p g)
+    (⊎-elim
+    (λ k. rw (k .1, same-weight w s u v (p .first) (p .second) (k .0)) (omega (arith, copies-in-weight w s u v g)))
+    (λ k. rw (k .1, mul-zero) (omega (arith, copies-in-weight w s u v g)))
+    (between-cases u v (p .first) (p .second)))

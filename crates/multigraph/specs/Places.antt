@@ -7,6 +7,7 @@ use lib.Dec.{leb}
 use lib.ListN.{length}
 use Rattle.words.specs.Basics.{pick}
 use Rattle.words.specs.Words.{word}
+pub use Rattle.words.specs.Frames.{Changes}
 use Rattle.multigraph.specs.Multigraph.{add-edge, add-matching, remove-matching}
 use Rattle.multigraph.specs.Regular.{Same-ends, Apart, Positive}
 use Rattle.multigraph.specs.Stored.{graph-at, matching-at}
@@ -30,13 +31,6 @@ Alike s ends e f =
 -- the same number.
 pub record Distinct-ends (ends pairs : ℕ) (s : List ℕ) : Type 0 where
   pub distinct : (e f : ℕ) → e < pairs → f < pairs → Alike s ends e f → e ≡ f
-
--- The same length, and every word the same but for those from a up to a + v and those from b up to b + w, which lie further up.
-pub record Changes (a v b w : ℕ) (s t : List ℕ) : Type 0 where
-  pub len : length t ≡ length s
-  pub under : (i : ℕ) → i < a → word t i ≡ word s i
-  pub between : (i : ℕ) → a + v ≤ i → i < b → word t i ≡ word s i
-  pub over : (i : ℕ) → b + w ≤ i → word t i ≡ word s i
 
 -- The table of ends and the map have `rows` rows each; the graph lies above both.
 pub record Laid (ends places rows g : ℕ) : Type 0 where

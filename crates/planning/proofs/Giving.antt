@@ -4,7 +4,6 @@ use Prim.Native.Nat.{ℕ, _+_, _*_, _/_, _<_, _≤_, max}
 use mathlib.Core.Path.{_≡_, sym, _∙_, ap}
 use mathlib.Core.List.{List, []}
 use native.Mathlib.Omega.{arith}
-use native.Mathlib.Nat.{mul-le-mul-left}
 use lib.ListN.{length}
 use Rattle.words.specs.Basics.{ran}
 use Rattle.words.specs.Words.{word}
@@ -20,14 +19,14 @@ use Rattle.multigraph.proofs.Kept.{Ends-kept, alike-back}
 use Rattle.edge_color.specs.EdgeColor.{rbmg-edge-color}
 use Rattle.edge_color.specs.Room.{Color-fits, Colored}
 use Rattle.evening.specs.Evening.{add-appointments, padded, even-out}
-use Rattle.evening.proofs.BuildingLaws.{appt-at}
+use Rattle.evening.proofs.Listed.{appt-at}
 use Rattle.slots.specs.Slots.{give-slots}
 use Rattle.slots.specs.Stored.{Slots-fit, Gives-slots}
 use Rattle.planning.specs.GivenPartition.{bipartite-edge-color-given-partition}
 use Rattle.planning.specs.Planning.{plan, outcome, given-sides, bipartite-edge-color}
 use Rattle.planning.specs.Steps.{table, Prepared, Slots-planned}
 use Rattle.planning.proofs.GivenPartitionLaws.{Proper-plan, given-partition-law}
-use Rattle.planning.proofs.Preparing.{Sizes, sizes}
+use Rattle.planning.proofs.Sizes.{Sizes, sizes, le-product}
 
 -- the definition, step by step
 steps-run :
@@ -39,7 +38,7 @@ steps-run :
 unfolding bipartite-edge-color-given-partition
 steps-run P xs left right D n g ms largest longer evened colored = rw (← largest, ← longer, evened, colored)
 
-module _ {P D q n used : ℕ} {list s : List ℕ} (h : Prepared P D q n used list s) where
+module _ {P D q n : ℕ} {list s : List ℕ} (h : Prepared P D q n list s) where
   z : Sizes P D q list s
   z = sizes (h .ready)
 
@@ -49,7 +48,7 @@ module _ {P D q n used : ℕ} {list s : List ℕ} (h : Prepared P D q n used lis
   -- the graph can be coloured, its number of pairs having been read
   pub can-color :
       (pairs : ℕ) → pairs ≡ word s (11 * q + 1) →
-      Color-fits (record { ends = 3 * q; places = 7 * q; diag = 2 * P; pairs = pairs }) s used (11 * q) n D (10 * q)
+      Color-fits (table P q pairs) s (15 * q) (11 * q) n D (10 * q)
   can-color pairs e = rw e (h .fits)
 
   matchings-le : n * D ≤ q
@@ -59,7 +58,7 @@ module _ {P D q n used : ℕ} {list s : List ℕ} (h : Prepared P D q n used lis
   q-small = omega (arith, z .unit, z .product, z .parties)
 
   d-le : D ≤ n * D
-  d-le = let k : D * 1 ≤ D * n = mul-le-mul-left D (h .fits .graph .some) in omega arith
+  d-le = omega (arith, le-product D n (h .fits .graph .some))
 
   -- what giving slots asks of the numbers, over words of the same length
   pub small :
@@ -79,7 +78,7 @@ module _ {P D q n used : ℕ} {list s : List ℕ} (h : Prepared P D q n used lis
     ),
   )
 
-  module _ {u : ℕ} {t : List ℕ} (x : Colored (table P q m) s t used u (11 * q) n D (10 * q)) where
+  module _ {u : ℕ} {t : List ℕ} (x : Colored (table P q m) s t (15 * q) u (11 * q) n D (10 * q)) where
     abbrev ms : List Graph
     ms = matchings-at t (3 * q) m (10 * q) n D
 

@@ -1,4 +1,5 @@
 pub mod GivenPartitionLaws
+pub mod Sizes
 pub mod Preparing
 pub mod Giving
 pub mod Outcomes

@@ -1,104 +1,35 @@
 -- The steps that prepare a list for the colouring hand on what the next one asks: sides of equal length, the list's pairs, the
 -- evened graph, the diagonal. Assumes nothing.
-use Prim.Native.Nat.{ℕ, zero, suc, _+_, _*_, _-_, _/_, _%_, _<_, _≤_, max}
+use Prim.Native.Nat.{ℕ, zero, suc, _+_, _*_, _-_, _/_, _<_, _≤_, max}
 use mathlib.Core.Path.{_≡_, refl, sym, _∙_, ap}
-use mathlib.Core.List.{List, [], _∷_, _++_}
+use mathlib.Core.List.{List, []}
 use mathlib.Core.Logic.{inl, inr, ⊎-elim}
 use native.Mathlib.Omega.{arith}
-use native.Mathlib.Nat.{mul-le-mul-left}
 use lib.ListN.{length}
 use Rattle.words.specs.Basics.{All, ran}
 use Rattle.words.specs.Words.{word}
-use Rattle.words.proofs.Sums.{sum-below-le, sum-below-const}
-use Rattle.appointments.specs.Appointments.{appts, load, largest-load}
-use Rattle.appointments.proofs.Loads.{Listed, load-le-largest, list-loads-sum}
-use Rattle.appointments.proofs.ChecksLaws.{Passes, passed-passes}
+use Rattle.appointments.specs.Appointments.{appts}
 use Rattle.two_color.specs.TwoSides.{Two-sides}
 use Rattle.two_color.specs.Contract.{region}
 use Rattle.two_color.proofs.TwoColorLaws.{sides-proper}
+use Rattle.two_color.proofs.Regions.{region-same, region-length, region-front}
 use Rattle.multigraph.specs.Regular.{Partition}
 use Rattle.multigraph.specs.Stored.{graph-at}
 use Rattle.multigraph.specs.Places.{size, number, Alike}
-use Rattle.multigraph.proofs.Kept.{Ends-kept, same-ends-sym, alike-back}
+use Rattle.multigraph.proofs.Kept.{Ends-kept, alike-back, Graph-kept, kept-above}
+use Rattle.multigraph.proofs.Ends.{same-ends-sym}
 use Rattle.matching.specs.declared.Table.{Table}
 use Rattle.matching.specs.Searched.{column, lefts, rights, Tabled}
 use Rattle.edge_color.specs.Room.{Colorable, Color-fits}
-use Rattle.edge_color.proofs.Placed.{Graph-kept, kept-above}
 use Rattle.evening.specs.Evening.{add-appointments, padded, even-out}
 use Rattle.evening.specs.Contract.{Has-ends, Can-pad, Sides-padded, Can-pair, Pairs-made, Can-even, Evened-out, Can-diagonal, Diagonal-set}
 use Rattle.evening.proofs.Pairs.{Crosses, sound-list, degree-load}
-use Rattle.evening.proofs.PaddingWords.{region-length, region-same}
 use Rattle.evening.proofs.Padding.{padded-side, padded-partition, padded-crosses, padded-loads}
 use Rattle.evening.proofs.EvenOut.{Evened, even-out-law}
-use Rattle.planning.specs.Steps.{table, Ready, Sided, Prepared}
-
--- ── sizes ──
-
--- What the checks give, with the products as numbers of their own: D·P, and the unit q.
-pub record Sizes (P D q : ℕ) (list s : List ℕ) : Type 0 where
-  pub parties : P ≤ 1024
-  pub product : D * P ≤ 8192
-  pub unit : q ≡ D * P + P
-  pub named : length list ≤ D * P
-  pub even : length list % 2 ≡ 0
-  pub listed : All (Listed P) (appts list)
-  pub loads : (v : ℕ) → v < P → load v (appts list) ≤ D
-  pub whole : length s ≡ 128 * q
-
-unit-is : (P D : ℕ) → P * (D + 1) ≡ D * P + P
-unit-is P D = omega arith
-
-pub sizes : {P D q : ℕ} {list s : List ℕ} → Ready P D q list s → Sizes P D q list s
-sizes {P} {D} {q} {list} {s} r = rw (r .largest) with-largest
-  where
-    ok : Passes P list (length (appts list)) (length s)
-    ok = passed-passes P list (length (appts list)) (length s) (r .checked)
-
-    named : length list ≤ largest-load P (appts list) * P
-    named =
-        let each = sum-below-le {f = λ v. load v (appts list)} {g = λ v. largest-load P (appts list)} P (load-le-largest P (appts list)) in
-        omega (arith, each, sum-below-const (largest-load P (appts list)) P, list-loads-sum P list (ok .good .even) (ok .good .listed))
-
-    unit : q ≡ largest-load P (appts list) * P + P
-    unit = rw (← r .largest) (r .unit ∙ unit-is P D)
-
-    with-largest : Sizes P (largest-load P (appts list)) q list s
-    with-largest =
-        record {
-          parties = ok .good .parties;
-          product = ok .product;
-          unit = unit;
-          named = named;
-          even = ok .good .even;
-          listed = ok .good .listed;
-          loads = load-le-largest P (appts list);
-          whole = r .whole;
-        }
-
--- n parties a side, at most P
-pub record Side-sizes (D P n : ℕ) : Type 0 where
-  pub fewer : n ≤ P
-  pub product : n * D ≤ D * P
-  pub twice : D * (n + n) ≡ n * D + n * D
-  pub pairs : n * (D + 1) ≡ n * D + n
-
-pub side-sizes : (D P n : ℕ) → n ≤ P → Side-sizes D P n
-side-sizes D P n h =
-    record {
-      fewer = h;
-      product = let m : D * n ≤ D * P = mul-le-mul-left D h in omega arith;
-      twice = omega arith;
-      pairs = omega arith;
-    }
+use Rattle.planning.specs.Steps.{table, Sided, Prepared}
+use Rattle.planning.proofs.Sizes.{Sizes, sizes, Side-sizes, side-sizes, le-product}
 
 -- ── the rows of the diagonal, as regions ──
-
-region-front : (s : List ℕ) (a n : ℕ) → region s a (suc n) ≡ word s a ∷ region s (a + 1) n
-unfolding region
-region-front s a zero = let e : a + 0 ≡ a = omega arith in rw e
-region-front s a (suc n) =
-    let e : a + suc n ≡ a + 1 + n = omega arith in
-    rw e (ap (λ (l : List ℕ). l ++ (word s (a + 1 + n) ∷ [])) (region-front s a n))
 
 -- every second word from one place on is each word from another
 column-region :
@@ -117,7 +48,7 @@ column-region s t at a (suc n) same =
 
 -- ── one step after the other ──
 
-module _ {P D q l used : ℕ} {list s₀ : List ℕ} (h : Sided P D q l used list s₀) where
+module _ {P D q l : ℕ} {list s₀ : List ℕ} (h : Sided P D q l list s₀) where
   z : Sizes P D q list s₀
   z = sizes (h .ready)
 
@@ -127,9 +58,6 @@ module _ {P D q l used : ℕ} {list s₀ : List ℕ} (h : Sided P D q l used lis
   -- the sides of the padded graph
   abbrev side' : ℕ → ℕ
   side' = padded-side P (region s₀ 0 l) (region s₀ P (P - l)) (two .0)
-
-  d-le : D ≤ D * P
-  d-le = let m : D * 1 ≤ D * P = mul-le-mul-left D (h .some) in omega arith
 
   pub can-pad : Can-pad P 0 l P (P - l) s₀
   can-pad =
@@ -159,10 +87,26 @@ module _ {P D q l used : ℕ} {list s₀ : List ℕ} (h : Sided P D q l used lis
     crosses : All (Crosses (n + n) side') (appts list)
     crosses = rw n-is (padded-crosses P (appts list) (two .0) (region s₀ 0 l) (region s₀ P (P - l)) (two .1) (z .listed))
 
+    -- the padded sides stand at 0 and at P, below the table of ends
+    record Sides-in (s : List ℕ) : Type 0 where
+      lefts : region s 0 n ≡ padded P n (region s₀ 0 l)
+      rights : region s P n ≡ padded P n (region s₀ P (P - l))
+
+    -- where later steps, with their marks u above it, change nothing
+    sides-stay :
+        {s t : List ℕ} (u : ℕ) → 3 * q ≤ u → ((i : ℕ) → i < u → i < 3 * q → word t i ≡ word s i) → Sides-in s → Sides-in t
+    sides-stay {s} {t} u above under stood =
+        record { lefts = side 0 (omega arith) ∙ stood .lefts; rights = side P (omega arith) ∙ stood .rights }
+      where
+        side : (a : ℕ) → a ≤ P → region t a n ≡ region s a n
+        side a le =
+            let low : a + n ≤ 3 * q = omega (arith, z .unit, n-le) in
+            region-same s t a n (λ i lo hi. under i (omega arith) (omega arith))
+
     len₁ : length s₁ ≡ 128 * q
     len₁ = x .changes .len ∙ z .whole
 
-    pub can-pair : Can-pair list P D (3 * q) (9 * q) (11 * q) used s₁
+    pub can-pair : Can-pair list P D (3 * q) (9 * q) (11 * q) (15 * q) s₁
     can-pair =
         record {
           short = omega (arith, z .named, z .product);
@@ -171,24 +115,17 @@ module _ {P D q l used : ℕ} {list s₀ : List ℕ} (h : Sided P D q l used lis
           loads = z .loads;
           after-ends = omega (arith, z .named, z .unit);
           after-apair = omega (arith, z .named, z .unit);
-          after-graph = omega (arith, z .named, z .unit, h .some, h .mark);
-          room = omega (arith, len₁, z .unit, h .mark);
-          low = omega (arith, z .unit, z .product, z .parties, h .mark);
+          after-graph = omega (arith, z .named, z .unit, h .some);
+          room = omega (arith, len₁, z .unit);
+          low = omega (arith, z .unit, z .product, z .parties);
         }
 
-    module _ {u₂ : ℕ} {s₂ : List ℕ} (y : Pairs-made list (3 * q) (9 * q) (11 * q) used s₁ u₂ s₂) where
+    module _ {u₂ : ℕ} {s₂ : List ℕ} (y : Pairs-made list (3 * q) (9 * q) (11 * q) (15 * q) s₁ u₂ s₂) where
       len₂ : length s₂ ≡ 128 * q
       len₂ = y .changes .len ∙ len₁
 
-      -- a side lies below the table of ends
-      side₂ : (a : ℕ) → a ≤ P → region s₂ a n ≡ region s₁ a n
-      side₂ a le = region-same s₁ s₂ a n (λ i k. y .changes .under (a + i) (omega (arith, z .unit, n-le, h .mark)) (omega (arith, z .unit, n-le, h .some)))
-
-      lefts₂ : region s₂ 0 n ≡ padded P n (region s₀ 0 l)
-      lefts₂ = side₂ 0 (omega arith) ∙ x .lefts
-
-      rights₂ : region s₂ P n ≡ padded P n (region s₀ P (P - l))
-      rights₂ = side₂ P (omega arith) ∙ x .rights
+      sides₂ : Sides-in s₂
+      sides₂ = sides-stay (15 * q) (omega (arith, z .unit, h .some)) (y .changes .under) (record { lefts = x .lefts; rights = x .rights })
 
       pub can-even : Can-even list D n 0 P (3 * q) (9 * q) (11 * q) u₂ s₂
       can-even =
@@ -197,17 +134,17 @@ module _ {P D q l used : ℕ} {list s₀ : List ℕ} (h : Sided P D q l used lis
             even = z .even;
             paired = y .paired;
             side = side';
-            partition = rw (lefts₂, rights₂) partition₀;
+            partition = rw (sides₂ .lefts, sides₂ .rights) partition₀;
             crosses = crosses;
             loads = λ v k. padded-loads P D (appts list) (z .listed) (z .loads) v;
-            few = omega (arith, z .product, d-le);
+            few = omega (arith, z .product, le-product D P (h .some));
             after-left = omega (arith, z .unit, n-le);
             after-right = omega (arith, z .unit, n-le);
             after-ends = omega (arith, z .unit, zn .product, n-le);
             after-apair = omega (arith, z .unit, z .named);
-            after-graph = omega (arith, z .unit, zn .product, n-le, y .mark, h .mark, h .some);
-            room = omega (arith, z .unit, zn .product, zn .twice, n-le, y .mark, h .mark, len₂);
-            low = omega (arith, z .unit, zn .product, zn .twice, n-le, y .mark, h .mark, z .product, z .parties);
+            after-graph = omega (arith, z .unit, zn .product, n-le, y .mark, h .some);
+            room = omega (arith, z .unit, zn .product, zn .twice, n-le, y .mark, len₂);
+            low = omega (arith, z .unit, zn .product, zn .twice, n-le, y .mark, z .product, z .parties);
           }
 
       module _ {u₃ : ℕ} {s₃ : List ℕ} (e : Evened-out list D n 0 P (3 * q) (9 * q) (11 * q) u₂ s₂ u₃ s₃) where
@@ -215,22 +152,16 @@ module _ {P D q l used : ℕ} {list s₀ : List ℕ} (h : Sided P D q l used lis
         len₃ = e .changes .len ∙ len₂
 
         mark₃ : u₃ ≡ 15 * q
-        mark₃ = e .mark ∙ y .mark ∙ h .mark
+        mark₃ = e .mark ∙ y .mark
 
-        side₃ : (a : ℕ) → a ≤ P → region s₃ a n ≡ region s₂ a n
-        side₃ a le = region-same s₂ s₃ a n (λ i k. e .changes .under (a + i) (omega (arith, z .unit, n-le, y .mark, h .mark)) (omega (arith, z .unit, n-le, h .some)))
-
-        lefts₃ : region s₃ 0 n ≡ padded P n (region s₀ 0 l)
-        lefts₃ = side₃ 0 (omega arith) ∙ lefts₂
-
-        rights₃ : region s₃ P n ≡ padded P n (region s₀ P (P - l))
-        rights₃ = side₃ P (omega arith) ∙ rights₂
+        sides₃ : Sides-in s₃
+        sides₃ = sides-stay u₂ (omega (arith, z .unit, h .some, y .mark)) (e .changes .under) sides₂
 
         pub can-diagonal : Can-diagonal n 0 P (3 * q) (11 * q) (2 * P) u₃ s₃
         can-diagonal =
             record {
               side = side';
-              partition = rw (lefts₃, rights₃) partition₀;
+              partition = rw (sides₃ .lefts, sides₃ .rights) partition₀;
               after-left = omega (arith, n-le);
               after-right = omega (arith, n-le);
               after-diag = omega (arith, n-le, z .unit);
@@ -240,7 +171,7 @@ module _ {P D q l used : ℕ} {list s₀ : List ℕ} (h : Sided P D q l used lis
               low = omega (arith, n-le, z .unit, mark₃, z .product, z .parties);
             }
 
-        -- the words of the list's pairs and of the evened graph
+        -- how many pairs the evened graph has
         abbrev m : ℕ
         m = size s₃ (11 * q)
 
@@ -248,7 +179,7 @@ module _ {P D q l used : ℕ} {list s₀ : List ℕ} (h : Sided P D q l used lis
             even-out D (add-appointments [] (appts list)) (padded P n (region s₀ 0 l)) (padded P n (region s₀ P (P - l)))
             ≡ ran (graph-at s₃ (3 * q) m (11 * q))
         evened₃ =
-            rw (y .paired .graph m (e .grown), lefts₂, rights₂) at (e .graph m (omega arith))
+            rw (y .paired .graph m (e .grown), sides₂ .lefts, sides₂ .rights) at (e .graph m (omega arith))
 
         evens : Evened (n + n) side' D (add-appointments [] (appts list)) (graph-at s₃ (3 * q) m (11 * q))
         evens =
@@ -260,9 +191,6 @@ module _ {P D q l used : ℕ} {list s₀ : List ℕ} (h : Sided P D q l used lis
         module _ {u₄ : ℕ} {s₄ : List ℕ} (w : Diagonal-set n 0 P (3 * q) (11 * q) (2 * P) u₃ s₃ u₄ s₄) where
           len₄ : length s₄ ≡ 128 * q
           len₄ = w .changes .len ∙ len₃
-
-          mark₄ : u₄ ≡ 15 * q
-          mark₄ = w .mark ∙ mark₃
 
           -- what lies above the table of ends stays
           high : (i : ℕ) → 9 * q ≤ i → i < 15 * q → word s₄ i ≡ word s₃ i
@@ -298,13 +226,13 @@ module _ {P D q l used : ℕ} {list s₀ : List ℕ} (h : Sided P D q l used lis
           lefts₄ =
               column-region s₃ s₄ (3 * q + 2 * m) 0 n
               (λ i k. ap (word s₄) (omega arith) ∙ first-row i k)
-              ∙ lefts₃
+              ∙ sides₃ .lefts
 
           rights₄ : rights t n s₄ ≡ padded P n (region s₀ P (P - l))
           rights₄ =
               column-region s₃ s₄ (3 * q + 2 * m + 1) P n
               (λ i k. ap (word s₄) (omega arith) ∙ second-row i k)
-              ∙ rights₃
+              ∙ sides₃ .rights
 
           -- pair f has the ends of row i, in the words at the end as in those before
           alike-row :
@@ -330,7 +258,7 @@ module _ {P D q l used : ℕ} {list s₀ : List ℕ} (h : Sided P D q l used lis
                 after-ends = omega (arith, n-le, z .unit, e .few, zn .product);
               }
 
-          colorable : Colorable side' m s₄ u₄ (3 * q) (11 * q) n D (10 * q)
+          colorable : Colorable side' m s₄ (15 * q) (3 * q) (11 * q) n D (10 * q)
           colorable =
               let two-n : 2 * n ≡ n + n = omega arith in
               record {
@@ -342,11 +270,11 @@ module _ {P D q l used : ℕ} {list s₀ : List ℕ} (h : Sided P D q l used lis
                 sized = omega (arith, zn .pairs, zn .product, n-le, z .product, z .parties);
                 after-table = omega (arith, e .few, zn .product, z .unit);
                 after-out = omega (arith, zn .product, z .unit);
-                below = omega (arith, kept .sizes, e .few, zn .product, z .unit, n-some, n-le, mark₄);
+                below = omega (arith, kept .sizes, e .few, zn .product, z .unit, n-some, n-le);
                 short = omega (arith, len₄, z .unit, z .product, z .parties);
               }
 
-          fits : Color-fits t s₄ u₄ (11 * q) n D (10 * q)
+          fits : Color-fits t s₄ (15 * q) (11 * q) n D (10 * q)
           fits =
               let two-n : 2 * n ≡ n + n = omega arith in
               record {
@@ -357,13 +285,13 @@ module _ {P D q l used : ℕ} {list s₀ : List ℕ} (h : Sided P D q l used lis
                 header = kept .header ∙ e .plain .header;
                 after-places = omega (arith, e .few, zn .product, z .unit, n-le);
                 sized = omega (arith, zn .pairs, zn .product, n-le, z .product, z .parties);
-                room = omega (arith, zn .pairs, zn .product, n-le, z .unit, mark₄, len₄);
+                room = omega (arith, zn .pairs, zn .product, n-le, z .unit, len₄);
               }
 
           pair-word : (i : ℕ) → i < length list / 2 → word s₄ (9 * q + i) ≡ word s₃ (9 * q + i)
           pair-word i k = high (9 * q + i) (omega arith) (omega (arith, z .named, z .unit))
 
-          pub prepared : Prepared P D q n u₄ list s₄
+          pub prepared : Prepared P D q n list s₄
           prepared =
               record {
                 ready =

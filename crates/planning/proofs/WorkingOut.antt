@@ -16,13 +16,13 @@ use Rattle.appointments.proofs.Loads.{Listed, largest-load-empty}
 use Rattle.appointments.proofs.ChecksLaws.{Passes, passed-passes, passes-passed, good-goes-on}
 use Rattle.appointments.proofs.Answering.{checked-passed, checked-figure, checked-number, d-small}
 use Rattle.two_color.specs.TwoColor.{not-bipartite, two-color}
-use Rattle.two_color.specs.Contract.{Can-color, Colored}
+use Rattle.two_color.specs.Contract.{Colored}
 use Rattle.two_color.specs.declared.TwoColoring.the-variants.{Sides, NotBipartite}
 use Rattle.planning.specs.Planning.{Answer, planned, refusal, plan, graph-not-bipartite, given-sides, bipartite-edge-color, plan-answer, plan-slots, plan-scratch}
 use Rattle.planning.specs.Demand3.{Demand-3}
 use Rattle.planning.specs.Steps.{Ready, Sided, Slots-planned, Worked-out}
 use Rattle.planning.specs.Computing.{computing}
-use Rattle.planning.proofs.Preparing.{sizes}
+use Rattle.planning.proofs.Sizes.{sizes}
 use Rattle.planning.proofs.Demand3.{demand-3}
 
 -- ── the steps ──
@@ -32,28 +32,14 @@ ready-on : {P D q : ℕ} {list s t : List ℕ} → length t ≡ length s → Rea
 ready-on e r =
     record { checked = rw e (r .checked); largest = r .largest; unit = r .unit; whole = e ∙ r .whole }
 
-pub can-two-color : {P D q : ℕ} {list s : List ℕ} → Ready P D q list s → Can-color P D 0 list s
-can-two-color r =
-    let z = sizes r in
-    record {
-      few = z .parties;
-      short = omega (arith, z .named, z .product);
-      listed = z .listed;
-      loads = z .loads;
-      narrow = z .product;
-      low = omega arith;
-      room = omega (arith, z .whole, z .unit);
-    }
-
 module _ {P D q u l : ℕ} {list s t : List ℕ} (r : Ready P D q list s) where
-  pub two-colored : 0 < P → Colored P list 0 s u t (Sides l) → Sided P D q l (15 * q) list t
+  pub two-colored : 0 < P → Colored P list 0 s u t (Sides l) → Sided P D q l list t
   two-colored some c =
       record {
         ready = ready-on (c .keeps .len) r;
         some = some;
         few = c .answers .0;
         found = rw zero-add at (c .answers .1);
-        mark = refl;
       }
 
 -- without parties there is no appointment, and nothing to give
@@ -69,7 +55,7 @@ odd-outcome : (P : ℕ) (xs : List Appt) → two-color P xs ≡ not-bipartite �
 unfolding bipartite-edge-color
 odd-outcome P xs e = ap (given-sides P xs) e
 
-module _ (P D : ℕ) (list slots : List ℕ) where
+module _ {P D : ℕ} {list slots : List ℕ} where
   pub worked-none : {q : ℕ} {s : List ℕ} → Ready P D q list s → P ≡ 0 → Worked-out P D list slots slots (planned 0) s s
   worked-none r e =
       let none : appts list ≡ [] = none-listed (appts list) (rw e at (sizes r .listed)) in

@@ -1,13 +1,13 @@
 -- Demand 3, of an answer and of the slots that came with it: what a customs hall relies on. Assumes nothing.
-use Prim.Native.Nat.{ℕ, zero, suc, _≤_, _<_}
+use Prim.Native.Nat.{ℕ, _≤_, _<_}
 use mathlib.Core.Path.{_≡_}
-use mathlib.Core.List.{List, [], _∷_}
+use mathlib.Core.List.{List}
 use lib.ListN.{length, take}
 use Rattle.words.specs.Basics.{All}
 use Rattle.appointments.specs.Appointments.{Appt, appts, largest-load}
 use Rattle.appointments.specs.Rounds.{Odd-round}
 use Rattle.appointments.specs.Plans.{Plan-of, different, meets, Clash-free, Busiest}
-use Rattle.appointments.specs.Checks.{Check, passed, checks}
+use Rattle.appointments.specs.Checks.{passed, checks}
 use Rattle.planning.specs.Planning.{Answer, planned, refusal}
 
 -- What an accepted plan is (König: a bipartite multigraph has a colouring with as many colours as its largest degree).

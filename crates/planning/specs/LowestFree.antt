@@ -3,13 +3,12 @@
 -- Assumes nothing.
 use Prim.Native.Nat.{ℕ, zero, suc, _+_}
 use mathlib.Core.Path.{_≡_, refl}
-use mathlib.Core.Bool.{Bool, true, false}
 use mathlib.Core.List.{List, [], _∷_, _++_}
 use lib.Dec.{eqb}
 use lib.ListN.{length}
 use Rattle.words.specs.Basics.{pick}
 use Rattle.appointments.specs.Appointments.{Appt, appt, largest-load}
-use Rattle.appointments.specs.Plans.{meets, different}
+use Rattle.appointments.specs.Plans.{meets}
 use Rattle.appointments.specs.Computing as Appointments
 
 -- the lowest slot from s on, among the next n, that neither end meets in the appointments before

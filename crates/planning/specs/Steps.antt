@@ -58,15 +58,14 @@ pub record Ready (P D q : ℕ) (list s : List ℕ) : Type 0 where
   pub whole : length s ≡ 128 * q
 
 -- `two_color` has put l parties on the left, from word 0 on, and the others on the right, from word P on.
-pub record Sided (P D q l used : ℕ) (list s : List ℕ) : Type 0 where
+pub record Sided (P D q l : ℕ) (list s : List ℕ) : Type 0 where
   pub ready : Ready P D q list s
   pub some : 0 < P
   pub few : l ≤ P
   pub found : two-color P (appts list) ≡ sides (region s 0 l) (region s P (P - l))
-  pub mark : used ≡ first-mark q
 
 -- The list's graph is evened out and can be coloured: n parties a side, and the number of each appointment's pair.
-pub record Prepared (P D q n used : ℕ) (list s : List ℕ) : Type 0 where
+pub record Prepared (P D q n : ℕ) (list s : List ℕ) : Type 0 where
   pub ready : Ready P D q list s
   pub left : List ℕ
   pub right : List ℕ
@@ -77,7 +76,7 @@ pub record Prepared (P D q n used : ℕ) (list s : List ℕ) : Type 0 where
       ≡ ran (graph-at s (ends-at q) (size s (graph-base q)) (graph-base q))
   pub lefts-are : lefts (table P q (size s (graph-base q))) n s ≡ padded P n left
   pub rights-are : rights (table P q (size s (graph-base q))) n s ≡ padded P n right
-  pub fits : Color-fits (table P q (size s (graph-base q))) s used (graph-base q) n D (out-at q)
+  pub fits : Color-fits (table P q (size s (graph-base q))) s (first-mark q) (graph-base q) n D (out-at q)
   pub number-of : (i : ℕ) → i < length list / 2 → word s (apair-at q + i) < size s (graph-base q)
   pub ends-of :
       (i : ℕ) → i < length list / 2 →

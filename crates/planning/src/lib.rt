@@ -7,7 +7,6 @@ ghost use Prim.Native.Nat.{ℕ, zero, _+_, _*_, _<_, _≤_};
 ghost use mathlib.Core.List.{_++_};
 ghost use lib.ListN.{length, replicate};
 ghost use Rattle.appointments.specs.Appointments.{appts};
-ghost use Rattle.two_color.specs.Contract.{«Can-color», Colored};
 ghost use Rattle.edge_color.specs.Room.{«Color-fits», Colored as «Colored-words»};
 ghost use Rattle.planning.specs.Planning.{«plan-answer», «plan-slots», «plan-scratch»};
 ghost use Rattle.planning.specs.Demand3.{«Demand-3»};
@@ -25,23 +24,11 @@ pub enum Answer {
     Refused(usize, usize),
 }
 
-// `two_color` on a scratch of which nothing is taken.
-fn two_sides(s: &mut [u32], p: usize, d: usize, list: &[u16]) -> TwoColoring
-    requires { ⌜ Can-color p d 0 (now list) (now s) ⌝ }
-    ensures { λ r. ⌜ Colored p (now (list .entry)) 0 (now (s .entry)) (2 * p) (now (s .exit)) r ⌝ }
-{
-    let mut m = Mark {
-        taken: 0,
-        there: s.len(),
-    };
-    two_color::two_color(s, &mut m, p, d, list)
-}
-
 // The list's pairs on two equally long sides, evened out, with the numbers of the pairs on the diagonal. Gives how many parties
 // each side has. The mark is made above all that lies at a fixed place, and each step gives back what it takes.
-fn prepare(s: &mut [u32], list: &[u16], p: usize, d: usize, q: usize, l: usize) -> usize
-    requires { ⌜ Sided p d q l (15 * q) (now list) (now s) ⌝ }
-    ensures { λ n. ⌜ Prepared p d q n (15 * q) (now (list .entry)) (now (s .exit)) × (length (now (s .exit)) ≡ length (now (s .entry))) ⌝ }
+fn prepare(s: &mut [u32], list: &[u16], p: usize, d: usize, q: usize, left: usize) -> usize
+    requires { ⌜ Sided p d q left (now list) (now s) ⌝ }
+    ensures { λ n. ⌜ Prepared p d q n (now (list .entry)) (now (s .exit)) × (length (now (s .exit)) ≡ length (now (s .entry))) ⌝ }
 {
     let mut m = Mark {
         taken: 15 * q,
@@ -54,20 +41,20 @@ fn prepare(s: &mut [u32], list: &[u16], p: usize, d: usize, q: usize, l: usize) 
         apair: 9 * q,
         g: 11 * q,
     };
-    let n = evening::pad_sides(s, p, 0, l, p, p - l);
+    let n = evening::pad_sides(s, p, 0, left, p, p - left);
     evening::pairs_from_list(s, &mut m, list, p, d, at);
     evening::even_out(s, &mut m, list, d, n, at);
     evening::diagonal(s, &mut m, n, at, 2 * p);
     n
 }
 
-// `rbmg_edge_color` on a scratch of which `used` words are taken.
-fn color(s: &mut [u32], used: usize, t: Table, g: usize, n: usize, d: usize, out: usize)
-    requires { ⌜ Color-fits t (now s) used g n d out ⌝ }
-    ensures { λ r. ⌜ Colored-words t (now (s .entry)) (now (s .exit)) used used g n d out ⌝ }
+// `rbmg_edge_color` on a scratch whose first `taken` words are taken.
+fn color(s: &mut [u32], taken: usize, t: Table, g: usize, n: usize, d: usize, out: usize)
+    requires { ⌜ Color-fits t (now s) taken g n d out ⌝ }
+    ensures { λ r. ⌜ Colored-words t (now (s .entry)) (now (s .exit)) taken taken g n d out ⌝ }
 {
     let mut m = Mark {
-        taken: used,
+        taken,
         there: s.len(),
     };
     edge_color::rbmg_edge_color(s, &mut m, t, g, n, d, out);
@@ -83,7 +70,7 @@ fn color_and_give(
     q: usize,
     n: usize,
 )
-    requires { ⌜ Prepared p d q n (15 * q) (now list) (now s) ⌝ }
+    requires { ⌜ Prepared p d q n (now list) (now s) ⌝ }
     requires { ⌜ length (appts (now list)) ≤ length (now slots) ⌝ }
     ensures { λ r. ⌜ Slots-planned p (now (list .entry)) (now (slots .entry)) (now (slots .exit)) (now (s .entry)) (now (s .exit)) ⌝ }
 {
@@ -107,7 +94,7 @@ fn work_out(s: &mut [u32], slots: &mut [u16], list: &[u16], p: usize, d: usize, 
     if p == 0 {
         return Answer::Planned(0);
     }
-    let colored = two_sides(s, p, d, list);
+    let colored = two_color::two_sides(s, p, d, list);
     let TwoColoring::Sides(left) = colored else {
         return Answer::Refused(9, 0);
     };

@@ -9,12 +9,12 @@ use lib.ListN.{length, replicate}
 use lib.Seq.{getD-set-same}
 use Rattle.words.specs.Basics.{is}
 use Rattle.words.specs.Words.{word, put-word}
+use Rattle.words.specs.Frames.{Changes}
 use Rattle.words.proofs.Sums.{is-eq, is-ne}
 use Rattle.words.proofs.Frames.{here, away, length-put}
-use Rattle.multigraph.specs.Places.{Changes}
-use Rattle.multigraph.proofs.Kept.{changes-refl, changes-trans, changes-put, changes-put-low}
+use Rattle.words.proofs.Ranges.{changes-refl, changes-trans, changes-put, changes-put-low}
+use Rattle.words.proofs.Below.{row-end}
 use Rattle.slots.specs.Steps.{pushed, matching-pushed, all-pushed}
-use Rattle.slots.proofs.StepLaws.{matching-within}
 use Rattle.slots.proofs.Chains.{Chain, chain-keep, chain-cut, link-fits, slots-left}
 
 -- how often the number e stands among the j words from m on
@@ -105,7 +105,7 @@ module _ (pairs n d out top : ℕ) (first : List ℕ) where
       so-far e = replicate (seen first (out + n * z) e j) z ++ slots-left (has first n out e) z
 
       within : place < n * d
-      within = omega (arith, matching-within n z d a)
+      within = omega (arith, row-end n z d a)
 
       low : z ≤ place
       low =

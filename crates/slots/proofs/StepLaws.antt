@@ -4,14 +4,7 @@ use mathlib.Core.Path.{_≡_}
 use mathlib.Core.List.{List}
 use native.Mathlib.Omega.{arith}
 use native.Mathlib.Numerals.{add-one}
-use native.Mathlib.Nat.{mul-le-mul-left}
 use Rattle.slots.specs.Steps.{pushed, matching-pushed, all-pushed, taken-words, taken-slots, given-words, given-slots}
-
--- a matching below d ends among the words of d matchings
-pub matching-within : (n z d : ℕ) → z < d → n * z + n ≤ n * d
-matching-within n z d h =
-    let le : n * (z + 1) ≤ n * d = mul-le-mul-left n (omega arith) in
-    omega arith
 
 pub matching-pushed-more :
     (n out top z j : ℕ) (s : List ℕ) →

@@ -1,52 +1,19 @@
--- The matchings that lie in words: how many they are, and that a matching has as many copies of a pair as its words have the
--- pair's number. Assumes nothing.
+-- A matching that lies in words has as many copies of a pair as its words have the pair's number. Assumes nothing.
 use Prim.Native.Nat.{ℕ, zero, suc, _+_, _*_, _<_}
-use mathlib.Core.Path.{_≡_, refl, sym, _∙_, ap}
-use mathlib.Core.List.{List, []}
+use mathlib.Core.Path.{_≡_, refl, sym, _∙_}
+use mathlib.Core.List.{List}
 use mathlib.Core.Logic.{inl, ⊎-elim}
 use native.Mathlib.Omega.{arith}
-use native.Mathlib.Nat.{mul-zero, add-zero}
-use lib.ListN.{length, getD}
-use Rattle.words.specs.Basics.{is, All}
+use native.Mathlib.Nat.{add-zero}
+use Rattle.words.specs.Basics.{is}
 use Rattle.words.specs.Words.{word}
 use Rattle.words.proofs.Sums.{is-eq, is-ne}
-use Rattle.multigraph.specs.Regular.{between, copies-between, Positive}
+use Rattle.multigraph.specs.Regular.{between, copies-between}
 use Rattle.multigraph.specs.Stored.{numbered, matching-at}
 use Rattle.multigraph.specs.Places.{Distinct-ends}
 use Rattle.multigraph.proofs.Ends.{between-cases}
 use Rattle.multigraph.proofs.Weights.{weigh-none, weigh-cons}
-use Rattle.multigraph.specs.Stored.{matchings-at}
 use Rattle.slots.proofs.Pushing.{seen}
-
--- ── all matchings ──
-
-module _ (s : List ℕ) (ends pairs n : ℕ) where
-  pub matchings-length : (out d : ℕ) → length (matchings-at s ends pairs out n d) ≡ d
-  unfolding matchings-at
-  matchings-length out zero = refl
-  matchings-length out (suc d) = ap suc (matchings-length (out + n) d)
-
-  matching-positive : (m k : ℕ) → Positive (matching-at s ends pairs m k)
-  unfolding matching-at
-  matching-positive m zero = tt
-  matching-positive m (suc k) = (omega arith, matching-positive (m + 1) k)
-
-  pub matchings-positive : (out d : ℕ) → All Positive (matchings-at s ends pairs out n d)
-  unfolding matchings-at
-  matchings-positive out zero = tt
-  matchings-positive out (suc d) = (matching-positive out n, matchings-positive (out + n) d)
-
-  -- matching z
-  pub matchings-nth :
-      (out d z : ℕ) → z < d → getD (matchings-at s ends pairs out n d) z [] ≡ matching-at s ends pairs (out + n * z) n
-  unfolding matchings-at
-  matchings-nth out zero z h = absurd (omega arith)
-  matchings-nth out (suc d) zero h = rw (mul-zero, add-zero)
-  matchings-nth out (suc d) (suc z) h =
-      let same : out + n + n * z ≡ out + n * suc z = omega arith in
-      matchings-nth (out + n) d z (omega arith) ∙ ap (λ m. matching-at s ends pairs m n) same
-
--- ── one matching ──
 
 -- the numbers from the front
 seen-front : (s : List ℕ) (m e k : ℕ) → seen s m e (suc k) ≡ is e (word s m) + seen s (m + 1) e k

@@ -7,16 +7,17 @@ use native.Mathlib.Nat.{add-zero, zero-add, add-assoc}
 use lib.ListN.{length, getD}
 use Rattle.words.specs.Basics.{ran}
 use Rattle.words.specs.Words.{word}
+use Rattle.words.proofs.Below.{row-end}
 use Rattle.appointments.specs.Appointments.{Appt, appt}
 use Rattle.multigraph.specs.Multigraph.{Graph}
-use Rattle.slots.specs.Slots.{give-slots}
 use Rattle.multigraph.specs.Stored.{matchings-at}
+use Rattle.multigraph.proofs.SideBySide.{matchings-length, matchings-positive, matchings-nth}
+use Rattle.slots.specs.Slots.{give-slots}
 use Rattle.slots.specs.Stored.{Pair-of, Slots-fit, Slots-stored}
 use Rattle.slots.specs.Steps.{all-pushed, given-words, given-slots}
-use Rattle.slots.proofs.StepLaws.{matching-within}
 use Rattle.slots.proofs.Chains.{slots-same}
 use Rattle.slots.proofs.Pushing.{seen, Pushable, Chained, has, push-all}
-use Rattle.slots.proofs.StoredMatchings.{matchings-length, matchings-positive, matchings-nth, matching-copies}
+use Rattle.slots.proofs.StoredMatchings.{matching-copies}
 use Rattle.slots.proofs.Taking.{next-slot, Readable, Ready, Appointed, left, Taken, take-all}
 
 -- a plan has a slot for each appointment
@@ -56,9 +57,9 @@ module _
   -- the numbers in a matching's words are its copies
   copies-are : (e z : ℕ) → e < pairs → z < d → has s n out e z ≡ left s ends e matchings z
   copies-are e z h k =
-      rw (matchings-nth s ends pairs n out d z k)
+      rw (matchings-nth s ends pairs out n d z k)
       (sym (matching-copies s ends pairs (fit .distinct) e (out + n * z) n h
-      (λ i l. rw (add-assoc out (n * z) i) (fit .numbers (n * z + i) (omega (arith, matching-within n z d k))))))
+      (λ i l. rw (add-assoc out (n * z) i) (fit .numbers (n * z + i) (omega (arith, row-end n z d k))))))
 
   -- after the first pass each pair's chain is the slots that the matchings have for it
   ready : Ready ends pairs n d out apair top s matchings chained
@@ -68,8 +69,8 @@ module _
       record { numbers = fit .numbers; after = fit .after-matchings; inside = fit .inside; few = fit .few } in
       let c : Chained pairs n d out top s d 0 chained = push-all pairs n d out top s pushable d (omega arith) in
       record {
-        as-many = matchings-length s ends pairs n out d;
-        positive = matchings-positive s ends pairs n out d;
+        as-many = matchings-length s ends pairs out n d;
+        positive = matchings-positive s ends pairs out n d;
         changes = c .changes;
         chains = λ e h.
             rw (← slots-same (has s n out e) (left s ends e matchings) d (λ z k. copies-are e z h k))

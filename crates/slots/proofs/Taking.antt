@@ -11,15 +11,16 @@ use lib.ListN.{length, getD, set, take, drop, length-set, take-append-drop}
 use lib.Seq.{getD-set-same, take-suc-set, drop-set-lt}
 use Rattle.words.specs.Basics.{is, All, Run, ran, failed, and-then}
 use Rattle.words.specs.Words.{word, put-word}
+use Rattle.words.specs.Frames.{Changes}
 use Rattle.words.proofs.Sums.{is-same, is-ne}
 use Rattle.words.proofs.Frames.{away}
+use Rattle.words.proofs.Ranges.{changes-trans, changes-put}
 use Rattle.appointments.specs.Appointments.{Appt}
 use Rattle.multigraph.specs.Multigraph.{Graph}
 use Rattle.multigraph.specs.Regular.{between, copies-between, Positive}
-use Rattle.multigraph.specs.Places.{Distinct-ends, Changes}
+use Rattle.multigraph.specs.Places.{Distinct-ends}
 use Rattle.multigraph.proofs.Ends.{between-symmetric, same-weight}
 use Rattle.multigraph.proofs.Weights.{pairs-between-ends, no-pairs-no-copies}
-use Rattle.multigraph.proofs.Kept.{changes-trans, changes-put}
 use Rattle.slots.specs.Slots.{Given, given, none-left, give, with-slot, give-slots}
 use Rattle.slots.specs.Stored.{Pair-of}
 use Rattle.slots.specs.Steps.{link, taken-words, taken-slots, given-words, given-slots}

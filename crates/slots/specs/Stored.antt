@@ -1,16 +1,16 @@
 -- What giving slots over words asks and does: the matchings of a colouring as they lie in words, and the slots that the
 -- appointments get from them. Assumes nothing.
-use Prim.Native.Nat.{ℕ, zero, suc, _+_, _*_, _<_, _≤_}
+use Prim.Native.Nat.{ℕ, _+_, _*_, _<_, _≤_}
 use mathlib.Core.Path.{_≡_}
-use mathlib.Core.List.{List, [], _∷_, _++_}
+use mathlib.Core.List.{List, _++_}
 use lib.ListN.{length, getD, drop}
 use Rattle.words.specs.Basics.{ran}
 use Rattle.words.specs.Words.{word}
+use Rattle.words.specs.Frames.{Changes}
 use Rattle.appointments.specs.Appointments.{Appt, appt}
-use Rattle.multigraph.specs.Multigraph.{Graph}
 use Rattle.multigraph.specs.Regular.{Same-ends}
 use Rattle.multigraph.specs.Stored.{matchings-at}
-use Rattle.multigraph.specs.Places.{Distinct-ends, Changes}
+use Rattle.multigraph.specs.Places.{Distinct-ends}
 use Rattle.slots.specs.Slots.{give-slots}
 
 -- The pair whose number is e has the appointment's ends, either way round.

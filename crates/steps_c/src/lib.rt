@@ -2,7 +2,6 @@
 ghost use mathlib.Core.Path.{_≡_};
 ghost use Prim.Native.Nat.{_%_, _+_, _*_};
 ghost use Rattle.steps_c.specs.Compared.{«Two-colored», «refusal-number»};
-ghost use Rattle.two_color.specs.Contract.{«Can-color», Colored};
 ghost use Rattle.euler.specs.Room.{Splits, «Halves-stored»};
 use appointments::Checked;
 use mark::Mark;
@@ -15,6 +14,7 @@ pub struct TwoColorAnswer {
     pub left: u32,
 }
 
+// The answer to a list that a check refuses: its number.
 fn refused(checked: Checked) -> TwoColorAnswer
     ensures { λ r. ⌜ (r .left ≡ 0) × (r .number ≡ refusal-number checked % 4294967296) ⌝ }
 {
@@ -27,30 +27,18 @@ fn refused(checked: Checked) -> TwoColorAnswer
     }
 }
 
-// `two_color` on a scratch of which nothing is taken.
-fn two_sides(s: &mut [u32], p: usize, d: usize, list: &[u16]) -> TwoColoring
-    requires { ⌜ Can-color p d 0 (now list) (now s) ⌝ }
-    ensures { λ r. ⌜ Colored p (now (list .entry)) 0 (now (s .entry)) (2 * p) (now (s .exit)) r ⌝ }
-{
-    let mut m = Mark {
-        taken: 0,
-        there: s.len(),
-    };
-    two_color::two_color(s, &mut m, p, d, list)
-}
-
 // Checks 1 to 8 (a slot buffer is not needed), then `two_color`: the left parties stand in the first words of scratch, the right
 // ones from word P on.
 #[no_mangle]
 pub extern "C" fn bimtsure_two_color(p: u16, list: &[u16], scratch: &mut [u32]) -> TwoColorAnswer
-    ensures { λ r. ⌜ Two-colored p (now (list .entry)) (now (scratch .exit)) (r .number) (r .left) ⌝ }
+    ensures { λ r. ⌜ Two-colored p (now (list .entry)) (now (scratch .entry)) (now (scratch .exit)) (r .number) (r .left) ⌝ }
 {
     let parties = p as usize;
     let checked = appointments::check_all(parties, list, list.len(), scratch.len());
     let Checked::Passed(d) = checked else {
         return refused(checked);
     };
-    let colored = two_sides(scratch, parties, d, list);
+    let colored = two_color::two_sides(scratch, parties, d, list);
     match colored {
         TwoColoring::Sides(left) => TwoColorAnswer {
             number: 0,

@@ -15,14 +15,13 @@ use Rattle.words.proofs.Sums.{all-reverse}
 use Rattle.appointments.specs.Appointments.{Appt, appts, load}
 use Rattle.appointments.proofs.Loads.{Listed, load-reverse}
 use Rattle.two_color.specs.TwoColor.{colour-of, second-ends, first-ends, neighbours, side}
-use Rattle.two_color.specs.Model.{Small, clearStateM, startPartyM, startPartiesM, fillRowsM, preparedM}
+use Rattle.two_color.specs.Model.{Small, right-place, colour-place, refused-place, next-place, stack-count, left-count, right-count, row-count, row-start, row-place, clearStateM, startPartyM, startPartiesM, fillRowsM, prepareM}
 use Rattle.two_color.specs.Contract.{Can-color}
 use Rattle.two_color.proofs.NeighbourLaws.{seconds, firsts}
-use Rattle.two_color.proofs.Held.{newest, held-none}
+use Rattle.two_color.proofs.Held.{newest, held-none, Rows}
 use Rattle.two_color.proofs.Showing.{within-refl, Shows}
-use Rattle.two_color.proofs.Stepping.{Rows}
 use Rattle.two_color.proofs.Backwards.{backwards, reverse-appts, ends-load}
-use Rattle.two_color.proofs.Filling.{Ends, Filled, filled-as, row-count, row-place, row-end, fill-filled}
+use Rattle.two_color.proofs.Filling.{Ends, Filled, filled-as, row-end, fill-filled}
 
 -- ── the state ──
 
@@ -50,9 +49,9 @@ unfolding zeroed
 zeroed-under s a zero i h = refl
 zeroed-under s a (suc n) i h = away (zeroed s a n) (a + n) i 0 (λ e. omega arith) ∙ zeroed-under s a n i h
 
-state-zeroed : (u p : ℕ) (s : List ℕ) → clearStateM u p s ≡ zeroed s (u + 4 * p) 5
+state-zeroed : (u p : ℕ) (s : List ℕ) → clearStateM u p s ≡ zeroed s (refused-place u p) 5
 unfolding clearStateM zeroed
-state-zeroed u p s = rw (add-zero (u + 4 * p))
+state-zeroed u p s = rw (add-zero (refused-place u p))
 
 -- ── the parties ──
 
@@ -61,49 +60,49 @@ record Started (u p d n : ℕ) (s t : List ℕ) : Type 0 where
   len : length t ≡ length s
   under : (i : ℕ) → i < u → word t i ≡ word s i
   state : (i : ℕ) → u + 4 * p ≤ i → i < u + 4 * p + 5 → word t i ≡ word s i
-  colours : (v : ℕ) → v < n → word t (u + 3 * p + v) ≡ 2
+  colours : (v : ℕ) → v < n → word t (colour-place u p v) ≡ 2
   counts : (v : ℕ) → v < n → word t (row-count u p v) ≡ 0
-  starts : (v : ℕ) → v < n → word t (u + 4 * p + 6 + 2 * v) ≡ row-place u p d v
+  starts : (v : ℕ) → v < n → word t (row-start u p v) ≡ row-place u p d v
 
 module _ (u p d : ℕ) (small : Small u p) (narrow : d * p ≤ 8192) (s : List ℕ) (fits : u + 6 * p + 5 ≤ length s) where
   module _ (n : ℕ) (below : n < p) (t : List ℕ) (x : Started u p d n s t) where
     t1 : List ℕ
-    t1 = put-word t (u + 3 * p + n) 2
+    t1 = put-word t (colour-place u p n) 2
 
     t2 : List ℕ
     t2 = put-word t1 (row-count u p n) 0
 
     t3 : List ℕ
-    t3 = put-word t2 (u + 4 * p + 6 + 2 * n) (row-place u p d n)
+    t3 = put-word t2 (row-start u p n) (row-place u p d n)
 
     same-length : (length t1 ≡ length s) × (length t2 ≡ length s) × (length t3 ≡ length s)
     unfolding t1 t2 t3
     same-length =
-        let e1 = length-put t (u + 3 * p + n) 2 ∙ x .len in
+        let e1 = length-put t (colour-place u p n) 2 ∙ x .len in
         let e2 = length-put t1 (row-count u p n) 0 ∙ e1 in
-        (e1, e2, length-put t2 (u + 4 * p + 6 + 2 * n) (row-place u p d n) ∙ e2)
+        (e1, e2, length-put t2 (row-start u p n) (row-place u p d n) ∙ e2)
 
-    other : (i : ℕ) → (i ≡ u + 3 * p + n → ⊥) → (i ≡ row-count u p n → ⊥) → (i ≡ u + 4 * p + 6 + 2 * n → ⊥) → word t3 i ≡ word t i
+    other : (i : ℕ) → (i ≡ u + 3 * p + n → ⊥) → (i ≡ row-count u p n → ⊥) → (i ≡ row-start u p n → ⊥) → word t3 i ≡ word t i
     unfolding t1 t2 t3
-    other i a b c = away t2 (u + 4 * p + 6 + 2 * n) i (row-place u p d n) c ∙ away t1 (row-count u p n) i 0 b ∙ away t (u + 3 * p + n) i 2 a
+    other i a b c = away t2 (row-start u p n) i (row-place u p d n) c ∙ away t1 (row-count u p n) i 0 b ∙ away t (colour-place u p n) i 2 a
 
-    own-colour : word t3 (u + 3 * p + n) ≡ 2
+    own-colour : word t3 (colour-place u p n) ≡ 2
     unfolding t1 t2 t3
     own-colour =
-        away t2 (u + 4 * p + 6 + 2 * n) (u + 3 * p + n) (row-place u p d n) (λ e. omega arith)
-        ∙ away t1 (row-count u p n) (u + 3 * p + n) 0 (λ e. omega arith)
-        ∙ here t (u + 3 * p + n) 2 (omega (arith, x .len)) (omega arith)
+        away t2 (row-start u p n) (colour-place u p n) (row-place u p d n) (λ e. omega arith)
+        ∙ away t1 (row-count u p n) (colour-place u p n) 0 (λ e. omega arith)
+        ∙ here t (colour-place u p n) 2 (omega (arith, x .len)) (omega arith)
 
     own-count : word t3 (row-count u p n) ≡ 0
     unfolding t2 t3
     own-count =
-        away t2 (u + 4 * p + 6 + 2 * n) (row-count u p n) (row-place u p d n) (λ e. omega arith)
+        away t2 (row-start u p n) (row-count u p n) (row-place u p d n) (λ e. omega arith)
         ∙ here t1 (row-count u p n) 0 (omega (arith, same-length .0)) (omega arith)
 
-    own-start : word t3 (u + 4 * p + 6 + 2 * n) ≡ row-place u p d n
+    own-start : word t3 (row-start u p n) ≡ row-place u p d n
     unfolding t3
     own-start =
-        here t2 (u + 4 * p + 6 + 2 * n) (row-place u p d n) (omega (arith, same-length .1)) (omega (arith, row-end d n p below, small .low, small .few))
+        here t2 (row-start u p n) (row-place u p d n) (omega (arith, same-length .1)) (omega (arith, row-end d n p below, small .low, small .few))
 
     start-more : Started u p d (suc n) s (startPartyM u p d n t)
     unfolding startPartyM t1 t2 t3
@@ -115,7 +114,7 @@ module _ (u p d : ℕ) (small : Small u p) (narrow : d * p ≤ 8192) (s : List �
           colours = λ v h.
               elim (ℕ-discrete v n) [
                 | yes e ↦ rw e own-colour
-                | no q ↦ other (u + 3 * p + v) (λ e. q (omega arith)) (λ e. omega arith) (λ e. omega arith) ∙ x .colours v (omega arith)
+                | no q ↦ other (colour-place u p v) (λ e. q (omega arith)) (λ e. omega arith) (λ e. omega arith) ∙ x .colours v (omega arith)
               ];
           counts = λ v h.
               elim (ℕ-discrete v n) [
@@ -125,7 +124,7 @@ module _ (u p d : ℕ) (small : Small u p) (narrow : d * p ≤ 8192) (s : List �
           starts = λ v h.
               elim (ℕ-discrete v n) [
                 | yes e ↦ rw e own-start
-                | no q ↦ other (u + 4 * p + 6 + 2 * v) (λ e. omega arith) (λ e. omega arith) (λ e. q (omega arith)) ∙ x .starts v (omega arith)
+                | no q ↦ other (row-start u p v) (λ e. omega arith) (λ e. omega arith) (λ e. q (omega arith)) ∙ x .starts v (omega arith)
               ];
         }
 
@@ -169,7 +168,7 @@ second-ends-of p list =
 -- what stands in the words before the first step
 pub record Begun (u p d : ℕ) (list s t : List ℕ) : Type 0 where
   pub keeps : Keeps u s t
-  pub rows : Rows u p d (appts list) t
+  pub rows : Rows u p d (λ v. neighbours v (appts list)) t
   pub shows : Shows u p t t [] [] 0
 
 module _ (u p d : ℕ) (list s : List ℕ) (can : Can-color p d u list s) (some : 0 < p) where
@@ -187,7 +186,7 @@ module _ (u p d : ℕ) (list s : List ℕ) (can : Can-color p d u list s) (some 
 
   cleared-length : length cleared ≡ length s
   unfolding cleared
-  cleared-length = ap length (state-zeroed u p s) ∙ zeroed-length s (u + 4 * p) 5
+  cleared-length = ap length (state-zeroed u p s) ∙ zeroed-length s (refused-place u p) 5
 
   started : Started u p d p cleared parties
   unfolding parties
@@ -195,7 +194,10 @@ module _ (u p d : ℕ) (list s : List ℕ) (can : Can-color p d u list s) (some 
 
   empty-rows : Filled u p d parties (λ v. []) parties
   empty-rows =
-      record { frame = keeps-refl (u + 4 * p + 5) parties; starts = started .starts; held = λ v h. held-none (row-count u p v) (row-place u p d v) parties (started .counts v h) }
+      record {
+        frame = keeps-refl (u + 4 * p + 5) parties;
+        rows = record { starts = started .starts; held = λ v h. held-none (row-count u p v) (row-place u p d v) parties (started .counts v h) };
+      }
 
   listed : All (Listed p) ys
   unfolding ys
@@ -207,8 +209,8 @@ module _ (u p d : ℕ) (list s : List ℕ) (can : Can-color p d u list s) (some 
       let e : load v ys ≡ load v (appts list) = ap (load v) (sym (reverse-appts list)) ∙ load-reverse v (appts list) in
       omega (arith, ends-load v ys, can .loads v h)
 
-  full-rows : Filled u p d parties (λ v. second-ends v ys ++ first-ends v ys) (preparedM u p d list s)
-  unfolding preparedM parties cleared ys
+  full-rows : Filled u p d parties (λ v. second-ends v ys ++ first-ends v ys) (prepareM u p d list s)
+  unfolding prepareM parties cleared ys
   full-rows =
       let fits : u + 6 * p + 5 + d * p ≤ length parties = omega (arith, started .len, cleared-length, can .room) in
       fill-filled u p d small parties fits (can .narrow) list 1 0 _ _ first-ends (second-ends-of p list) (length list / 2)
@@ -220,39 +222,39 @@ module _ (u p d : ℕ) (list s : List ℕ) (can : Can-color p d u list s) (some 
   unfolding neighbours ys
   rows-are v = rw (reverse-appts list)
 
-  state-zero : (i : ℕ) → u + 4 * p ≤ i → i < u + 4 * p + 5 → word (preparedM u p d list s) i ≡ 0
+  state-zero : (i : ℕ) → u + 4 * p ≤ i → i < u + 4 * p + 5 → word (prepareM u p d list s) i ≡ 0
   unfolding cleared
   state-zero i h k =
       full-rows .frame .same i k
       ∙ started .state i h k
       ∙ ap (λ l. word l i) (state-zeroed u p s)
-      ∙ zeroed-in s (u + 4 * p) 5 (omega (arith, can .room)) i h k
+      ∙ zeroed-in s (refused-place u p) 5 (omega (arith, can .room)) i h k
 
   -- What stands in the words before the first step.
-  pub prepared-begun : Begun u p d list s (preparedM u p d list s)
+  pub prepared-begun : Begun u p d list s (prepareM u p d list s)
   unfolding cleared newest side colour-of
   prepared-begun =
-      let t : List ℕ = preparedM u p d list s in
+      let t : List ℕ = prepareM u p d list s in
       let filled : Filled u p d parties (λ v. neighbours v (appts list)) t = filled-as _ _ rows-are full-rows in
       record {
         keeps = record {
           len = full-rows .frame .len ∙ started .len ∙ cleared-length;
-          same = λ i h. full-rows .frame .same i (omega arith) ∙ started .under i h ∙ ap (λ l. word l i) (state-zeroed u p s) ∙ zeroed-under s (u + 4 * p) 5 i (omega arith);
+          same = λ i h. full-rows .frame .same i (omega arith) ∙ started .under i h ∙ ap (λ l. word l i) (state-zeroed u p s) ∙ zeroed-under s (refused-place u p) 5 i (omega arith);
         };
-        rows = record { starts = filled .starts; held = filled .held };
+        rows = filled .rows;
         shows = record {
           core = record {
-            marked = tt;
+            each-once = tt;
             high = omega arith;
             waiters = tt;
             frame = within-refl u (u + 4 * p + 5) t;
-            refusal = state-zero (u + 4 * p) (omega arith) (omega arith);
-            party = state-zero (u + 4 * p + 1) (omega arith) (omega arith);
-            height = state-zero (u + 4 * p + 2) (omega arith) (omega arith);
-            colours = λ v h. full-rows .frame .same (u + 3 * p + v) (omega arith) ∙ started .colours v h;
+            refusal = state-zero (refused-place u p) (omega arith) (omega arith);
+            party = state-zero (next-place u p) (omega arith) (omega arith);
+            height = state-zero (stack-count u p) (omega arith) (omega arith);
+            colours = λ v h. full-rows .frame .same (colour-place u p v) (omega arith) ∙ started .colours v h;
             waiting = refl;
           };
-          lefts = held-none (u + 4 * p + 3) u t (state-zero (u + 4 * p + 3) (omega arith) (omega arith));
-          rights = held-none (u + 4 * p + 4) (u + p) t (state-zero (u + 4 * p + 4) (omega arith) (omega arith));
+          lefts = held-none (left-count u p) u t (state-zero (left-count u p) (omega arith) (omega arith));
+          rights = held-none (right-count u p) (right-place u p) t (state-zero (right-count u p) (omega arith) (omega arith));
         };
       }

@@ -16,8 +16,9 @@ use Rattle.words.specs.Frames.{Keeps}
 use Rattle.words.proofs.Frames.{keeps-trans}
 use Rattle.appointments.specs.Appointments.{Appt, appt}
 use Rattle.appointments.proofs.Loads.{Listed}
-use Rattle.two_color.specs.Model.{Small, appendM, pushEndM, fillRowsM}
-use Rattle.two_color.proofs.Held.{Same, Held, held-same, held-more, Appended, append-does}
+use Rattle.two_color.specs.Model.{Small, row-count, row-start, row-place, appendM, pushEndM, fillRowsM}
+use Rattle.two_color.proofs.Regions.{Same}
+use Rattle.two_color.proofs.Held.{Held, held-same, held-more, Appended, append-does, Rows}
 use Rattle.two_color.proofs.NeighbourLaws.{Far-ends}
 use Rattle.two_color.proofs.Backwards.{backwards}
 
@@ -25,25 +26,17 @@ use Rattle.two_color.proofs.Backwards.{backwards}
 pub row-end : (d v n : ℕ) → v < n → d * v + d ≤ d * n
 row-end d v n h = omega (arith, mul-suc d v, mul-le-mul-left d h)
 
--- where the length of a party's row stands, and where its row starts
-abbrev pub row-count : ℕ → ℕ → ℕ → ℕ
-row-count u p v = u + 4 * p + 5 + 2 * v
-
-abbrev pub row-place : ℕ → ℕ → ℕ → ℕ → ℕ
-row-place u p d v = u + 6 * p + 5 + d * v
-
 -- w at the end of the row of v
 abbrev pushed : ℕ → ℕ → ℕ → ℕ → ℕ → List ℕ → List ℕ
 pushed u p d v w s = appendM (row-count u p v) (row-place u p d v) w s
 
--- each party's row stands where its word says and holds the list that f gives; nothing below the rows' words has changed
+-- the rows hold the lists that f gives, and nothing below the rows' words has changed
 pub record Filled (u p d : ℕ) (s₀ : List ℕ) (f : ℕ → List ℕ) (s : List ℕ) : Type 0 where
   pub frame : Keeps (u + 4 * p + 5) s₀ s
-  pub starts : (v : ℕ) → v < p → word s (u + 4 * p + 6 + 2 * v) ≡ u + 6 * p + 5 + d * v
-  pub held : (v : ℕ) → v < p → Held (u + 4 * p + 5 + 2 * v) (u + 6 * p + 5 + d * v) s (f v)
+  pub rows : Rows u p d f s
 
 pub filled-as : {u p d : ℕ} {s₀ s : List ℕ} (f g : ℕ → List ℕ) → ((v : ℕ) → f v ≡ g v) → Filled u p d s₀ f s → Filled u p d s₀ g s
-filled-as f g e x = record { frame = x .frame; starts = x .starts; held = λ v h. rw (e v) at (x .held v h) }
+filled-as f g e x = record { frame = x .frame; rows = record { starts = x .rows .starts; held = λ v h. rw (e v) at (x .rows .held v h) } }
 
 -- `near` and `far` are the places of an appointment's ends
 pub record Ends (p : ℕ) (list : List ℕ) (near far : ℕ) (nearOf farOf : Appt → ℕ) (ends : ℕ → List Appt → List ℕ) : Type 0 where
@@ -64,7 +57,7 @@ module _ (u p d : ℕ) (small : Small u p) (s₀ : List ℕ) (fits : u + 6 * p +
     appended : Appended (row-count u p v) (row-place u p d v) (length (f v)) w s (pushed u p d v w s)
     appended =
         let e : d * v + d ≤ d * p = row-end d v p below in
-        append-does (row-count u p v) (row-place u p d v) (length (f v)) w s (x .held v below .count) (omega (arith, x .frame .len)) (omega (arith, x .frame .len)) (λ q. omega arith) (omega arith) w-low
+        append-does (row-count u p v) (row-place u p d v) (length (f v)) w s (x .rows .held v below .count) (omega (arith, x .frame .len)) (omega (arith, x .frame .len)) (λ q. omega arith) (omega arith) w-low
 
     -- another row is not met
     row-other : (y : ℕ) → y < p → (y ≡ v → ⊥) → Same (row-place u p d y) (length (f y)) s (pushed u p d v w s)
@@ -81,18 +74,20 @@ module _ (u p d : ℕ) (small : Small u p) (s₀ : List ℕ) (fits : u + 6 * p +
         elim (ℕ-discrete y v) [
           | yes e ↦
               rw (eq-eqb y v e, e)
-              (held-more (pushed u p d v w s) w (appended .count) (appended .last) (λ i g l. appended .other i (λ q. omega arith) (λ q. omega arith)) (x .held v below))
+              (held-more (pushed u p d v w s) w (appended .count) (appended .last) (λ i g l. appended .other i (λ q. omega arith) (λ q. omega arith)) (x .rows .held v below))
           | no n ↦
               rw (ne-eqb y v n, append-nil (f y))
-              (held-same (pushed u p d v w s) (appended .other (u + 4 * p + 5 + 2 * y) (λ q. n (omega arith)) (λ q. omega arith)) (row-other y h n) (x .held y h))
+              (held-same (pushed u p d v w s) (appended .other (row-count u p y) (λ q. n (omega arith)) (λ q. omega arith)) (row-other y h n) (x .rows .held y h))
         ]
 
     push-filled : Filled u p d s₀ (λ y. f y ++ pick (eqb y v) (w ∷ []) []) (pushed u p d v w s)
     push-filled =
         record {
           frame = keeps-trans (x .frame) (record { len = appended .len; same = λ i h. appended .other i (λ q. omega arith) (λ q. omega arith) });
-          starts = λ y h. appended .other (u + 4 * p + 6 + 2 * y) (λ q. omega arith) (λ q. omega arith) ∙ x .starts y h;
-          held = push-held;
+          rows = record {
+            starts = λ y h. appended .other (row-start u p y) (λ q. omega arith) (λ q. omega arith) ∙ x .rows .starts y h;
+            held = push-held;
+          };
         }
 
   -- ── all appointments ──
@@ -118,7 +113,7 @@ module _ (u p d : ℕ) (small : Small u p) (s₀ : List ℕ) (fits : u + 6 * p +
         let room : length (f v) < d = own v w f (ends v rest) (lengths v below) in
         let more : Filled u p d s₀ g (pushed u p d v w s) =
         push-filled f s x (λ y h. omega (arith, wide y h)) v w below room (omega (arith, small .few)) in
-        rw (q .near-is i, q .far-is i, x .starts v below)
+        rw (q .near-is i, q .far-is i, x .rows .starts v below)
         (filled-as (λ y. g y ++ ends y rest) _ same (fill-filled i g (pushed u p d v w s) (listed .1) lengths more))
       where
         own : (v w : ℕ) (f : ℕ → List ℕ) (later : List ℕ) → length (f v ++ pick (eqb v v) (w ∷ []) []) + length later ≤ d → length (f v) < d

@@ -11,11 +11,11 @@ use Rattle.words.specs.Frames.{Keeps}
 use Rattle.words.proofs.Frames.{keeps-refl, keeps-trans}
 use Rattle.words.proofs.Sums.{all-map}
 use Rattle.appointments.specs.Appointments.{Appt, appts}
-use Rattle.two_color.specs.TwoColor.{Mark, neighbours, Search, going, refused, search-below, side, sides, two-color}
+use Rattle.two_color.specs.TwoColor.{Colouring, neighbours, Search, going, refused, search-below, side, sides, two-color}
 use Rattle.two_color.specs.Contract.{region, Can-color, Colored}
-use Rattle.two_color.specs.Model.{Small, preparedM, stepsM}
+use Rattle.two_color.specs.Model.{Small, right-place, refused-place, left-count, prepareM, stepsM}
 use Rattle.two_color.specs.declared.TwoColoring.the-variants.{Sides, NotBipartite}
-use Rattle.two_color.proofs.Marks.{sides-length, marks-all}
+use Rattle.two_color.proofs.Colouring.{sides-length, coloured-all}
 use Rattle.two_color.proofs.Search.{neighbours-below}
 use Rattle.two_color.proofs.Starts.{Ended, search-ends}
 use Rattle.two_color.proofs.Turns.{Stage, stage, turn, turns-whole}
@@ -33,7 +33,7 @@ none-colored u list s p m e h = record { answers = (omega arith, rw e (nobody u 
 
 -- the words before the first step, and after the last
 abbrev pub first-words : ℕ → ℕ → ℕ → List ℕ → List ℕ → List ℕ
-first-words u p d list s = preparedM u p d list s
+first-words u p d list s = prepareM u p d list s
 
 abbrev pub last-words : ℕ → ℕ → ℕ → List ℕ → List ℕ → List ℕ
 last-words u p d list s = stepsM u p (2 * p) (first-words u p d list s)
@@ -68,31 +68,31 @@ module _ (u p d : ℕ) (list s : List ℕ) (can : Can-color p d u list s) (some 
   ended = search-ends p xs (can .listed) p (le-refl p)
 
   -- what each outcome of the search says of the word that tells whether it refused
-  refuses : (r : Search) → Ended p xs p r → Shown u p (first-words u p d list s) (last-words u p d list s) r (last .next) → (word (last-words u p d list s) (u + 4 * p) ≡ 0 → ⊥) → r ≡ refused
-  refuses (going marks stack) e x n = absurd (n (x .core .refusal))
+  refuses : (r : Search) → Ended p xs p r → Shown u p (first-words u p d list s) (last-words u p d list s) r (last .next) → (word (last-words u p d list s) (refused-place u p) ≡ 0 → ⊥) → r ≡ refused
+  refuses (going so-far stack) e x n = absurd (n (x .core .refusal))
   refuses refused e x n = refl
 
-  finds : (r : Search) → Ended p xs p r → Shown u p (first-words u p d list s) (last-words u p d list s) r (last .next) → word (last-words u p d list s) (u + 4 * p) ≡ 0 → (l : ℕ) → l ≡ word (last-words u p d list s) (u + 4 * p + 3) → (marks : List Mark) × (r ≡ going marks []) × (l ≡ length (side 0 marks)) × (p - l ≡ length (side 1 marks)) × (l ≤ p)
+  finds : (r : Search) → Ended p xs p r → Shown u p (first-words u p d list s) (last-words u p d list s) r (last .next) → word (last-words u p d list s) (refused-place u p) ≡ 0 → (l : ℕ) → l ≡ word (last-words u p d list s) (left-count u p) → (so-far : Colouring) × (r ≡ going so-far []) × (l ≡ length (side 0 so-far)) × (p - l ≡ length (side 1 so-far)) × (l ≤ p)
   finds refused e x z l q = absurd (omega (arith, x .0))
-  finds (going marks (v ∷ stack)) e x z l q = absurd e
-  finds (going marks []) e x z l q =
-      let both : length (side 0 marks) + length (side 1 marks) ≡ length marks = sides-length p marks (e .marked) in
-      let all : length marks ≡ p = marks-all p marks (e .marked) (e .early) in
-      let own : l ≡ length (side 0 marks) = q ∙ x .lefts .count in
-      (marks, refl, own, omega arith, omega arith)
+  finds (going so-far (v ∷ stack)) e x z l q = absurd e
+  finds (going so-far []) e x z l q =
+      let both : length (side 0 so-far) + length (side 1 so-far) ≡ length so-far = sides-length p so-far (e .each-once) in
+      let all : length so-far ≡ p = coloured-all p so-far (e .each-once) (e .early) in
+      let own : l ≡ length (side 0 so-far) = q ∙ x .lefts .count in
+      (so-far, refl, own, omega arith, omega arith)
 
   -- It refused.
-  pub refused-colored : (m : ℕ) → m ≡ u + 2 * p → (word (last-words u p d list s) (u + 4 * p) ≡ 0 → ⊥) → Colored p list u s m (last-words u p d list s) NotBipartite
+  pub refused-colored : (m : ℕ) → m ≡ u + 2 * p → (word (last-words u p d list s) (refused-place u p) ≡ 0 → ⊥) → Colored p list u s m (last-words u p d list s) NotBipartite
   unfolding two-color xs
   refused-colored m h n = record { answers = rw (refuses (search-below p xs p) ended whole n); mark = h; keeps = keeps }
 
   -- It found sides.
-  pub found-colored : (m l : ℕ) → m ≡ u + 2 * p → word (last-words u p d list s) (u + 4 * p) ≡ 0 → l ≡ word (last-words u p d list s) (u + 4 * p + 3) → Colored p list u s m (last-words u p d list s) (Sides l)
+  pub found-colored : (m l : ℕ) → m ≡ u + 2 * p → word (last-words u p d list s) (refused-place u p) ≡ 0 → l ≡ word (last-words u p d list s) (left-count u p) → Colored p list u s m (last-words u p d list s) (Sides l)
   unfolding two-color xs
   found-colored m l h z q =
       let f = finds (search-below p xs p) ended whole z l q in
-      let marks : List Mark = f .0 in
-      let x : Shows u p (first-words u p d list s) (last-words u p d list s) marks [] (last .next) = rw (f .1) at whole in
-      let left : region (last-words u p d list s) u l ≡ side 0 marks = ap (region (last-words u p d list s) u) (f .2) ∙ x .lefts .words in
-      let right : region (last-words u p d list s) (u + p) (p - l) ≡ side 1 marks = ap (region (last-words u p d list s) (u + p)) (f .3) ∙ x .rights .words in
+      let so-far : Colouring = f .0 in
+      let x : Shows u p (first-words u p d list s) (last-words u p d list s) so-far [] (last .next) = rw (f .1) at whole in
+      let left : region (last-words u p d list s) u l ≡ side 0 so-far = ap (region (last-words u p d list s) u) (f .2) ∙ x .lefts .words in
+      let right : region (last-words u p d list s) (right-place u p) (p - l) ≡ side 1 so-far = ap (region (last-words u p d list s) (right-place u p)) (f .3) ∙ x .rights .words in
       record { answers = (f .4, rw (f .1, left, right)); mark = h; keeps = keeps }

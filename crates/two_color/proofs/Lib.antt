@@ -1,12 +1,13 @@
 pub mod Examples
 pub mod Walks
 pub mod NeighbourLaws
-pub mod Marks
+pub mod Colouring
 pub mod Search
 pub mod Starts
 pub mod TwoColorLaws
 pub mod ModelLaws
 pub mod Turns
+pub mod Regions
 pub mod Held
 pub mod Showing
 pub mod Stepping
@@ -14,3 +15,4 @@ pub mod Backwards
 pub mod Filling
 pub mod Beginning
 pub mod Finishing
+pub mod Passing

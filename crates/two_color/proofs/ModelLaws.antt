@@ -5,60 +5,60 @@ use mathlib.Core.List.{List}
 use native.Mathlib.Numerals.{add-one}
 use borrow.Author.Tests.{eq-eqb, ne-eqb, lt-ltb, le-ltb}
 use Rattle.words.specs.Words.{word, put-word}
-use Rattle.two_color.specs.Model.{appendM, startPartyM, startPartiesM, pushEndM, fillRowsM, colorPartyM, touchM, lookM, looksM, takeOffM, nextPartyM, stepM, stepsM}
+use Rattle.two_color.specs.Model.{right-place, stack-place, colour-place, refused-place, next-place, stack-count, left-count, right-count, appendM, startPartyM, startPartiesM, pushEndM, fillRowsM, colorPartyM, touchM, lookM, looksM, takeOffM, nextPartyM, stepM, stepsM}
 
 -- what color_party does before it chooses the side
 abbrev pub stacked : ℕ → ℕ → ℕ → ℕ → List ℕ → List ℕ
-stacked u p w color s = appendM (u + 4 * p + 2) (u + 2 * p) w (put-word s (u + 3 * p + w) color)
+stacked u p w color s = appendM (stack-count u p) (stack-place u p) w (put-word s (colour-place u p w) color)
 
 module _ (u p : ℕ) (s : List ℕ) where
-  pub color-left : (w color : ℕ) → color ≡ 0 → colorPartyM u p w color s ≡ appendM (u + 4 * p + 3) u w (stacked u p w color s)
+  pub color-left : (w color : ℕ) → color ≡ 0 → colorPartyM u p w color s ≡ appendM (left-count u p) u w (stacked u p w color s)
   unfolding colorPartyM
   color-left w color h = rw (eq-eqb color 0 h)
 
-  pub color-right : (w color : ℕ) → (color ≡ 0 → ⊥) → colorPartyM u p w color s ≡ appendM (u + 4 * p + 4) (u + p) w (stacked u p w color s)
+  pub color-right : (w color : ℕ) → (color ≡ 0 → ⊥) → colorPartyM u p w color s ≡ appendM (right-count u p) (right-place u p) w (stacked u p w color s)
   unfolding colorPartyM
   color-right w color h = rw (ne-eqb color 0 h)
 
-  pub touch-rests : (color w : ℕ) → (word s (u + 4 * p) ≡ 0 → ⊥) → touchM u p color w s ≡ s
+  pub touch-rests : (color w : ℕ) → (word s (refused-place u p) ≡ 0 → ⊥) → touchM u p color w s ≡ s
   unfolding touchM
-  touch-rests color w h = rw (ne-eqb (word s (u + 4 * p)) 0 h)
+  touch-rests color w h = rw (ne-eqb (word s (refused-place u p)) 0 h)
 
-  pub touch-refuses : (color w : ℕ) → word s (u + 4 * p) ≡ 0 → word s (u + 3 * p + w) ≡ color → touchM u p color w s ≡ put-word s (u + 4 * p) 1
+  pub touch-refuses : (color w : ℕ) → word s (refused-place u p) ≡ 0 → word s (colour-place u p w) ≡ color → touchM u p color w s ≡ put-word s (refused-place u p) 1
   unfolding touchM
-  touch-refuses color w h e = rw (eq-eqb (word s (u + 4 * p)) 0 h, eq-eqb (word s (u + 3 * p + w)) color e)
+  touch-refuses color w h e = rw (eq-eqb (word s (refused-place u p)) 0 h, eq-eqb (word s (colour-place u p w)) color e)
 
-  pub touch-colors : (color w : ℕ) → word s (u + 4 * p) ≡ 0 → (word s (u + 3 * p + w) ≡ color → ⊥) → word s (u + 3 * p + w) ≡ 2 → touchM u p color w s ≡ colorPartyM u p w (1 - color % 2) s
+  pub touch-colors : (color w : ℕ) → word s (refused-place u p) ≡ 0 → (word s (colour-place u p w) ≡ color → ⊥) → word s (colour-place u p w) ≡ 2 → touchM u p color w s ≡ colorPartyM u p w (1 - color % 2) s
   unfolding touchM
-  touch-colors color w h n e = rw (eq-eqb (word s (u + 4 * p)) 0 h, ne-eqb (word s (u + 3 * p + w)) color n, eq-eqb (word s (u + 3 * p + w)) 2 e)
+  touch-colors color w h n e = rw (eq-eqb (word s (refused-place u p)) 0 h, ne-eqb (word s (colour-place u p w)) color n, eq-eqb (word s (colour-place u p w)) 2 e)
 
-  pub touch-passes : (color w : ℕ) → word s (u + 4 * p) ≡ 0 → (word s (u + 3 * p + w) ≡ color → ⊥) → (word s (u + 3 * p + w) ≡ 2 → ⊥) → touchM u p color w s ≡ s
+  pub touch-passes : (color w : ℕ) → word s (refused-place u p) ≡ 0 → (word s (colour-place u p w) ≡ color → ⊥) → (word s (colour-place u p w) ≡ 2 → ⊥) → touchM u p color w s ≡ s
   unfolding touchM
-  touch-passes color w h n m = rw (eq-eqb (word s (u + 4 * p)) 0 h, ne-eqb (word s (u + 3 * p + w)) color n, ne-eqb (word s (u + 3 * p + w)) 2 m)
+  touch-passes color w h n m = rw (eq-eqb (word s (refused-place u p)) 0 h, ne-eqb (word s (colour-place u p w)) color n, ne-eqb (word s (colour-place u p w)) 2 m)
 
-  pub next-none : p ≤ word s (u + 4 * p + 1) → nextPartyM u p s ≡ s
+  pub next-none : p ≤ word s (next-place u p) → nextPartyM u p s ≡ s
   unfolding nextPartyM
-  next-none h = rw (le-ltb (word s (u + 4 * p + 1)) p h)
+  next-none h = rw (le-ltb (word s (next-place u p)) p h)
 
-  pub next-colors : (v : ℕ) → word s (u + 4 * p + 1) ≡ v → v < p → word s (u + 3 * p + v) ≡ 2 → nextPartyM u p s ≡ colorPartyM u p v 1 (put-word s (u + 4 * p + 1) (v + 1))
+  pub next-colors : (v : ℕ) → word s (next-place u p) ≡ v → v < p → word s (colour-place u p v) ≡ 2 → nextPartyM u p s ≡ colorPartyM u p v 1 (put-word s (next-place u p) (v + 1))
   unfolding nextPartyM
-  next-colors v e h k = rw (e, lt-ltb v p h, eq-eqb (word s (u + 3 * p + v)) 2 k)
+  next-colors v e h k = rw (e, lt-ltb v p h, eq-eqb (word s (colour-place u p v)) 2 k)
 
-  pub next-passes : (v : ℕ) → word s (u + 4 * p + 1) ≡ v → v < p → (word s (u + 3 * p + v) ≡ 2 → ⊥) → nextPartyM u p s ≡ put-word s (u + 4 * p + 1) (v + 1)
+  pub next-passes : (v : ℕ) → word s (next-place u p) ≡ v → v < p → (word s (colour-place u p v) ≡ 2 → ⊥) → nextPartyM u p s ≡ put-word s (next-place u p) (v + 1)
   unfolding nextPartyM
-  next-passes v e h k = rw (e, lt-ltb v p h, ne-eqb (word s (u + 3 * p + v)) 2 k)
+  next-passes v e h k = rw (e, lt-ltb v p h, ne-eqb (word s (colour-place u p v)) 2 k)
 
-  pub step-rests : (word s (u + 4 * p) ≡ 0 → ⊥) → stepM u p s ≡ s
+  pub step-rests : (word s (refused-place u p) ≡ 0 → ⊥) → stepM u p s ≡ s
   unfolding stepM
-  step-rests h = rw (ne-eqb (word s (u + 4 * p)) 0 h)
+  step-rests h = rw (ne-eqb (word s (refused-place u p)) 0 h)
 
-  pub step-next : word s (u + 4 * p) ≡ 0 → word s (u + 4 * p + 2) ≡ 0 → stepM u p s ≡ nextPartyM u p s
+  pub step-next : word s (refused-place u p) ≡ 0 → word s (stack-count u p) ≡ 0 → stepM u p s ≡ nextPartyM u p s
   unfolding stepM
-  step-next h e = rw (eq-eqb (word s (u + 4 * p)) 0 h, eq-eqb (word s (u + 4 * p + 2)) 0 e)
+  step-next h e = rw (eq-eqb (word s (refused-place u p)) 0 h, eq-eqb (word s (stack-count u p)) 0 e)
 
-  pub step-off : word s (u + 4 * p) ≡ 0 → (word s (u + 4 * p + 2) ≡ 0 → ⊥) → stepM u p s ≡ takeOffM u p (word s (u + 4 * p + 2)) s
+  pub step-off : word s (refused-place u p) ≡ 0 → (word s (stack-count u p) ≡ 0 → ⊥) → stepM u p s ≡ takeOffM u p (word s (stack-count u p)) s
   unfolding stepM
-  step-off h e = rw (eq-eqb (word s (u + 4 * p)) 0 h, ne-eqb (word s (u + 4 * p + 2)) 0 e)
+  step-off h e = rw (eq-eqb (word s (refused-place u p)) 0 h, ne-eqb (word s (stack-count u p)) 0 e)
 
   pub parties-more : (d v : ℕ) → startPartiesM u p d (v + 1) s ≡ startPartyM u p d v (startPartiesM u p d v s)
   unfolding startPartiesM

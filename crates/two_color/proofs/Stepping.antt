@@ -13,19 +13,14 @@ use Rattle.words.proofs.Frames.{here, away}
 use Rattle.words.proofs.Sums.{all-left, all-right}
 use Rattle.words.proofs.Runs.{iterate-suc-out}
 use Rattle.appointments.specs.Appointments.{Appt}
-use Rattle.two_color.specs.TwoColor.{Mark, colour-of, neighbours, Search, going, refused, touch, touch-all, pop, side}
+use Rattle.two_color.specs.TwoColor.{Colouring, colour-of, neighbours, Search, going, refused, touch, touch-all, pop, side}
 use Rattle.two_color.specs.Contract.{region}
-use Rattle.two_color.specs.Model.{Small, touchM, lookM, looksM, touchAllM, takeOffM, nextPartyM, stepM, stepsM}
+use Rattle.two_color.specs.Model.{Small, stack-place, colour-place, refused-place, next-place, stack-count, left-count, right-count, row-count, row-start, touchM, lookM, looksM, touchAllM, takeOffM, nextPartyM, stepM, stepsM}
 use Rattle.two_color.proofs.ModelLaws.{touch-rests, touch-refuses, touch-colors, touch-passes, next-none, next-colors, next-passes, step-rests, step-next, step-off}
-use Rattle.two_color.proofs.Marks.{sides-length, marks-le}
-use Rattle.two_color.proofs.Held.{newest, newest-same, Held, held-same}
+use Rattle.two_color.proofs.Colouring.{sides-length, coloured-le}
+use Rattle.two_color.proofs.Held.{newest, newest-same, held-same, Rows}
 use Rattle.two_color.proofs.Showing.{within-trans, within-put, Shows, Shown, shown-within, color-shows}
 use Rattle.two_color.proofs.Turns.{Stage, stage, begun, turn-from, turn}
-
--- each party's row stands where its word says, and holds its neighbours
-pub record Rows (u p d : ℕ) (xs : List Appt) (s : List ℕ) : Type 0 where
-  pub starts : (v : ℕ) → v < p → word s (u + 4 * p + 6 + 2 * v) ≡ u + 6 * p + 5 + d * v
-  pub held : (v : ℕ) → v < p → Held (u + 4 * p + 5 + 2 * v) (u + 6 * p + 5 + d * v) s (neighbours v xs)
 
 touch-all-snoc : (c : ℕ) (ws : List ℕ) (w : ℕ) (r : Search) → touch-all c (ws ++ (w ∷ [])) r ≡ touch c w (touch-all c ws r)
 unfolding touch-all
@@ -38,25 +33,25 @@ module _ (u p : ℕ) (small : Small u p) (s₀ : List ℕ) (fits : u + 4 * p + 5
   touch-shows : (c w : ℕ) → c ≤ 1 → w < p → (s : List ℕ) (r : Search) (k : ℕ) → Shown u p s₀ s r k → Shown u p s₀ (touchM u p c w s) (touch c w r) k
   unfolding touch
   touch-shows c w two below s refused k h = rw (touch-rests u p s c w (λ e. omega (arith, h .0))) h
-  touch-shows c w two below s (going marks stack) k x = go (ℕ-discrete (colour-of w marks) c) (ℕ-discrete (colour-of w marks) 2)
+  touch-shows c w two below s (going so-far stack) k x = go (ℕ-discrete (colour-of w so-far) c) (ℕ-discrete (colour-of w so-far) 2)
     where
-      e : word s (u + 3 * p + w) ≡ colour-of w marks
+      e : word s (colour-place u p w) ≡ colour-of w so-far
       e = x .core .colours w below
 
       other : 1 - c % 2 ≡ 1 - c
       other = omega arith
 
-      go : Dec (colour-of w marks ≡ c) → Dec (colour-of w marks ≡ 2) → Shown u p s₀ (touchM u p c w s) (touch c w (going marks stack)) k
+      go : Dec (colour-of w so-far ≡ c) → Dec (colour-of w so-far ≡ 2) → Shown u p s₀ (touchM u p c w s) (touch c w (going so-far stack)) k
       go (yes q) d =
-          rw (touch-refuses u p s c w (x .core .refusal) (e ∙ q), eq-eqb (colour-of w marks) c q) (
-            here s (u + 4 * p) 1 (omega (arith, x .core .frame .len)) (omega arith),
-            within-trans (x .core .frame) (within-put u (u + 4 * p + 5) s (u + 4 * p) 1 (omega arith) (omega arith)),
+          rw (touch-refuses u p s c w (x .core .refusal) (e ∙ q), eq-eqb (colour-of w so-far) c q) (
+            here s (refused-place u p) 1 (omega (arith, x .core .frame .len)) (omega arith),
+            within-trans (x .core .frame) (within-put u (u + 4 * p + 5) s (refused-place u p) 1 (omega arith) (omega arith)),
           )
       go (no q) (yes z) =
-          rw (touch-colors u p s c w (x .core .refusal) (λ g. q (sym e ∙ g)) (e ∙ z), ne-eqb (colour-of w marks) c q, eq-eqb (colour-of w marks) 2 z, other)
-          (color-shows u p small s₀ fits s marks stack k w (1 - c) below (omega arith) z x)
+          rw (touch-colors u p s c w (x .core .refusal) (λ g. q (sym e ∙ g)) (e ∙ z), ne-eqb (colour-of w so-far) c q, eq-eqb (colour-of w so-far) 2 z, other)
+          (color-shows u p small s₀ fits s so-far stack k w (1 - c) below (omega arith) z x)
       go (no q) (no z) =
-          rw (touch-passes u p s c w (x .core .refusal) (λ g. q (sym e ∙ g)) (λ g. z (sym e ∙ g)), ne-eqb (colour-of w marks) c q, ne-eqb (colour-of w marks) 2 z) x
+          rw (touch-passes u p s c w (x .core .refusal) (λ g. q (sym e ∙ g)) (λ g. z (sym e ∙ g)), ne-eqb (colour-of w so-far) c q, ne-eqb (colour-of w so-far) 2 z) x
 
   -- the first n words of a row, which the search doesn't change
   looks-show : (c : ℕ) → c ≤ 1 → (row : ℕ) → u + 4 * p + 5 ≤ row → (n : ℕ) (s : List ℕ) (r : Search) (k : ℕ) → All (λ w. w < p) (region s₀ row n) → Shown u p s₀ s r k → Shown u p s₀ (looksM u p c row n s) (touch-all c (region s₀ row n) r) k
@@ -74,79 +69,79 @@ module _ (u p : ℕ) (small : Small u p) (s₀ : List ℕ) (fits : u + 4 * p + 5
 
   -- the next party or the height is written
   put-shows :
-      (s : List ℕ) (marks : List Mark) (stack : List ℕ) (k : ℕ) → Shows u p s₀ s marks stack k → (i x : ℕ) → u + 4 * p + 1 ≤ i → i ≤ u + 4 * p + 2 →
-      (stack' : List ℕ) (k' : ℕ) → length stack' ≤ length stack → All (λ v. (v < p) × (colour-of v marks ≤ 1)) stack' → newest s (u + 2 * p) (length stack') ≡ stack' →
-      word (put-word s i x) (u + 4 * p + 1) ≡ k' → word (put-word s i x) (u + 4 * p + 2) ≡ length stack' → Shows u p s₀ (put-word s i x) marks stack' k'
-  put-shows s marks stack k g i x lo hi stack' k' less waiters waiting party height =
+      (s : List ℕ) (so-far : Colouring) (stack : List ℕ) (k : ℕ) → Shows u p s₀ s so-far stack k → (i x : ℕ) → u + 4 * p + 1 ≤ i → i ≤ u + 4 * p + 2 →
+      (stack' : List ℕ) (k' : ℕ) → length stack' ≤ length stack → All (λ v. (v < p) × (colour-of v so-far ≤ 1)) stack' → newest s (stack-place u p) (length stack') ≡ stack' →
+      word (put-word s i x) (next-place u p) ≡ k' → word (put-word s i x) (stack-count u p) ≡ length stack' → Shows u p s₀ (put-word s i x) so-far stack' k'
+  put-shows s so-far stack k g i x lo hi stack' k' less waiters waiting party height =
       let t : List ℕ = put-word s i x in
-      let many : length marks ≤ p = marks-le p marks (g .core .marked) in
-      let both : length (side 0 marks) + length (side 1 marks) ≡ length marks = sides-length p marks (g .core .marked) in
-      let tall : length stack ≤ length marks = g .core .high in
+      let many : length so-far ≤ p = coloured-le p so-far (g .core .each-once) in
+      let both : length (side 0 so-far) + length (side 1 so-far) ≡ length so-far = sides-length p so-far (g .core .each-once) in
+      let tall : length stack ≤ length so-far = g .core .high in
       let same : (j : ℕ) → j < u + 4 * p + 1 → word t j ≡ word s j = λ j h. away s i j x (λ e. omega arith) in
       record {
         core = record {
-          marked = g .core .marked;
+          each-once = g .core .each-once;
           high = omega arith;
           waiters = waiters;
           frame = within-trans (g .core .frame) (within-put u (u + 4 * p + 5) s i x (omega arith) (omega arith));
-          refusal = same (u + 4 * p) (omega arith) ∙ g .core .refusal;
+          refusal = same (refused-place u p) (omega arith) ∙ g .core .refusal;
           party = party;
           height = height;
-          colours = λ v h. same (u + 3 * p + v) (omega arith) ∙ g .core .colours v h;
-          waiting = newest-same s t (u + 2 * p) (length stack') (λ j l h. same j (omega arith)) ∙ waiting;
+          colours = λ v h. same (colour-place u p v) (omega arith) ∙ g .core .colours v h;
+          waiting = newest-same s t (stack-place u p) (length stack') (λ j l h. same j (omega arith)) ∙ waiting;
         };
-        lefts = held-same t (away s i (u + 4 * p + 3) x (λ e. omega arith)) (λ j l h. same j (omega arith)) (g .lefts);
-        rights = held-same t (away s i (u + 4 * p + 4) x (λ e. omega arith)) (λ j l h. same j (omega arith)) (g .rights);
+        lefts = held-same t (away s i (left-count u p) x (λ e. omega arith)) (λ j l h. same j (omega arith)) (g .lefts);
+        rights = held-same t (away s i (right-count u p) x (λ e. omega arith)) (λ j l h. same j (omega arith)) (g .rights);
       }
 
-  module _ (d : ℕ) (xs : List Appt) (rows : Rows u p d xs s₀) (met : (v : ℕ) → All (λ w. w < p) (neighbours v xs)) where
+  module _ (d : ℕ) (xs : List Appt) (rows : Rows u p d (λ v. neighbours v xs) s₀) (met : (v : ℕ) → All (λ w. w < p) (neighbours v xs)) where
     -- ── a party comes off ──
 
-    row-shows : (v : ℕ) → v < p → (s : List ℕ) (marks : List Mark) (stack : List ℕ) (k : ℕ) → colour-of v marks ≤ 1 → Shows u p s₀ s marks stack k → Shown u p s₀ (touchAllM u p v s) (touch-all (colour-of v marks) (neighbours v xs) (going marks stack)) k
+    row-shows : (v : ℕ) → v < p → (s : List ℕ) (so-far : Colouring) (stack : List ℕ) (k : ℕ) → colour-of v so-far ≤ 1 → Shows u p s₀ s so-far stack k → Shown u p s₀ (touchAllM u p v s) (touch-all (colour-of v so-far) (neighbours v xs) (going so-far stack)) k
     unfolding touchAllM
-    row-shows v below s marks stack k two x =
+    row-shows v below s so-far stack k two x =
         let row : ℕ = u + 6 * p + 5 + d * v in
         let n : ℕ = length (neighbours v xs) in
-        let c1 : word s (u + 3 * p + v) ≡ colour-of v marks = x .core .colours v below in
-        let r1 : word s (u + 4 * p + 6 + 2 * v) ≡ row = x .core .frame .over (u + 4 * p + 6 + 2 * v) (omega arith) ∙ rows .starts v below in
-        let n1 : word s (u + 4 * p + 5 + 2 * v) ≡ n = x .core .frame .over (u + 4 * p + 5 + 2 * v) (omega arith) ∙ rows .held v below .count in
+        let c1 : word s (colour-place u p v) ≡ colour-of v so-far = x .core .colours v below in
+        let r1 : word s (row-start u p v) ≡ row = x .core .frame .over (row-start u p v) (omega arith) ∙ rows .starts v below in
+        let n1 : word s (row-count u p v) ≡ n = x .core .frame .over (row-count u p v) (omega arith) ∙ rows .held v below .count in
         let is-row : region s₀ row n ≡ neighbours v xs = rows .held v below .words in
         let members : All (λ w. w < p) (region s₀ row n) = rw is-row (met v) in
-        let done : Shown u p s₀ (looksM u p (colour-of v marks) row n s) (touch-all (colour-of v marks) (neighbours v xs) (going marks stack)) k =
-        rw is-row at (looks-show (colour-of v marks) two row (omega arith) n s (going marks stack) k members x) in
+        let done : Shown u p s₀ (looksM u p (colour-of v so-far) row n s) (touch-all (colour-of v so-far) (neighbours v xs) (going so-far stack)) k =
+        rw is-row at (looks-show (colour-of v so-far) two row (omega arith) n s (going so-far stack) k members x) in
         rw (c1, r1, n1) done
 
-    off-shows : (s : List ℕ) (marks : List Mark) (v : ℕ) (stack : List ℕ) (k : ℕ) → Shows u p s₀ s marks (v ∷ stack) k → Shown u p s₀ (takeOffM u p (suc (length stack)) s) (pop xs (going marks (v ∷ stack))) k
+    off-shows : (s : List ℕ) (so-far : Colouring) (v : ℕ) (stack : List ℕ) (k : ℕ) → Shows u p s₀ s so-far (v ∷ stack) k → Shown u p s₀ (takeOffM u p (suc (length stack)) s) (pop xs (going so-far (v ∷ stack))) k
     unfolding takeOffM pop newest
-    off-shows s marks v stack k x =
-        let all : word s (u + 2 * p + length stack) ∷ newest s (u + 2 * p) (length stack) ≡ v ∷ stack = x .core .waiting in
+    off-shows s so-far v stack k x =
+        let all : word s (u + 2 * p + length stack) ∷ newest s (stack-place u p) (length stack) ≡ v ∷ stack = x .core .waiting in
         let top : word s (u + 2 * p + length stack) ≡ v = cc in
-        let rest : newest s (u + 2 * p) (length stack) ≡ stack = cc in
+        let rest : newest s (stack-place u p) (length stack) ≡ stack = cc in
         let less : suc (length stack) - 1 ≡ length stack = omega arith in
-        let t : List ℕ = put-word s (u + 4 * p + 2) (length stack) in
-        let many : length marks ≤ p = marks-le p marks (x .core .marked) in
-        let tall : suc (length stack) ≤ length marks = x .core .high in
-        let popped : Shows u p s₀ t marks stack k =
-        put-shows s marks (v ∷ stack) k x (u + 4 * p + 2) (length stack) (omega arith) (omega arith) stack k (omega arith) (x .core .waiters .1) rest
-        (away s (u + 4 * p + 2) (u + 4 * p + 1) (length stack) (λ e. omega arith) ∙ x .core .party)
-        (here s (u + 4 * p + 2) (length stack) (omega (arith, x .core .frame .len)) (omega (arith, small .few))) in
-        rw (less, top) (row-shows v (x .core .waiters .0 .0) t marks stack k (x .core .waiters .0 .1) popped)
+        let t : List ℕ = put-word s (stack-count u p) (length stack) in
+        let many : length so-far ≤ p = coloured-le p so-far (x .core .each-once) in
+        let tall : suc (length stack) ≤ length so-far = x .core .high in
+        let popped : Shows u p s₀ t so-far stack k =
+        put-shows s so-far (v ∷ stack) k x (stack-count u p) (length stack) (omega arith) (omega arith) stack k (omega arith) (x .core .waiters .1) rest
+        (away s (stack-count u p) (next-place u p) (length stack) (λ e. omega arith) ∙ x .core .party)
+        (here s (stack-count u p) (length stack) (omega (arith, x .core .frame .len)) (omega (arith, small .few))) in
+        rw (less, top) (row-shows v (x .core .waiters .0 .0) t so-far stack k (x .core .waiters .0 .1) popped)
 
     -- ── the next party ──
 
-    next-shows : (s : List ℕ) (marks : List Mark) (k : ℕ) → k < p → Shows u p s₀ s marks [] k → Shown u p s₀ (nextPartyM u p s) (begun k marks) (suc k)
+    next-shows : (s : List ℕ) (so-far : Colouring) (k : ℕ) → k < p → Shows u p s₀ s so-far [] k → Shown u p s₀ (nextPartyM u p s) (begun k so-far) (suc k)
     unfolding begun newest
-    next-shows s marks k below x =
-        let passed : Shows u p s₀ (put-word s (u + 4 * p + 1) (k + 1)) marks [] (suc k) =
-        put-shows s marks [] k x (u + 4 * p + 1) (k + 1) (omega arith) (omega arith) [] (suc k) (omega arith) tt refl
-        (here s (u + 4 * p + 1) (k + 1) (omega (arith, x .core .frame .len)) (omega (arith, small .few)) ∙ omega arith)
-        (away s (u + 4 * p + 1) (u + 4 * p + 2) (k + 1) (λ e. omega arith) ∙ x .core .height) in
-        let e : word s (u + 3 * p + k) ≡ colour-of k marks = x .core .colours k below in
-        elim (ℕ-discrete (colour-of k marks) 2) [
+    next-shows s so-far k below x =
+        let passed : Shows u p s₀ (put-word s (next-place u p) (k + 1)) so-far [] (suc k) =
+        put-shows s so-far [] k x (next-place u p) (k + 1) (omega arith) (omega arith) [] (suc k) (omega arith) tt refl
+        (here s (next-place u p) (k + 1) (omega (arith, x .core .frame .len)) (omega (arith, small .few)) ∙ omega arith)
+        (away s (next-place u p) (stack-count u p) (k + 1) (λ e. omega arith) ∙ x .core .height) in
+        let e : word s (colour-place u p k) ≡ colour-of k so-far = x .core .colours k below in
+        elim (ℕ-discrete (colour-of k so-far) 2) [
           | yes q ↦
-              rw (next-colors u p s k (x .core .party) below (e ∙ q), eq-eqb (colour-of k marks) 2 q)
-              (color-shows u p small s₀ fits (put-word s (u + 4 * p + 1) (k + 1)) marks [] (suc k) k 1 below (omega arith) q passed)
-          | no q ↦ rw (next-passes u p s k (x .core .party) below (λ g. q (sym e ∙ g)), ne-eqb (colour-of k marks) 2 q) passed
+              rw (next-colors u p s k (x .core .party) below (e ∙ q), eq-eqb (colour-of k so-far) 2 q)
+              (color-shows u p small s₀ fits (put-word s (next-place u p) (k + 1)) so-far [] (suc k) k 1 below (omega arith) q passed)
+          | no q ↦ rw (next-passes u p s k (x .core .party) below (λ g. q (sym e ∙ g)), ne-eqb (colour-of k so-far) 2 q) passed
         ]
 
     -- ── a step ──
@@ -157,12 +152,12 @@ module _ (u p : ℕ) (small : Small u p) (s₀ : List ℕ) (fits : u + 4 * p + 5
     step-shows : (s : List ℕ) (r : Search) (k : ℕ) → Shown u p s₀ s r k → At (stepM u p s) (turn-from p xs r k)
     unfolding turn-from
     step-shows s refused k h = rw (step-rests u p s (λ e. omega (arith, h .0))) h
-    step-shows s (going marks (v ∷ stack)) k x =
-        rw (step-off u p s (x .core .refusal) (λ e. omega (arith, x .core .height)), x .core .height) (off-shows s marks v stack k x)
-    step-shows s (going marks []) k x =
+    step-shows s (going so-far (v ∷ stack)) k x =
+        rw (step-off u p s (x .core .refusal) (λ e. omega (arith, x .core .height)), x .core .height) (off-shows s so-far v stack k x)
+    step-shows s (going so-far []) k x =
         let e : stepM u p s ≡ nextPartyM u p s = step-next u p s (x .core .refusal) (x .core .height) in
         elim (decLt k p) [
-          | yes h ↦ rw (e, lt-ltb k p h) (next-shows s marks k h x)
+          | yes h ↦ rw (e, lt-ltb k p h) (next-shows s so-far k h x)
           | no h ↦ rw (e, next-none u p s (omega (arith, x .core .party)), le-ltb k p (omega arith)) x
         ]
 

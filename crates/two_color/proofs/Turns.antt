@@ -15,10 +15,10 @@ use Rattle.words.proofs.Runs.{iterate-ends, iterate-keeps, iterate-rest, iterat
 use Rattle.appointments.specs.Appointments.{Appt}
 use Rattle.appointments.specs.Rounds.{Odd-round}
 use Rattle.appointments.proofs.Loads.{Listed}
-use Rattle.two_color.specs.TwoColor.{Mark, mark, colour-of, Search, going, refused, pop, start, search-below}
-use Rattle.two_color.proofs.Marks.{colour-le}
+use Rattle.two_color.specs.TwoColor.{Colouring, coloured, colour-of, Search, going, refused, pop, start, search-below}
+use Rattle.two_color.proofs.Colouring.{colour-le}
 use Rattle.two_color.proofs.Search.{Going, Sound, to-come, pop-sound}
-use Rattle.two_color.proofs.Starts.{Settled-below, Ended, rested, worked-off, started, skipped}
+use Rattle.two_color.proofs.Starts.{start-free, start-had, Settled-below, Ended, rested, worked-off, started, skipped, none-settled}
 
 -- ── turns ──
 
@@ -31,13 +31,13 @@ abbrev pub stage : Search → ℕ → Stage
 stage r k = record { search = r; next = k }
 
 -- a party that is still uncoloured gets 1 and goes on the empty stack
-unfoldable pub begun : ℕ → List Mark → Search
-begun k marks = pick (eqb (colour-of k marks) 2) (going (mark k 1 ∷ marks) (k ∷ [])) (going marks [])
+unfoldable pub begun : ℕ → Colouring → Search
+begun k so-far = pick (eqb (colour-of k so-far) 2) (going (coloured k 1 ∷ so-far) (k ∷ [])) (going so-far [])
 
 unfoldable pub turn-from : ℕ → List Appt → Search → ℕ → Stage
 turn-from P xs refused k = stage refused k
-turn-from P xs (going marks []) k = pick (ltb k P) (stage (begun k marks) (suc k)) (stage (going marks []) k)
-turn-from P xs (going marks (v ∷ stack)) k = stage (pop xs (going marks (v ∷ stack))) k
+turn-from P xs (going so-far []) k = pick (ltb k P) (stage (begun k so-far) (suc k)) (stage (going so-far []) k)
+turn-from P xs (going so-far (v ∷ stack)) k = stage (pop xs (going so-far (v ∷ stack))) k
 
 abbrev pub turn : ℕ → List Appt → Stage → Stage
 turn P xs t = turn-from P xs (t .search) (t .next)
@@ -64,37 +64,29 @@ module _ (P : ℕ) (xs : List Appt) where
   later-refused zero k = refl
   later-refused (suc j) k = later-refused j (suc k)
 
-  empty-rests : (marks : List Mark) → iterate P (pop xs) (going marks []) ≡ going marks []
+  empty-rests : (so-far : Colouring) → iterate P (pop xs) (going so-far []) ≡ going so-far []
   unfolding pop
-  empty-rests marks = iterate-rest P (pop xs) (going marks []) refl
+  empty-rests so-far = iterate-rest P (pop xs) (going so-far []) refl
 
   refused-rests : iterate P (pop xs) refused ≡ refused
   unfolding pop
   refused-rests = iterate-rest P (pop xs) refused refl
 
-  start-free : (k : ℕ) (marks : List Mark) → colour-of k marks ≡ 2 → start P xs k (going marks []) ≡ iterate P (pop xs) (going (mark k 1 ∷ marks) (k ∷ []))
-  unfolding start
-  start-free k marks e = rw (eq-eqb (colour-of k marks) 2 e)
-
-  start-had : (k : ℕ) (marks : List Mark) → (colour-of k marks ≡ 2 → ⊥) → start P xs k (going marks []) ≡ going marks []
-  unfolding start
-  start-had k marks n = rw (ne-eqb (colour-of k marks) 2 n)
-
   -- a turn that starts from k comes to what the start comes to
-  begun-starts : (k : ℕ) (marks : List Mark) → iterate P (pop xs) (begun k marks) ≡ start P xs k (going marks [])
+  begun-starts : (k : ℕ) (so-far : Colouring) → iterate P (pop xs) (begun k so-far) ≡ start P xs k (going so-far [])
   unfolding begun
-  begun-starts k marks =
-      elim (ℕ-discrete (colour-of k marks) 2) [
-        | yes e ↦ rw (eq-eqb (colour-of k marks) 2 e) (sym (start-free k marks e))
-        | no n ↦ rw (ne-eqb (colour-of k marks) 2 n) (empty-rests marks ∙ sym (start-had k marks n))
+  begun-starts k so-far =
+      elim (ℕ-discrete (colour-of k so-far) 2) [
+        | yes e ↦ rw (eq-eqb (colour-of k so-far) 2 e) (sym (start-free P xs k so-far e))
+        | no n ↦ rw (ne-eqb (colour-of k so-far) 2 n) (empty-rests so-far ∙ sym (start-had P xs k so-far n))
       ]
 
   -- ── what holds at each turn ──
 
   -- between starts everything is settled; within the start from s it goes as the laws of the search say
   abbrev Stands : ℕ → Search → Type 0
-  Stands k (going marks []) = Settled-below P xs k marks
-  Stands k (going marks (v ∷ stack)) = (s : ℕ) × (k ≡ suc s) × Going P xs s marks (v ∷ stack)
+  Stands k (going so-far []) = Settled-below P xs k so-far
+  Stands k (going so-far (v ∷ stack)) = (s : ℕ) × (k ≡ suc s) × Going P xs s so-far (v ∷ stack)
   Stands k refused = Odd-round xs
 
   record Runs (t : Stage) : Type 0 where
@@ -105,20 +97,20 @@ module _ (P : ℕ) (xs : List Appt) where
     whole : (j : ℕ) → t .next + j ≡ P → later P xs j (t .next) (iterate P (pop xs) (t .search)) ≡ search-below P xs P
 
   abbrev Over : Search → ℕ → Type 0
-  Over (going marks []) k = P ≤ k
-  Over (going marks (v ∷ stack)) k = ⊥
+  Over (going so-far []) k = P ≤ k
+  Over (going so-far (v ∷ stack)) k = ⊥
   Over refused k = Unit {0}
 
   module _ (listed : All (Listed P) xs) where
     sound-stands : (s k : ℕ) (r : Search) → k ≡ suc s → Sound P xs s r → Stands k r
-    sound-stands s k (going marks []) e h = rw e (rested P xs listed s marks h)
-    sound-stands s k (going marks (v ∷ stack)) e h = (s, e, h)
+    sound-stands s k (going so-far []) e h = rw e (rested P xs listed s so-far h)
+    sound-stands s k (going so-far (v ∷ stack)) e h = (s, e, h)
     sound-stands s k refused e h = h
 
     ended-rests : (k : ℕ) (r : Search) → Ended P xs k r → pop xs r ≡ r
     unfolding pop
-    ended-rests k (going marks []) h = refl
-    ended-rests k (going marks (v ∷ stack)) h = absurd h
+    ended-rests k (going so-far []) h = refl
+    ended-rests k (going so-far (v ∷ stack)) h = absurd h
     ended-rests k refused h = refl
 
     -- one party off, then P more: as P
@@ -126,43 +118,43 @@ module _ (P : ℕ) (xs : List Appt) where
     unfolding iterate
     pop-then s r h few = iterate-suc-out P (pop xs) r ∙ ended-rests (suc s) (iterate P (pop xs) r) (worked-off P xs listed s r h few)
 
-    off-runs : (marks : List Mark) (v : ℕ) (stack : List ℕ) (k : ℕ) → Runs (stage (going marks (v ∷ stack)) k) → Runs (stage (pop xs (going marks (v ∷ stack))) k)
-    off-runs marks v stack k i =
+    off-runs : (so-far : Colouring) (v : ℕ) (stack : List ℕ) (k : ℕ) → Runs (stage (going so-far (v ∷ stack)) k) → Runs (stage (pop xs (going so-far (v ∷ stack))) k)
+    off-runs so-far v stack k i =
         let s : ℕ = i .stands .0 in
-        let sound = pop-sound P xs s listed v marks stack (i .stands .2) in
+        let sound = pop-sound P xs s listed v so-far stack (i .stands .2) in
         record {
-          stands = sound-stands s k (pop xs (going marks (v ∷ stack))) (i .stands .1) (sound .0);
+          stands = sound-stands s k (pop xs (going so-far (v ∷ stack))) (i .stands .1) (sound .0);
           few = omega (arith, sound .1, i .few);
           inside = i .inside;
-          whole = λ j e. ap (later P xs j k) (pop-then s (going marks (v ∷ stack)) (i .stands .2) (i .few)) ∙ i .whole j e;
+          whole = λ j e. ap (later P xs j k) (pop-then s (going so-far (v ∷ stack)) (i .stands .2) (i .few)) ∙ i .whole j e;
         }
 
-    begun-stands : (k : ℕ) (marks : List Mark) → k < P → Settled-below P xs k marks → Stands (suc k) (begun k marks) × (to-come P (begun k marks) ≤ P + 0 - length marks)
+    begun-stands : (k : ℕ) (so-far : Colouring) → k < P → Settled-below P xs k so-far → Stands (suc k) (begun k so-far) × (to-come P (begun k so-far) ≤ P + 0 - length so-far)
     unfolding begun
-    begun-stands k marks below h =
-        elim (ℕ-discrete (colour-of k marks) 2) [
-          | yes e ↦ rw (eq-eqb (colour-of k marks) 2 e) ((k, refl, started P xs listed k marks below h e), omega arith)
-          | no n ↦ rw (ne-eqb (colour-of k marks) 2 n) (skipped P xs listed k marks h (omega (arith, colour-le P marks (h .marked) k)), omega arith)
+    begun-stands k so-far below h =
+        elim (ℕ-discrete (colour-of k so-far) 2) [
+          | yes e ↦ rw (eq-eqb (colour-of k so-far) 2 e) ((k, refl, started P xs listed k so-far below h e), omega arith)
+          | no n ↦ rw (ne-eqb (colour-of k so-far) 2 n) (skipped P xs listed k so-far h (omega (arith, colour-le P so-far (h .each-once) k)), omega arith)
         ]
 
-    begun-runs : (marks : List Mark) (k : ℕ) → k < P → Runs (stage (going marks []) k) → Runs (stage (begun k marks) (suc k))
+    begun-runs : (so-far : Colouring) (k : ℕ) → k < P → Runs (stage (going so-far []) k) → Runs (stage (begun k so-far) (suc k))
     unfolding later
-    begun-runs marks k below i =
-        let b = begun-stands k marks below (i .stands) in
+    begun-runs so-far k below i =
+        let b = begun-stands k so-far below (i .stands) in
         record {
           stands = b .0;
           few = omega (arith, b .1);
           inside = below;
-          whole = λ j e. ap (later P xs j (suc k)) (begun-starts k marks ∙ ap (start P xs k) (sym (empty-rests marks))) ∙ i .whole (suc j) (omega arith);
+          whole = λ j e. ap (later P xs j (suc k)) (begun-starts k so-far ∙ ap (start P xs k) (sym (empty-rests so-far))) ∙ i .whole (suc j) (omega arith);
         }
 
     turn-runs : (r : Search) (k : ℕ) → Runs (stage r k) → Runs (turn-from P xs r k)
     unfolding turn-from
     turn-runs refused k i = i
-    turn-runs (going marks (v ∷ stack)) k i = off-runs marks v stack k i
-    turn-runs (going marks []) k i =
+    turn-runs (going so-far (v ∷ stack)) k i = off-runs so-far v stack k i
+    turn-runs (going so-far []) k i =
         elim (decLt k P) [
-          | yes h ↦ rw (lt-ltb k P h) (begun-runs marks k h i)
+          | yes h ↦ rw (lt-ltb k P h) (begun-runs so-far k h i)
           | no n ↦ rw (le-ltb k P (omega arith)) i
         ]
 
@@ -172,33 +164,29 @@ module _ (P : ℕ) (xs : List Appt) where
     turn-less : (r : Search) (k : ℕ) → Runs (stage r k) → Over r k ⊎ (left (turn-from P xs r k) < left (stage r k))
     unfolding turn-from left
     turn-less refused k i = inl tt
-    turn-less (going marks (v ∷ stack)) k i = inr (omega (arith, pop-sound P xs (i .stands .0) listed v marks stack (i .stands .2) .1))
-    turn-less (going marks []) k i =
+    turn-less (going so-far (v ∷ stack)) k i = inr (omega (arith, pop-sound P xs (i .stands .0) listed v so-far stack (i .stands .2) .1))
+    turn-less (going so-far []) k i =
         elim (decLt k P) [
-          | yes h ↦ rw (lt-ltb k P h) (inr (omega (arith, begun-stands k marks h (i .stands) .1)))
+          | yes h ↦ rw (lt-ltb k P h) (inr (omega (arith, begun-stands k so-far h (i .stands) .1)))
           | no n ↦ inl (omega arith)
         ]
 
     turn-over : (r : Search) (k : ℕ) → Over r k → turn-from P xs r k ≡ stage r k
     unfolding turn-from
     turn-over refused k h = refl
-    turn-over (going marks (v ∷ stack)) k h = absurd h
-    turn-over (going marks []) k h = rw (le-ltb k P h)
+    turn-over (going so-far (v ∷ stack)) k h = absurd h
+    turn-over (going so-far []) k h = rw (le-ltb k P h)
 
     -- ── all turns ──
 
     first : Stage
     first = stage (going [] []) 0
 
-    nobody : (v : ℕ) → colour-of v [] ≤ 1 → ⊥
-    unfolding colour-of
-    nobody v h = omega arith
-
     first-runs : Runs first
     unfolding first search-below
     first-runs =
         record {
-          stands = record { marked = tt; early = λ v h. absurd (omega arith); settled = λ v h. absurd (nobody v h) };
+          stands = none-settled P xs listed;
           few = omega arith;
           inside = omega arith;
           whole = λ j e. ap (later P xs j 0) (empty-rests []) ∙ later-below j 0 ∙ ap (search-below P xs) e;
@@ -208,8 +196,8 @@ module _ (P : ℕ) (xs : List Appt) where
     unfolding later
     over-whole refused k i h =
         sym (later-refused (P - k) k) ∙ ap (later P xs (P - k) k) (sym refused-rests) ∙ i .whole (P - k) (omega (arith, i .inside))
-    over-whole (going marks []) k i h = sym (empty-rests marks) ∙ i .whole 0 (omega (arith, i .inside))
-    over-whole (going marks (v ∷ stack)) k i h = absurd h
+    over-whole (going so-far []) k i h = sym (empty-rests so-far) ∙ i .whole 0 (omega (arith, i .inside))
+    over-whole (going so-far (v ∷ stack)) k i h = absurd h
 
     -- 2·P turns come to the definition's search.
     pub turns-whole : iterate (2 * P) (turn P xs) (stage (going [] []) 0) .search ≡ search-below P xs P

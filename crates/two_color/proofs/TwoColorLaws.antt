@@ -12,10 +12,10 @@ use Rattle.words.proofs.Sums.{all-map, all-both}
 use Rattle.appointments.specs.Appointments.{Appt}
 use Rattle.appointments.specs.Rounds.{Odd-round}
 use Rattle.appointments.proofs.Loads.{Listed}
-use Rattle.two_color.specs.TwoColor.{Mark, colour-of, Search, going, refused, search-below, side, Sides, sides, not-bipartite, unfinished, sides-of, two-color}
+use Rattle.two_color.specs.TwoColor.{Colouring, colour-of, Search, going, refused, search-below, side, Sides, sides, not-bipartite, unfinished, sides-of, two-color}
 use Rattle.two_color.specs.TwoSides.{Two-sides, Says, Found-sides, Refused-list}
 use Rattle.two_color.proofs.Walks.{Both-ways, joined-all, all-joined, no-odd-round}
-use Rattle.two_color.proofs.Marks.{coloured-stands, side-members, sides-length, marks-all}
+use Rattle.two_color.proofs.Colouring.{coloured-stands, side-members, sides-length, coloured-all}
 use Rattle.two_color.proofs.Starts.{Settled-below, Ended, search-ends}
 
 -- ── proper sides ──
@@ -26,30 +26,30 @@ proper-no-odd {P} {xs} {side} t =
     no-odd-round side (all-joined (λ u v. side u + side v ≡ 1) xs (all-map (λ x e. (e, omega arith)) xs (t .across)))
 
 module _ (P : ℕ) (xs : List Appt) (listed : All (Listed P) xs) where
-  module _ (ms : List Mark) (h : Settled-below P xs P ms) where
-    settled-across : All (λ x. colour-of (x .first) ms + colour-of (x .second) ms ≡ 1) xs
+  module _ (cs : Colouring) (h : Settled-below P xs P cs) where
+    settled-across : All (λ x. colour-of (x .first) cs + colour-of (x .second) cs ≡ 1) xs
     settled-across =
-        let R : ℕ → ℕ → Type 0 = λ u v. u < P → colour-of u ms + colour-of v ms ≡ 1 in
+        let R : ℕ → ℕ → Type 0 = λ u v. u < P → colour-of u cs + colour-of v cs ≡ 1 in
         let ways = joined-all R xs (λ u v j k. h .settled u (h .early u k) v j) in
         all-map (λ x k. k .1 .0 (k .0 .0)) xs (all-both (Listed P) (Both-ways R) xs listed ways)
 
     -- all starts done: the colours are two sides of the parties
-    settled-sides : Two-sides P xs (λ v. colour-of v ms) (side 0 ms) (side 1 ms)
+    settled-sides : Two-sides P xs (λ v. colour-of v cs) (side 0 cs) (side 1 cs)
     settled-sides =
         record {
           across = settled-across;
           one-of-two = h .early;
-          once = λ v k. coloured-stands P ms (h .marked) v (h .early v k);
-          lefts = side-members P 0 (omega arith) ms (h .marked);
-          rights = side-members P 1 (omega arith) ms (h .marked);
-          all-parties = sides-length P ms (h .marked) ∙ marks-all P ms (h .marked) (h .early);
+          once = λ v k. coloured-stands P cs (h .each-once) v (h .early v k);
+          lefts = side-members P 0 (omega arith) cs (h .each-once);
+          rights = side-members P 1 (omega arith) cs (h .each-once);
+          all-parties = sides-length P cs (h .each-once) ∙ coloured-all P cs (h .each-once) (h .early);
         }
 
   -- ── the answer ──
 
   ended-says : (r : Search) → Ended P xs P r → Says P xs (sides-of r)
-  ended-says (going ms []) h = (λ v. colour-of v ms, settled-sides ms h)
-  ended-says (going ms (v ∷ stack)) h = h
+  ended-says (going cs []) h = (λ v. colour-of v cs, settled-sides cs h)
+  ended-says (going cs (v ∷ stack)) h = h
   ended-says refused h = h
 
   -- What `two_color` answers is so.

@@ -1,23 +1,26 @@
 -- Module 2 of document 01, `two_color` of coloring.rs, on a list of appointments. Assumes nothing.
 use Prim.Native.Nat.{ℕ, zero, suc, _-_}
-use mathlib.Core.Bool.{Bool, true, false}
 use mathlib.Core.List.{List, [], _∷_, _++_, reverse}
 use lib.Dec.{eqb}
 use Rattle.words.specs.Basics.{pick, iterate}
 use Rattle.appointments.specs.Appointments.{Appt}
 
 -- A party with its colour: 0 is left, 1 is right.
-pub record Mark : Type 0 where
+pub record Coloured-party : Type 0 where
   pub party : ℕ
   pub colour : ℕ
 
-abbrev pub mark : ℕ → ℕ → Mark
-mark v c = record { party = v; colour = c }
+abbrev pub coloured : ℕ → ℕ → Coloured-party
+coloured v c = record { party = v; colour = c }
+
+-- the parties that have a colour so far, newest first
+abbrev pub Colouring : Type 0
+Colouring = List Coloured-party
 
 -- the colour of a party, and 2 for a party that has none yet
-unfoldable pub colour-of : ℕ → List Mark → ℕ
+unfoldable pub colour-of : ℕ → Colouring → ℕ
 colour-of v [] = 2
-colour-of v (m ∷ ms) = pick (eqb v (m .party)) (m .colour) (colour-of v ms)
+colour-of v (m ∷ cs) = pick (eqb v (m .party)) (m .colour) (colour-of v cs)
 
 -- the other ends of a party's appointments: of those where it is first end, or where it is second end
 unfoldable pub second-ends : ℕ → List Appt → List ℕ
@@ -33,18 +36,18 @@ first-ends v (x ∷ xs) = let rest = first-ends v xs in pick (eqb v (x .second))
 unfoldable pub neighbours : ℕ → List Appt → List ℕ
 neighbours v xs = second-ends v (reverse xs) ++ first-ends v (reverse xs)
 
--- What the search has come to: the parties coloured so far, newest first, and the stack, its last party first; or refused,
--- since two neighbours have one colour.
+-- What the search has come to: the colouring so far, and the stack, its last party first; or refused, since two neighbours
+-- have one colour.
 pub data Search : Type 0 where
-  going : List Mark → List ℕ → Search
+  going : Colouring → List ℕ → Search
   refused : Search
 
 -- A neighbour w of a party of colour c: it refuses if it has that colour, gets the other and is pushed if it has none.
 unfoldable pub touch : ℕ → ℕ → Search → Search
 touch c w refused = refused
-touch c w (going marks stack) =
-    pick (eqb (colour-of w marks) c) refused
-    (pick (eqb (colour-of w marks) 2) (going (mark w (1 - c) ∷ marks) (w ∷ stack)) (going marks stack))
+touch c w (going so-far stack) =
+    pick (eqb (colour-of w so-far) c) refused
+    (pick (eqb (colour-of w so-far) 2) (going (coloured w (1 - c) ∷ so-far) (w ∷ stack)) (going so-far stack))
 
 unfoldable pub touch-all : ℕ → List ℕ → Search → Search
 touch-all c [] s = s
@@ -53,15 +56,15 @@ touch-all c (w ∷ ws) s = touch-all c ws (touch c w s)
 -- The last party on the stack comes off, and its neighbours are looked at. With an empty stack nothing happens.
 unfoldable pub pop : List Appt → Search → Search
 pop xs refused = refused
-pop xs (going marks []) = going marks []
-pop xs (going marks (v ∷ stack)) = touch-all (colour-of v marks) (neighbours v xs) (going marks stack)
+pop xs (going so-far []) = going so-far []
+pop xs (going so-far (v ∷ stack)) = touch-all (colour-of v so-far) (neighbours v xs) (going so-far stack)
 
 -- A party that is still uncoloured gets 1 and goes on the stack, which is then worked off. No more parties come off than
 -- there are, so P steps suffice (a law).
 unfoldable pub start : ℕ → List Appt → ℕ → Search → Search
 start P xs v refused = refused
-start P xs v (going marks stack) =
-    pick (eqb (colour-of v marks) 2) (iterate P (pop xs) (going (mark v 1 ∷ marks) (v ∷ stack))) (going marks stack)
+start P xs v (going so-far stack) =
+    pick (eqb (colour-of v so-far) 2) (iterate P (pop xs) (going (coloured v 1 ∷ so-far) (v ∷ stack))) (going so-far stack)
 
 -- the parties below v, in number order
 unfoldable pub search-below : ℕ → List Appt → ℕ → Search
@@ -69,9 +72,9 @@ search-below P xs zero = going [] []
 search-below P xs (suc v) = start P xs v (search-below P xs v)
 
 -- the parties of a colour, in order of first colouring
-unfoldable pub side : ℕ → List Mark → List ℕ
+unfoldable pub side : ℕ → Colouring → List ℕ
 side c [] = []
-side c (m ∷ ms) = let earlier = side c ms in pick (eqb c (m .colour)) (earlier ++ (m .party ∷ [])) earlier
+side c (m ∷ cs) = let earlier = side c cs in pick (eqb c (m .colour)) (earlier ++ (m .party ∷ [])) earlier
 
 -- The answer: the left and the right side, each in order of first colouring; not bipartite; or (which a law rules out)
 -- the steps didn't suffice.
@@ -81,8 +84,8 @@ pub data Sides : Type 0 where
   unfinished : Sides
 
 abbrev pub sides-of : Search → Sides
-sides-of (going marks []) = sides (side 0 marks) (side 1 marks)
-sides-of (going marks (v ∷ stack)) = unfinished
+sides-of (going so-far []) = sides (side 0 so-far) (side 1 so-far)
+sides-of (going so-far (v ∷ stack)) = unfinished
 sides-of refused = not-bipartite
 
 unfoldable pub two-color : ℕ → List Appt → Sides

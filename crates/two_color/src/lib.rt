@@ -1,5 +1,6 @@
-// `two_color`: puts the parties of a list of appointments on two sides, left and right, such that the two ends of every
-// appointment are on different sides; or finds that this cannot be done. Stated by its definition in specs/TwoColor.antt.
+// `two_color`, module 2 of document 01: puts the parties of a list of appointments on two sides, left and right, such that the
+// two ends of every appointment are on different sides; or finds that this cannot be done. Its meaning is the definition
+// `two-color` in specs/TwoColor.antt; what each function here does to the words is its model in specs/Model.antt.
 //
 // The words that it takes start at `u`, p words for each of the first four, d words for each row:
 //   u          left, the parties of colour 0 in order of first colouring
@@ -12,7 +13,7 @@
 // All that the search reads only lies above all that it writes.
 ghost use mathlib.Core.Path.{_≡_};
 ghost use Prim.Native.Nat.{_+_, _*_, _/_, _<_, _≤_};
-ghost use Rattle.two_color.specs.Model.{Small, appendM, clearStateM, startPartyM, startPartiesM, pushEndM, fillRowsM, colorPartyM, touchM, lookM, touchAllM, takeOffM, nextPartyM, stepM, stepsM, preparedM};
+ghost use Rattle.two_color.specs.Model.{Small, appendM, clearStateM, startPartyM, startPartiesM, pushEndM, fillRowsM, colorPartyM, touchM, lookM, touchAllM, takeOffM, nextPartyM, stepM, stepsM, prepareM};
 ghost use Rattle.mark.specs.Taking.{«taken-more»};
 ghost use Rattle.two_color.specs.Contract.{«Can-color», Colored};
 use mark::Mark;
@@ -58,6 +59,7 @@ fn start_party(s: &mut [u32], u: usize, p: usize, d: usize, v: usize)
     words::put(s, u + 4 * p + 6 + 2 * v, u + 6 * p + 5 + d * v);
 }
 
+// All parties so.
 fn start_parties(s: &mut [u32], u: usize, p: usize, d: usize)
     requires { ⌜ Small u p ⌝ }
     requires { ⌜ d * p ≤ 8192 ⌝ }
@@ -130,6 +132,7 @@ fn touch(s: &mut [u32], u: usize, p: usize, color: usize, w: usize)
     }
 }
 
+// The neighbour whose number stands at `at`.
 fn look(s: &mut [u32], u: usize, p: usize, color: usize, at: usize)
     requires { ⌜ Small u p ⌝ }
     ensures { λ r. ⌜ now (s .exit) ≡ lookM u p color at (now (s .entry)) ⌝ }
@@ -181,6 +184,8 @@ fn next_party(s: &mut [u32], u: usize, p: usize)
     }
 }
 
+// One step of the search: the last party comes off the stack, or with an empty stack it goes on to the next party. Once it is
+// refused nothing happens.
 fn step(s: &mut [u32], u: usize, p: usize)
     requires { ⌜ Small u p ⌝ }
     ensures { λ r. ⌜ now (s .exit) ≡ stepM u p (now (s .entry)) ⌝ }
@@ -210,12 +215,13 @@ fn all_steps(s: &mut [u32], u: usize, p: usize)
     }
 }
 
-// First ends before second ends, newest first: document 01's order of neighbours.
+// The words before the first step. In its row a party's appointments where it is first end come before those where it is
+// second end, each newest first: document 01's order of neighbours.
 fn prepare(s: &mut [u32], u: usize, p: usize, d: usize, list: &[u16])
     requires { ⌜ Small u p ⌝ }
     requires { do ⌜ (← ⟦list.len()⟧) ≤ 8192 ⌝ }
     requires { ⌜ d * p ≤ 8192 ⌝ }
-    ensures { λ r. ⌜ now (s .exit) ≡ preparedM u p d (now (list .entry)) (now (s .entry)) ⌝ }
+    ensures { λ r. ⌜ now (s .exit) ≡ prepareM u p d (now (list .entry)) (now (s .entry)) ⌝ }
 {
     clear_state(s, u, p);
     start_parties(s, u, p, d);
@@ -223,7 +229,8 @@ fn prepare(s: &mut [u32], u: usize, p: usize, d: usize, list: &[u16])
     fill_rows(s, u, p, list, 1, 0);
 }
 
-// The left side is at `u` and the right side p words above it. Everything below `u` stays.
+// `two_color` by numbers, without the mark: the left side is at `u` and the right side p words above it. Everything below `u`
+// stays.
 fn color_at(s: &mut [u32], u: usize, p: usize, d: usize, list: &[u16]) -> TwoColoring
     requires { ⌜ Can-color p d u (now list) (now s) ⌝ }
     ensures { λ r. ⌜ Colored p (now (list .entry)) u (now (s .entry)) (u + 2 * p) (now (s .exit)) r ⌝ }
@@ -241,8 +248,8 @@ fn color_at(s: &mut [u32], u: usize, p: usize, d: usize, list: &[u16]) -> TwoCol
     TwoColoring::Sides(left)
 }
 
-// Takes the words that it needs, and gives back all but the two sides, also where it refuses: the left side is at the old mark
-// and the right side p words above it. Everything below the old mark stays.
+// Takes the words that it needs (the five words of state count as 5·p), and gives back all but the two sides, also where it
+// refuses: the left side is at the old mark and the right side p words above it. Everything below the old mark stays.
 pub fn two_color(s: &mut [u32], m: &mut Mark, p: usize, d: usize, list: &[u16]) -> TwoColoring
     requires { ⌜ Can-color p d (now m .taken) (now list) (now s) × (now m .taken + (11 * p + d * p) ≤ now m .there) ⌝ }
     ensures { λ r. ⌜ Colored p (now (list .entry)) (now (m .entry) .taken) (now (s .entry)) (now (m .exit) .taken) (now (s .exit)) r × (now (m .exit) ≡ taken-more (2 * p) (now (m .entry))) ⌝ }
@@ -253,4 +260,16 @@ pub fn two_color(s: &mut [u32], m: &mut Mark, p: usize, d: usize, list: &[u16]) 
     let top = u + 2 * p;
     mark::give_back(m, top);
     r
+}
+
+// `two_color` on a scratch of which nothing is taken: the left side is at word 0 and the right side at word p.
+pub fn two_sides(s: &mut [u32], p: usize, d: usize, list: &[u16]) -> TwoColoring
+    requires { ⌜ Can-color p d 0 (now list) (now s) ⌝ }
+    ensures { λ r. ⌜ Colored p (now (list .entry)) 0 (now (s .entry)) (2 * p) (now (s .exit)) r ⌝ }
+{
+    let mut m = Mark {
+        taken: 0,
+        there: s.len(),
+    };
+    two_color(s, &mut m, p, d, list)
 }

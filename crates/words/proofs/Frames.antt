@@ -1,17 +1,24 @@
 -- The laws of `word`, `put-word` and the frames that everything above cites. Assumes nothing.
-use Prim.Native.Nat.{ℕ, zero, suc, _+_, _%_, _<_, _≤_}
-use mathlib.Core.Path.{_≡_, refl, sym, _∙_, ap}
-use mathlib.Core.List.{List, [], _∷_}
+use Prim.Native.Nat.{ℕ, _+_, _*_, _%_, _<_, _≤_}
+use mathlib.Core.Path.{_≡_, refl, _∙_}
+use mathlib.Core.List.{List}
 use native.Mathlib.Omega.{arith}
-use native.Mathlib.Nat.{mod-eq-of-lt}
-use lib.ListN.{length, set, getD, length-set}
-use lib.Seq.{getD-set-same, getD-set-other}
+use native.Mathlib.Nat.{mod-eq-of-lt, mul-le-mul-left, mul-le-mul-right}
+use lib.ListN.{length, take, drop, length-set}
+use lib.Seq.{getD-set-same, getD-set-other, getD-take, getD-drop}
 use Rattle.words.specs.Words.{word, put-word}
 use Rattle.words.specs.Frames.{Keeps, Stays}
 
 -- a number that fits a word is not cut
 pub fits : {x : ℕ} → x < 4294967296 → x % 4294967296 ≡ x
 fits h = mod-eq-of-lt h
+
+-- the product of two words
+pub product-fits : (a b : ℕ) → a < 4294967296 → b < 4294967296 → a * b < 18446744073709551616
+product-fits a b h k =
+    let x : a ≤ 4294967295 = omega arith in
+    let y : b ≤ 4294967295 = omega arith in
+    omega (arith, mul-le-mul-left a y, mul-le-mul-right 4294967295 x)
 
 -- the word just put
 pub here : (s : List ℕ) (i x : ℕ) → i < length s → x < 4294967296 → word (put-word s i x) i ≡ x
@@ -23,6 +30,10 @@ away s i j x h = getD-set-other s i j (x % 4294967296) 0 h
 
 pub length-put : (s : List ℕ) (i x : ℕ) → length (put-word s i x) ≡ length s
 length-put s i x = length-set s i (x % 4294967296)
+
+-- a word of the n that begin at a
+pub stretch-word : (s : List ℕ) (a n j : ℕ) → j < n → word (take n (drop a s)) j ≡ word s (a + j)
+stretch-word s a n j h = rw (getD-take, getD-drop)
 
 pub keeps-refl : (mark : ℕ) (s : List ℕ) → Keeps mark s s
 keeps-refl mark s = record { len = refl; same = λ i h. refl }

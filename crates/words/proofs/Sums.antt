@@ -8,7 +8,7 @@ use native.Mathlib.Omega.{arith}
 use native.Mathlib.Nat.{add-zero, add-suc}
 use native.Mathlib.Decide.{ℕ-discrete}
 use borrow.Author.Tests.{eq-eqb, ne-eqb}
-use lib.ListN.{length, getD}
+use lib.ListN.{length, take, getD}
 use Rattle.words.specs.Basics.{is, total, count, All, sum-below}
 
 -- ── is ──
@@ -126,6 +126,9 @@ unfolding count total
 count-total v [] = refl
 count-total v (x ∷ xs) = omega (arith, count-total v xs)
 
+pub total-is : (a : ℕ) (vs : List ℕ) → total (λ v. is v a) vs ≡ count a vs
+total-is a vs = total-cong (λ v. is-sym v a) vs ∙ sym (count-total a vs)
+
 pub count-append : (v : ℕ) (xs ys : List ℕ) → count v (xs ++ ys) ≡ count v xs + count v ys
 unfolding count
 count-append v [] ys = omega arith
@@ -157,6 +160,31 @@ all-counted P v [] h k = absurd (omega arith)
 all-counted P v (x ∷ xs) h k =
     elim (ℕ-discrete v x)
     [ yes e ↦ subst P (sym e) (h .0) | no n ↦ all-counted P v xs (h .1) (omega (arith, is-ne {u = v} {v = x} n)) ]
+
+pub count-take-le : (v : ℕ) (list : List ℕ) (k : ℕ) → count v (take k list) ≤ count v list
+unfolding count
+count-take-le v [] zero = omega arith
+count-take-le v [] (suc k) = omega arith
+count-take-le v (x ∷ xs) zero = omega arith
+count-take-le v (x ∷ xs) (suc k) = omega (arith, count-take-le v xs k)
+
+-- the number at a position is counted
+pub count-at : (v : ℕ) (xs : List ℕ) (i : ℕ) → i < length xs → getD xs i 0 ≡ v → 0 < count v xs
+unfolding count
+count-at v [] i h e = absurd (omega arith)
+count-at v (x ∷ xs) zero h e = omega (arith, is-eq (sym e))
+count-at v (x ∷ xs) (suc i) h e = omega (arith, count-at v xs i (omega arith) e)
+
+-- a number that is counted at most once stands at one position
+pub count-once :
+    (v : ℕ) (xs : List ℕ) → count v xs ≤ 1 → (i j : ℕ) → i < length xs → j < length xs → getD xs i 0 ≡ v → getD xs j 0 ≡ v →
+    i ≡ j
+unfolding count
+count-once v [] h i j a b e f = absurd (omega arith)
+count-once v (x ∷ xs) h zero zero a b e f = refl
+count-once v (x ∷ xs) h zero (suc j) a b e f = absurd (omega (arith, is-eq (sym e), count-at v xs j (omega arith) f))
+count-once v (x ∷ xs) h (suc i) zero a b e f = absurd (omega (arith, is-eq (sym f), count-at v xs i (omega arith) e))
+count-once v (x ∷ xs) h (suc i) (suc j) a b e f = ap suc (count-once v xs (omega arith) i j (omega arith) (omega arith) e f)
 
 -- ── all members ──
 

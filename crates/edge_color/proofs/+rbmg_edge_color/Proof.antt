@@ -83,11 +83,13 @@ use Rattle.matching.specs.Matching.{power-above as power-of}
 use Rattle.matching.specs.Searched.{Reads-matching}
 use Rattle.edge_color.specs.Room.{Power-colored, Color-fits, Aside-stored, Colored}
 use Rattle.edge_color.proofs.AsideWords.{small, back-again}
-use Rattle.edge_color.proofs.ColorWords.{above-one, cuts, sums, color-falls, color-none, color-read, color-splits, color-first, color-power, color-joined}
+use Rattle.edge_color.proofs.ColorWords.{color-splits, color-first, color-power, color-joined}
 use Rattle.edge_color.proofs.rbmg_edge_color.Key.{name as #edge-color·rbmg-edge-color}
 use Rattle.edge_color.proofs.rbmg_edge_color as rbmg-edge-color
 use Rattle.edge_color.proofs.+rbmg_edge_color as cycle
 use Rattle.edge_color.proofs.+rbmg_edge_color.Code as code
+use Rattle.edge_color.proofs.CutSizes.{above-one, cuts, sums, color-falls}
+use Rattle.edge_color.proofs.SingleWords.{color-none, color-read}
 
 -- the parameters after the scratch and the mark
 abbrev ps : List (Slot 2)

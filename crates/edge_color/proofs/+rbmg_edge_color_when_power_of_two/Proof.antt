@@ -63,11 +63,12 @@ use Rattle.mark.proofs.Walking.{differ}
 use Rattle.euler.specs.Room.{Halves-stored}
 use Rattle.matching.specs.Searched.{Reads-matching}
 use Rattle.edge_color.specs.Room.{Power-fits, Power-colored}
-use Rattle.edge_color.proofs.PowerWords.{sized, power-read, power-splits, power-first, power-second, power-joined, power-small, power-falls}
+use Rattle.edge_color.proofs.PowerWords.{sized, power-splits, power-first, power-second, power-joined, power-small, power-falls}
 use Rattle.edge_color.proofs.rbmg_edge_color_when_power_of_two.Key.{name as #edge-color·rbmg-edge-color-when-power-of-two}
 use Rattle.edge_color.proofs.rbmg_edge_color_when_power_of_two as rbmg-edge-color-when-power-of-two
 use Rattle.edge_color.proofs.+rbmg_edge_color_when_power_of_two as cycle
 use Rattle.edge_color.proofs.+rbmg_edge_color_when_power_of_two.Code as code
+use Rattle.edge_color.proofs.SingleWords.{power-read}
 
 -- the parameters after the scratch and the mark
 abbrev ps : List (Slot 2)

@@ -5,10 +5,10 @@ use lib.ListN.{length}
 use Rattle.words.specs.Words.{word, put-word}
 use mathlib.Core.List.{List}
 use Rattle.evening.specs.Steps.{Diag-fit, Begun}
-use Rattle.evening.proofs.DiagonalLaws.{begun-none, begun-more}
 use borrow.Author.Needs.{needs}
 use Rattle.evening.proofs.begin_places.Statement.{statement}
 use Rattle.evening.proofs.begin_places.Tie as tie
+use Rattle.evening.proofs.BeginLaws.{begun-none, begun-more}
 
 abbrev Inv-loop : tie.InvT-loop
 Inv-loop s₀ at diag b m n i₀ s i =

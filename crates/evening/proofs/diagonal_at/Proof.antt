@@ -6,10 +6,11 @@ use Rattle.words.specs.Words.{word, put-word}
 use mathlib.Core.List.{List}
 use Rattle.multigraph.specs.Places.{size}
 use Rattle.evening.specs.Steps.{Diag-fit, Begun, Diag-ready, Looked}
-use Rattle.evening.proofs.DiagonalLaws.{diag-fit, diag-ready, diagonal-set}
+use Rattle.evening.proofs.DiagonalLaws.{diag-fit, diagonal-set}
 use borrow.Author.Needs.{needs}
 use Rattle.evening.proofs.diagonal_at.Statement.{statement}
 use Rattle.evening.proofs.diagonal_at.Tie as tie
+use Rattle.evening.proofs.BeginLaws.{diag-ready}
 
 begin-places-requires : tie.Need-begin-places-requires
 begin-places-requires c κs =

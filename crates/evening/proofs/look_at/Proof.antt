@@ -3,10 +3,10 @@ use Prim.Native.Nat.{ℕ, _+_, _*_, _-_, _<_, _≤_, max}
 use native.Mathlib.Omega.{arith}
 use lib.ListN.{length}
 use Rattle.words.specs.Words.{word, put-word}
-use Rattle.evening.proofs.DiagonalLaws.{look-none, look-other, look-hit}
 use borrow.Author.Needs.{needs}
 use Rattle.evening.proofs.look_at.Statement.{statement}
 use Rattle.evening.proofs.look_at.Tie as tie
+use Rattle.evening.proofs.LookLaws.{look-none, look-other, look-hit}
 
 returns : tie.Need-returns
 returns c =

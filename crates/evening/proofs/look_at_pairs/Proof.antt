@@ -5,10 +5,10 @@ use lib.ListN.{length}
 use Rattle.words.specs.Words.{word, put-word}
 use mathlib.Core.List.{List}
 use Rattle.evening.specs.Steps.{Diag-ready, Looked}
-use Rattle.evening.proofs.DiagonalLaws.{looked-none, looked-more}
 use borrow.Author.Needs.{needs}
 use Rattle.evening.proofs.look_at_pairs.Statement.{statement}
 use Rattle.evening.proofs.look_at_pairs.Tie as tie
+use Rattle.evening.proofs.LookLaws.{looked-none, looked-more}
 
 abbrev Inv-loop : tie.InvT-loop
 Inv-loop s₀ at diag b n m e₀ s e =

@@ -4,10 +4,10 @@ use native.Mathlib.Omega.{arith}
 use lib.ListN.{length}
 use Rattle.words.specs.Words.{word, put-word}
 use mathlib.Core.List.{List}
-use Rattle.evening.proofs.BuildingLaws.{rows-fit, reps-fit, started, pairs-made}
 use borrow.Author.Needs.{needs}
 use Rattle.evening.proofs.pairs_at.Statement.{statement}
 use Rattle.evening.proofs.pairs_at.Tie as tie
+use Rattle.evening.proofs.PairsMade.{rows-fit, reps-fit, started, pairs-made}
 
 fill-rows-requires : tie.Need-fill-rows-requires
 fill-rows-requires c κs =

@@ -4,8 +4,8 @@ use native.Mathlib.Omega.{arith}
 use lib.ListN.{length}
 use Rattle.words.specs.Words.{word, put-word}
 use mathlib.Core.Logic.{_⊎_, inl, inr, ⊎-elim}
-use Rattle.evening.proofs.RepsLaws.{sums-same, ends-first, ends-second, ends-neither}
 use borrow.Author.Needs.{needs}
+use Rattle.multigraph.proofs.Ends.{sums-same, ends-first, ends-second, ends-neither}
 use Rattle.evening.proofs.same_ends.Statement.{statement}
 use Rattle.evening.proofs.same_ends.Tie as tie
 

@@ -1,7 +1,7 @@
 -- `matching::copy_entry` meets its contract: two words read, two put. Assumes nothing.
-use Rattle.matching.proofs.Counts.{product-fits}
 use native.Mathlib.Omega.{arith}
 use borrow.Author.Needs.{needs}
+use Rattle.words.proofs.Frames.{product-fits}
 use Rattle.matching.proofs.copy_entry.Statement.{statement}
 use Rattle.matching.proofs.copy_entry.Tie as tie
 

@@ -5,10 +5,10 @@ use native.Mathlib.Omega.{arith}
 use lib.ListN.{length}
 use Rattle.words.specs.Words.{word, put-word}
 use Rattle.matching.specs.Searched.{Can-read}
-use Rattle.matching.proofs.FindWords.{Reading, reading-none, reading-more, reading-done}
 use borrow.Author.Needs.{needs}
 use Rattle.matching.proofs.read_matching.Statement.{statement}
 use Rattle.matching.proofs.read_matching.Tie as tie
+use Rattle.matching.proofs.Reading.{Reading, reading-none, reading-more, reading-done}
 
 abbrev Inv-loop : tie.InvT-loop
 Inv-loop s₀ h n out i₀ s i =

@@ -5,10 +5,10 @@ use native.Mathlib.Omega.{arith}
 use lib.ListN.{length}
 use Rattle.multigraph.specs.Places.{size}
 use Rattle.multigraph.specs.Steps.{Copies-rest}
-use Rattle.multigraph.proofs.RemovingWords.{copied-none, copies-more, next-le}
 use borrow.Author.Needs.{needs}
 use Rattle.multigraph.proofs.copy_rest.Statement.{statement}
 use Rattle.multigraph.proofs.copy_rest.Tie as tie
+use Rattle.multigraph.proofs.RestWords.{copied-none, copies-more, next-le}
 
 abbrev Inv-loop : tie.InvT-loop
 Inv-loop s₀ places g to m at₀ i₀ s at i =

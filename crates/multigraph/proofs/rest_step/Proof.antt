@@ -1,8 +1,8 @@
 -- `multigraph::rest_step` meets its contract: one entry copied, and the next place. Assumes nothing.
-use Rattle.multigraph.proofs.RemovingWords.{step-words, next-more, next-same}
 use borrow.Author.Needs.{needs}
 use Rattle.multigraph.proofs.rest_step.Statement.{statement}
 use Rattle.multigraph.proofs.rest_step.Tie as tie
+use Rattle.multigraph.proofs.RestWords.{step-words, next-more, next-same}
 
 returns : tie.Need-returns
 returns c =

@@ -4,16 +4,18 @@ use Rattle.planning.proofs.color_and_give.Statement.{statement}
 use Rattle.planning.proofs.color_and_give.Tie as tie
 
 color-requires : tie.Need-color-requires
-color-requires c κs =
-    can-color (c .before .before .before .before .before .before .pre .0) (c .before .get .result) (c .before .get .ensures .0)
+color-requires c κs = can-color (c .before .before .before .before .before .before .pre .0) (c .before .get .result) (c .before .get .ensures .0)
 
 give-slots-requires : tie.Need-give-slots-requires
 give-slots-requires c κs =
-    small (c .before .before .before .before .before .before .before .before .before .before .before .pre .0) (c .before .before .before .before .color .last .0) (c .before .before .before .before .color .ensures .spares .len)
+    let colored = c .before .before .before .before .color in
+    small (c .before .before .before .before .before .before .before .before .before .before .before .pre .0) (colored .last .0) (colored .ensures .spares .len)
 
 returns : tie.Need-returns
 returns c =
-    slots-planned (c .before .before .before .before .before .before .before .before .before .before .before .before .before .before .before .before .pre .0) (rw (c .before .before .before .before .before .before .before .before .before .before .before .get .ensures .0) at (c .before .before .before .before .before .before .before .before .before .color .ensures)) (c .before .before .before .before .before .before .before .before .before .before .before .before .before .before .before .before .args .slots .now) (c .before .before .before .before .before .before .before .before .before .before .before .before .before .before .before .before .pre .1) (c .before .before .before .before .give-slots .ensures)
+    let asked = c .before .before .before .before .before .before .before .before .before .before .before .before .before .before .before .before in
+    slots-planned (asked .pre .0) (rw (c .before .before .before .before .before .before .before .before .before .before .before .get .ensures .0) at (c .before .before .before .before .before .before .before .before .before .color .ensures)) (asked .args .slots .now) (asked .pre .1)
+    (c .before .before .before .before .give-slots .ensures)
 
 pub color-and-give-spec : {M : Type 1} → statement M
 color-and-give-spec =

@@ -1,6 +1,6 @@
 -- `planning::prepare` meets its contract: a walk of its MIR, by hand, over the rules of `mark`.
 -- Assumes nothing.
-use mathlib.Core.Path.{_≡_, refl, subst, ap, _∙_}
+use mathlib.Core.Path.{_≡_, refl, ap, _∙_}
 use Prim.Native.Nat.{ℕ, _<_, _^_, _*_, _-_}
 use native.Mathlib.Omega.{arith}
 use mathlib.Core.List.{List, [], _∷_}
@@ -37,8 +37,9 @@ use denote.Triple.Statement.{Contract, Triple}
 use denote.Triple.Table.{entered, cited}
 use denote.Triple.Walked.{needs}
 use Rattle.evening.specs.Contract.{Sides-padded, Pairs-made, Evened-out, Diagonal-set}
-use Rattle.planning.specs.Steps.{Sided, Prepared}
-use Rattle.planning.proofs.Preparing.{sizes, can-pad, can-pair, can-even, can-diagonal, prepared, prepared-length}
+use Rattle.planning.specs.Steps.{Sided}
+use Rattle.planning.proofs.Sizes.{Sizes, sizes}
+use Rattle.planning.proofs.Preparing.{can-pad, can-pair, can-even, can-diagonal, prepared, prepared-length}
 use Rattle.mark.specs.declared.Mark.{Mark}
 use Rattle.mark.proofs.Lending.{Lent, scratch-own, mark-val, scratch-val, calls-scratch-plain, calls-both, calls-both-plain, scratch-ref, mark-ref}
 use Rattle.mark.proofs.Marking.{shown}
@@ -67,13 +68,13 @@ use Rattle.planning.proofs.prepare as prepare
 use Rattle.planning.proofs.prepare.Statement as stated
 use Rattle.planning.proofs.prepare.Code as code
 
--- the parameters after the scratch and the mark
+-- the parameters after the scratch
 abbrev ps : List (Slot 2)
 ps = shrSlice 1 tt (λ _. u16) ∷ plain (λ _. usize) ∷ plain (λ _. usize) ∷ plain (λ _. usize) ∷ plain (λ _. usize) ∷ []
 
 -- what the step requires
 abbrev Asked : RefT (List ℕ) → RefT (List ℕ) → ℕ → ℕ → ℕ → ℕ → Type 0
-Asked s list p d q left = Sided p d q left (15 * q) (list .now) (s .now)
+Asked s list p d q left = Sided p d q left (list .now) (s .now)
 
 abbrev PadSidesC : {M : Type 1} (𝓤 : URA M) (H : Heap 𝓤) (A : Atoms 𝓤) (mem : Memory → SProp 𝓤) (run : Routine → Fun 𝓤) → Contract 𝓤
 PadSidesC 𝓤 H A mem run = tripleOf 𝓤 H A pad-sides.signature (pad-sides.spec 𝓤 H A mem run)
@@ -91,6 +92,9 @@ module _ {M : Type 1} (𝓤 : URA M) (H : Heap 𝓤) (A : Atoms 𝓤) (W : Given
   abbrev l : Lent
   l = held-of 0 0 (s .name) (κs .0) (qs .0) s
 
+  z : Sizes p d q (list .now) (s .now)
+  z = sizes (ok .ready)
+
   -- the mark as it is made
   abbrev m₀ : Mark
   m₀ = record { taken = 15 * q; there = length (s .now) }
@@ -100,7 +104,7 @@ module _ {M : Type 1} (𝓤 : URA M) (H : Heap 𝓤) (A : Atoms 𝓤) (W : Given
   at₀ = record { left = 0; right = p; ends = 3 * q; apair = 9 * q; g = 11 * q }
 
   at₀-is : Is Bases-T.the-row at₀ (Bases-T′.lowered at₀ ∷ [])
-  at₀-is = LL.owes Bases-T.the-type Bases-T′.the-laws at₀ ((refl, (omega (arith, sizes (ok .ready) .unit, sizes (ok .ready) .product, sizes (ok .ready) .parties, ok .few))), ((refl, (omega (arith, sizes (ok .ready) .unit, sizes (ok .ready) .product, sizes (ok .ready) .parties, ok .few))), ((refl, (omega (arith, sizes (ok .ready) .unit, sizes (ok .ready) .product, sizes (ok .ready) .parties, ok .few))), ((refl, (omega (arith, sizes (ok .ready) .unit, sizes (ok .ready) .product, sizes (ok .ready) .parties, ok .few))), ((refl, (omega (arith, sizes (ok .ready) .unit, sizes (ok .ready) .product, sizes (ok .ready) .parties, ok .few))), tt)))))
+  at₀-is = LL.owes Bases-T.the-type Bases-T′.the-laws at₀ ((refl, (omega (arith, z .unit, z .product, z .parties, ok .few))), ((refl, (omega (arith, z .unit, z .product, z .parties, ok .few))), ((refl, (omega (arith, z .unit, z .product, z .parties, ok .few))), ((refl, (omega (arith, z .unit, z .product, z .parties, ok .few))), ((refl, (omega (arith, z .unit, z .product, z .parties, ok .few))), tt)))))
 
   abbrev κₗ : Lft
   κₗ = κs .1 .0
@@ -118,21 +122,21 @@ module _ {M : Type 1} (𝓤 : URA M) (H : Heap 𝓤) (A : Atoms 𝓤) (W : Given
         params1 ! $ pass1 ! (init ! 46 refl (tt, (tt, (record { fits = room .0 }, tt)))) $ pass1 ! (init ! 44 refl (tt, (tt, (record { fits = list-room .0 }, tt)))) $ pass1 ! (init ! 42 refl (tt, record { fits = p-fits })) $ pass1 ! (init ! 40 refl (tt, record { fits = d-fits })) $ pass1 ! (init ! 38 refl (tt, record { fits = q-fits })) $ pass1 ! (init ! 36 refl (tt, record { fits = left-fits })) $ pass0 ! $
         move ! (50 ∷ 51 ∷ []) $
         -- [the scratch; its token; _24 at 2; _23 at 4; _22 at 6; _21 at 8; _20 at 10; _19 at 12; _18 at 14; _17 at 16; _16 at 18; _15 at 20; _14 at 22; _13 at 24; _12 at 26; _11 at 28; _10 at 30; _9 at 32; _8 at 34; _7 at 36; _6 at 38; _5 at 40; _4 at 42; _3 at 44; _2 at 46; _1 at 48; _0 at 50; the further tokens; what the list owns]
-        assigns ! (bin ! (lit ! tt) (load ! (from ! (stop !)) (look ! 40 refl)) (record { fits = (omega (arith, sizes (ok .ready) .unit, sizes (ok .ready) .product, sizes (ok .ready) .parties, ok .few)) })) (from ! (stop !)) (init ! 30 refl (tt, record { fits = (omega (arith, sizes (ok .ready) .unit, sizes (ok .ready) .product, sizes (ok .ready) .parties, ok .few)) })) $
+        assigns ! (bin ! (lit ! tt) (load ! (from ! (stop !)) (look ! 40 refl)) (record { fits = (omega (arith, z .unit, z .product, z .parties, ok .few)) })) (from ! (stop !)) (init ! 30 refl (tt, record { fits = (omega (arith, z .unit, z .product, z .parties, ok .few)) })) $
         assigns ! (of-opd ! (load ! (from ! (fld ! refl (stop !))) (look-in ! 48 (sub ! 1 refl (whole !))))) (from ! (stop !)) (init ! 28 refl (tt, record { fits = (room .0) })) $
-        assigns ! (agg ! (and-then ! (load ! (from ! (stop !)) (look ! 30 refl)) (and-then ! (load ! (from ! (stop !)) (look ! 28 refl)) (no-more !)))) (from ! (stop !)) (init ! 36 refl (tt, (record { fits = (omega (arith, sizes (ok .ready) .unit, sizes (ok .ready) .product, sizes (ok .ready) .parties, ok .few)) }, (record { fits = (room .0) }, tt)))) $
+        assigns ! (agg ! (and-then ! (load ! (from ! (stop !)) (look ! 30 refl)) (and-then ! (load ! (from ! (stop !)) (look ! 28 refl)) (no-more !)))) (from ! (stop !)) (init ! 36 refl (tt, (record { fits = (omega (arith, z .unit, z .product, z .parties, ok .few)) }, (record { fits = (room .0) }, tt)))) $
         -- the mark is lent from here on
-        move ! (36 ∷ []) $ mark-made ! tt l7 (κs .0) (qs .0) s (m₀) (omega (arith, sizes (ok .ready) .unit, sizes (ok .ready) .product, sizes (ok .ready) .parties, ok .few)) (room .0) (λ α γ.
+        move ! (36 ∷ []) $ mark-made ! tt l7 (κs .0) (qs .0) s (m₀) (omega (arith, z .unit, z .product, z .parties, ok .few)) (room .0) (λ α γ.
         move ! (0 ∷ 1 ∷ 3 ∷ 4 ∷ []) $
-        assigns ! (bin ! (lit ! tt) (load ! (from ! (stop !)) (look ! 42 refl)) (record { fits = (omega (arith, sizes (ok .ready) .unit, sizes (ok .ready) .product, sizes (ok .ready) .parties, ok .few)) })) (from ! (stop !)) (store ! 33 refl (tt, record { fits = (omega (arith, sizes (ok .ready) .unit, sizes (ok .ready) .product, sizes (ok .ready) .parties, ok .few)) })) $
-        assigns ! (bin ! (lit ! tt) (load ! (from ! (stop !)) (look ! 42 refl)) (record { fits = (omega (arith, sizes (ok .ready) .unit, sizes (ok .ready) .product, sizes (ok .ready) .parties, ok .few)) })) (from ! (stop !)) (store ! 31 refl (tt, record { fits = (omega (arith, sizes (ok .ready) .unit, sizes (ok .ready) .product, sizes (ok .ready) .parties, ok .few)) })) $
-        assigns ! (bin ! (lit ! tt) (load ! (from ! (stop !)) (look ! 42 refl)) (record { fits = (omega (arith, sizes (ok .ready) .unit, sizes (ok .ready) .product, sizes (ok .ready) .parties, ok .few)) })) (from ! (stop !)) (init ! 29 refl (tt, record { fits = (omega (arith, sizes (ok .ready) .unit, sizes (ok .ready) .product, sizes (ok .ready) .parties, ok .few)) })) $
-        assigns ! (agg ! (and-then ! (lit ! tt) (and-then ! (load ! (from ! (stop !)) (look ! 46 refl)) (and-then ! (load ! (from ! (stop !)) (look ! 33 refl)) (and-then ! (load ! (from ! (stop !)) (look ! 31 refl)) (and-then ! (load ! (from ! (stop !)) (look ! 29 refl)) (no-more !))))))) (from ! (stop !)) (init ! 37 refl (tt, (record { fits = (omega (arith, sizes (ok .ready) .unit, sizes (ok .ready) .product, sizes (ok .ready) .parties, ok .few)) }, (record { fits = (omega (arith, sizes (ok .ready) .unit, sizes (ok .ready) .product, sizes (ok .ready) .parties, ok .few)) }, (record { fits = (omega (arith, sizes (ok .ready) .unit, sizes (ok .ready) .product, sizes (ok .ready) .parties, ok .few)) }, (record { fits = (omega (arith, sizes (ok .ready) .unit, sizes (ok .ready) .product, sizes (ok .ready) .parties, ok .few)) }, (record { fits = (omega (arith, sizes (ok .ready) .unit, sizes (ok .ready) .product, sizes (ok .ready) .parties, ok .few)) }, tt))))))) $
+        assigns ! (bin ! (lit ! tt) (load ! (from ! (stop !)) (look ! 42 refl)) (record { fits = (omega (arith, z .unit, z .product, z .parties, ok .few)) })) (from ! (stop !)) (store ! 33 refl (tt, record { fits = (omega (arith, z .unit, z .product, z .parties, ok .few)) })) $
+        assigns ! (bin ! (lit ! tt) (load ! (from ! (stop !)) (look ! 42 refl)) (record { fits = (omega (arith, z .unit, z .product, z .parties, ok .few)) })) (from ! (stop !)) (store ! 31 refl (tt, record { fits = (omega (arith, z .unit, z .product, z .parties, ok .few)) })) $
+        assigns ! (bin ! (lit ! tt) (load ! (from ! (stop !)) (look ! 42 refl)) (record { fits = (omega (arith, z .unit, z .product, z .parties, ok .few)) })) (from ! (stop !)) (init ! 29 refl (tt, record { fits = (omega (arith, z .unit, z .product, z .parties, ok .few)) })) $
+        assigns ! (agg ! (and-then ! (lit ! tt) (and-then ! (load ! (from ! (stop !)) (look ! 46 refl)) (and-then ! (load ! (from ! (stop !)) (look ! 33 refl)) (and-then ! (load ! (from ! (stop !)) (look ! 31 refl)) (and-then ! (load ! (from ! (stop !)) (look ! 29 refl)) (no-more !))))))) (from ! (stop !)) (init ! 37 refl (tt, (record { fits = (omega (arith, z .unit, z .product, z .parties, ok .few)) }, (record { fits = (omega (arith, z .unit, z .product, z .parties, ok .few)) }, (record { fits = (omega (arith, z .unit, z .product, z .parties, ok .few)) }, (record { fits = (omega (arith, z .unit, z .product, z .parties, ok .few)) }, (record { fits = (omega (arith, z .unit, z .product, z .parties, ok .few)) }, tt))))))) $
         assigns ! (addr ! (from ! (fld ! refl (hop ! (look-in ! 50 (sub ! 0 refl (whole !))) (stop !))))) (from ! (stop !)) (init ! 27 refl (tt, tt)) $
         assigns ! (agg ! (and-then ! (load ! (from ! (stop !)) (look ! 27 refl)) (and-then ! (load ! (from ! (fld ! refl (stop !))) (look-in ! 50 (sub ! 1 refl (whole !)))) (no-more !)))) (from ! (stop !)) (init ! 25 refl (tt, (tt, (record { fits = room .0 }, tt)))) $
-        assigns ! (bin ! (load ! (from ! (stop !)) (look ! 46 refl)) (load ! (from ! (stop !)) (look ! 40 refl)) ((ok .few))) (from ! (stop !)) (store ! 33 refl (tt, record { fits = (omega (arith, sizes (ok .ready) .unit, sizes (ok .ready) .product, sizes (ok .ready) .parties, ok .few)) })) $
+        assigns ! (bin ! (load ! (from ! (stop !)) (look ! 46 refl)) (load ! (from ! (stop !)) (look ! 40 refl)) ((ok .few))) (from ! (stop !)) (store ! 33 refl (tt, record { fits = (omega (arith, z .unit, z .product, z .parties, ok .few)) })) $
         calls-scratch-plain ! (held-of α l7 γ (κs .0) (qs .0) s) room fm usize (plain (λ _. usize) ∷ plain (λ _. usize) ∷ plain (λ _. usize) ∷ plain (λ _. usize) ∷ plain (λ _. usize) ∷ []) (yes, (yes, (yes, (yes, (yes, tt))))) (pad-sides.clauses 𝓤 H A mem run) known-pad-sides (m₀) (s .now) refl (λ ν. (p, (0, (left, (p, (p - left, tt)))))) (λ ν. (vint w64 p ∷ [], (vint w64 0 ∷ [], (vint w64 left ∷ [], (vint w64 p ∷ [], (vint w64 (p - left) ∷ [], tt)))))) (λ ν δ. tt)
-        (λ ν. owns-make 𝓤 H A (usize ∷ usize ∷ usize ∷ usize ∷ usize ∷ []) (Ises (usize ∷ usize ∷ usize ∷ usize ∷ usize ∷ [])) (uint-makes 𝓤 H A W w64, (uint-makes 𝓤 H A W w64, (uint-makes 𝓤 H A W w64, (uint-makes 𝓤 H A W w64, (uint-makes 𝓤 H A W w64, tt))))) (p, (0, (left, (p, (p - left, tt))))) (vint w64 p ∷ [], (vint w64 0 ∷ [], (vint w64 left ∷ [], (vint w64 p ∷ [], (vint w64 (p - left) ∷ [], tt))))) ((refl, p-fits), ((refl, (omega (arith, sizes (ok .ready) .unit, sizes (ok .ready) .product, sizes (ok .ready) .parties, ok .few))), ((refl, left-fits), ((refl, p-fits), ((refl, (omega (arith, sizes (ok .ready) .unit, sizes (ok .ready) .product, sizes (ok .ready) .parties, ok .few))), tt))))))
+        (λ ν. owns-make 𝓤 H A (usize ∷ usize ∷ usize ∷ usize ∷ usize ∷ []) (Ises (usize ∷ usize ∷ usize ∷ usize ∷ usize ∷ [])) (uint-makes 𝓤 H A W w64, (uint-makes 𝓤 H A W w64, (uint-makes 𝓤 H A W w64, (uint-makes 𝓤 H A W w64, (uint-makes 𝓤 H A W w64, tt))))) (p, (0, (left, (p, (p - left, tt))))) (vint w64 p ∷ [], (vint w64 0 ∷ [], (vint w64 left ∷ [], (vint w64 p ∷ [], (vint w64 (p - left) ∷ [], tt))))) ((refl, p-fits), ((refl, (omega (arith, z .unit, z .product, z .parties, ok .few))), ((refl, left-fits), ((refl, p-fits), ((refl, (omega (arith, z .unit, z .product, z .parties, ok .few))), tt))))))
         (λ ν δ. shown 𝓤 (can-pad ok))
         (λ r1 ys1. Sides-padded p 0 left p (p - left) r1 (s .now) ys1) (λ ν δ r1 ys1 ws. id⊢ 𝓤 _)
         (λ ν δ P. and-then ! (load ! (from ! (stop !)) (look ! 25 refl)) (and-then ! (load ! (from ! (stop !)) (look ! 46 refl)) (and-then ! (lit ! tt) (and-then ! (load ! (from ! (stop !)) (look ! 40 refl)) (and-then ! (load ! (from ! (stop !)) (look ! 46 refl)) (and-then ! (load ! (from ! (stop !)) (look ! 33 refl)) (no-more !))))))) (λ w1 r1 ys1 le1 is1 p1.
@@ -168,9 +172,9 @@ module _ {M : Type 1} (𝓤 : URA M) (H : Heap 𝓤) (A : Atoms 𝓤) (W : Given
         assigns ! (addr ! (from ! (fld ! refl (hop ! (look-in ! 52 (sub ! 0 refl (whole !))) (stop !))))) (from ! (stop !)) (init ! 11 refl (tt, tt)) $
         assigns ! (agg ! (and-then ! (load ! (from ! (stop !)) (look ! 11 refl)) (and-then ! (load ! (from ! (fld ! refl (stop !))) (look-in ! 52 (sub ! 1 refl (whole !)))) (no-more !)))) (from ! (stop !)) (init ! 9 refl (tt, (tt, (record { fits = room .0 }, tt)))) $
         assigns ! (addr ! (from ! (stop !))) (from ! (stop !)) (init ! 7 refl (tt, tt)) $
-        assigns ! (bin ! (lit ! tt) (load ! (from ! (stop !)) (look ! 48 refl)) (record { fits = (omega (arith, sizes (ok .ready) .unit, sizes (ok .ready) .product, sizes (ok .ready) .parties, ok .few)) })) (from ! (stop !)) (store ! 31 refl (tt, record { fits = (omega (arith, sizes (ok .ready) .unit, sizes (ok .ready) .product, sizes (ok .ready) .parties, ok .few)) })) $
+        assigns ! (bin ! (lit ! tt) (load ! (from ! (stop !)) (look ! 48 refl)) (record { fits = (omega (arith, z .unit, z .product, z .parties, ok .few)) })) (from ! (stop !)) (store ! 31 refl (tt, record { fits = (omega (arith, z .unit, z .product, z .parties, ok .few)) })) $
         calls-both-plain ! (held-of α l7 γ (κs .0) (qs .0) s) room fm unit (plain (λ _. usize) ∷ plain (λ _. Bases-T.the-row) ∷ plain (λ _. usize) ∷ []) (yes, (yes, (yes, tt))) (diagonal.clauses 𝓤 H A mem run) (n3) (ys3) le3 (λ ν ν′. (r1, (at₀, (2 * p, tt)))) (λ ν ν′. (vint w64 r1 ∷ [], (Bases-T′.lowered at₀ ∷ [], (vint w64 (2 * p) ∷ [], tt)))) (λ ν δ ν′ δ′. tt) (λ ν δ ν′ δ′. known-diagonal (((ν ∷ [], (ν′ ∷ [], tt)), (fullShare, (fullShare, tt)), tt, (scratch-ref (held-of α l7 γ (κs .0) (qs .0) s) δ ys3, (mark-ref (held-of α l7 γ (κs .0) (qs .0) s) δ′ n3, (r1, (at₀, (2 * p, tt))))), (scratch-val (held-of α l7 γ (κs .0) (qs .0) s) ∷ [], (mark-val (held-of α l7 γ (κs .0) (qs .0) s) ∷ [], (vint w64 r1 ∷ [], (Bases-T′.lowered at₀ ∷ [], (vint w64 (2 * p) ∷ [], tt)))))), tt))
-        (λ ν ν′. owns-make 𝓤 H A (usize ∷ Bases-T.the-row ∷ usize ∷ []) (Ises (usize ∷ Bases-T.the-row ∷ usize ∷ [])) (uint-makes 𝓤 H A W w64, (LL.makes Bases-T.the-type Bases-T′.the-plain 𝓤 H A, (uint-makes 𝓤 H A W w64, tt))) (r1, (at₀, (2 * p, tt))) (vint w64 r1 ∷ [], (Bases-T′.lowered at₀ ∷ [], (vint w64 (2 * p) ∷ [], tt))) ((refl, is1 .1), (at₀-is, ((refl, (omega (arith, sizes (ok .ready) .unit, sizes (ok .ready) .product, sizes (ok .ready) .parties, ok .few))), tt))))
+        (λ ν ν′. owns-make 𝓤 H A (usize ∷ Bases-T.the-row ∷ usize ∷ []) (Ises (usize ∷ Bases-T.the-row ∷ usize ∷ [])) (uint-makes 𝓤 H A W w64, (LL.makes Bases-T.the-type Bases-T′.the-plain 𝓤 H A, (uint-makes 𝓤 H A W w64, tt))) (r1, (at₀, (2 * p, tt))) (vint w64 r1 ∷ [], (Bases-T′.lowered at₀ ∷ [], (vint w64 (2 * p) ∷ [], tt))) ((refl, is1 .1), (at₀-is, ((refl, (omega (arith, z .unit, z .product, z .parties, ok .few))), tt))))
         (λ ν δ ν′ δ′. shown 𝓤 (can-diagonal ok p1 (p2 .0) (p3 .0), omega (arith, can-diagonal ok p1 (p2 .0) (p3 .0) .room, le3, ap (λ (n : Mark). n .there) (p3 .1 ∙ p2 .1))))
         (λ r4 ys4 n4. Diagonal-set r1 0 p (3 * q) (11 * q) (2 * p) (n3 .taken) ys3 (n4 .taken) ys4 × (n4 ≡ n3)) (λ ν δ ν′ δ′ r4 ys4 n4 ws. id⊢ 𝓤 _)
         (λ ν δ ν′ δ′ P. and-then ! (load ! (from ! (stop !)) (look ! 9 refl)) (and-then ! (load ! (from ! (stop !)) (look ! 7 refl)) (and-then ! (load ! (from ! (stop !)) (look ! 37 refl)) (and-then ! (load ! (from ! (stop !)) (look ! 39 refl)) (and-then ! (load ! (from ! (stop !)) (look ! 31 refl)) (no-more !)))))) (λ w4 r4 ys4 n4 le4 is4 p4.
@@ -180,7 +184,7 @@ module _ {M : Type 1} (𝓤 : URA M) (H : Heap 𝓤) (A : Atoms 𝓤) (W : Given
         move ! (0 ∷ 1 ∷ 6 ∷ []) $ mark-unmade ! tt l7 (κs .0) (qs .0) s (n4) α γ $
         returns ! (look ! 52 refl) $ forget ! 0 refl $ forget ! 5 refl $ forget ! 7 refl $ forget ! 9 refl $ forget ! 11 refl $ forget ! 13 refl $ forget ! 15 refl $ forget ! 17 refl $ forget ! 19 refl $ forget ! 21 refl $ forget ! 23 refl $ forget ! 25 refl $ forget ! 27 refl $ forget ! 29 refl $ forget ! 31 refl $ forget ! 33 refl $ forget ! 35 refl $ forget ! 37 refl $ forget ! 40 refl $ forget ! 42 refl $ forget ! 44 refl $ forget ! 46 refl $ forget ! 48 refl $ forget ! 50 refl $ forget ! 52 refl $
         move ! (52 ∷ 53 ∷ []) $ free1 ! $ move ! (50 ∷ 51 ∷ []) $ free1 ! $ move ! (48 ∷ 49 ∷ []) $ free1 ! $ move ! (46 ∷ 47 ∷ []) $ free1 ! $ move ! (44 ∷ 45 ∷ []) $ free1 ! $ move ! (42 ∷ 43 ∷ []) $ free1 ! $ move ! (40 ∷ 41 ∷ []) $ free1 ! $ move ! (0 ∷ 39 ∷ []) $ free1 ! $ move ! (36 ∷ 37 ∷ []) $ free1 ! $ move ! (34 ∷ 35 ∷ []) $ free1 ! $ move ! (32 ∷ 33 ∷ []) $ free1 ! $ move ! (30 ∷ 31 ∷ []) $ free1 ! $ move ! (28 ∷ 29 ∷ []) $ free1 ! $ move ! (26 ∷ 27 ∷ []) $ free1 ! $ move ! (24 ∷ 25 ∷ []) $ free1 ! $ move ! (22 ∷ 23 ∷ []) $ free1 ! $ move ! (20 ∷ 21 ∷ []) $ free1 ! $ move ! (18 ∷ 19 ∷ []) $ free1 ! $ move ! (16 ∷ 17 ∷ []) $ free1 ! $ move ! (14 ∷ 15 ∷ []) $ free1 ! $ move ! (12 ∷ 13 ∷ []) $ free1 ! $ move ! (10 ∷ 11 ∷ []) $ free1 ! $ move ! (8 ∷ 9 ∷ []) $ free1 ! $ move ! (6 ∷ 7 ∷ []) $ free1 ! $ move ! (4 ∷ 5 ∷ []) $ free1 ! $ free0 ! $
-        move ! (3 ∷ []) $ drop ! $ by ! (leaves 𝓤 H A W 1 usize ps (yes, (yes, (yes, (yes, (yes, tt))))) (prepare.clauses 𝓤 H A mem run) κs qs s (list, (p, (d, (q, (left, tt))))) (slice-vals list, (vint w64 p ∷ [], (vint w64 d ∷ [], (vint w64 q ∷ [], (vint w64 left ∷ [], tt))))) tt (vint w64 r1) r1 ys4 (tt, (tt, (tt, (tt, (tt, tt))))) le4 (uint-makes 𝓤 H A W w64 r1 _ (refl, is1 .1)) (shown 𝓤 (subst (λ (u : ℕ). Prepared p d q r1 u (list .now) ys4) (ap (λ (n : Mark). n .taken) (p4 .1 ∙ p3 .1 ∙ p2 .1)) (prepared ok p1 (p2 .0) (p3 .0) (p4 .0)), prepared-length ok p1 (p2 .0) (p3 .0) (p4 .0))))))))))))))))))))))))))))))))))
+        move ! (3 ∷ []) $ drop ! $ by ! (leaves 𝓤 H A W 1 usize ps (yes, (yes, (yes, (yes, (yes, tt))))) (prepare.clauses 𝓤 H A mem run) κs qs s (list, (p, (d, (q, (left, tt))))) (slice-vals list, (vint w64 p ∷ [], (vint w64 d ∷ [], (vint w64 q ∷ [], (vint w64 left ∷ [], tt))))) tt (vint w64 r1) r1 ys4 (tt, (tt, (tt, (tt, (tt, tt))))) le4 (uint-makes 𝓤 H A W w64 r1 _ (refl, is1 .1)) (shown 𝓤 (prepared ok p1 (p2 .0) (p3 .0) (p4 .0), prepared-length ok p1 (p2 .0) (p3 .0) (p4 .0))))))))))))))))))))))))))))))))))
 
 prepare-meets : {M : Type 1} (𝓤 : URA M) (H : Heap 𝓤) (A : Atoms 𝓤) → Given 𝓤 H A → (mem : Memory → SProp 𝓤) (run : Routine → Fun 𝓤) (𝓣 : Tables 𝓤 H)
     → Triple 𝓤 (𝓣 .C #evening·pad-sides) (PadSidesC 𝓤 H A mem run) → Triple 𝓤 (𝓣 .C #evening·pairs-from-list) (PairsFromListC 𝓤 H A mem run) → Triple 𝓤 (𝓣 .C #evening·even-out) (EvenOutC 𝓤 H A mem run) → Triple 𝓤 (𝓣 .C #evening·diagonal) (DiagonalC 𝓤 H A mem run)

@@ -1,20 +1,21 @@
-use mathlib.Core.Path.{_≡_, refl, sym, _∙_, ap}
+use mathlib.Core.Path.{_∙_}
 use native.Mathlib.Omega.{arith}
-use Rattle.planning.proofs.WorkingOut.{can-two-color, two-colored, worked-none, worked-odd, worked-plan}
+use Rattle.two_color.proofs.Passing.{passed-can-color}
+use Rattle.planning.proofs.WorkingOut.{two-colored, worked-none, worked-odd, worked-plan}
 use borrow.Author.Needs.{needs}
 use Rattle.planning.proofs.work_out.Statement.{statement}
 use Rattle.planning.proofs.work_out.Tie as tie
 
 returns : tie.Need-returns
-returns c =
-    worked-none (c .before .before .before .before .args .p) (c .before .before .before .before .args .d) (c .before .before .before .before .args .list .now) (c .before .before .before .before .args .slots .now) (c .before .before .before .before .pre .0) (omega arith)
+returns c = worked-none (c .before .before .before .before .pre .0) (omega arith)
 
 two-sides-requires : tie.Need-two-sides-requires
-two-sides-requires c κs = can-two-color (c .before .before .before .before .before .pre .0)
+two-sides-requires c κs =
+    let ready = c .before .before .before .before .before .pre .0 in
+    passed-can-color _ (ready .largest) (ready .checked)
 
 returns-2 : tie.Need-returns-2
-returns-2 c =
-    worked-odd (c .before .before .before .before .before .before .before .before .before .before .args .p) (c .before .before .before .before .before .before .before .before .before .before .args .d) (c .before .before .before .before .before .before .before .before .before .before .args .list .now) (c .before .before .before .before .before .before .before .before .before .before .args .slots .now) (rw (c .enum-told .given .1) at (c .before .before .before .before .two-sides .ensures))
+returns-2 c = worked-odd (rw (c .enum-told .given .1) at (c .before .before .before .before .two-sides .ensures))
 
 prepare-requires : tie.Need-prepare-requires
 prepare-requires c κs =
@@ -22,7 +23,8 @@ prepare-requires c κs =
 
 returns-3 : tie.Need-returns-3
 returns-3 c =
-    worked-plan (c .before .before .before .before .before .before .before .before .before .before .before .before .before .before .before .before .before .before .before .before .before .before .args .p) (c .before .before .before .before .before .before .before .before .before .before .before .before .before .before .before .before .before .before .before .before .before .before .args .d) (c .before .before .before .before .before .before .before .before .before .before .before .before .before .before .before .before .before .before .before .before .before .before .args .list .now) (c .before .before .before .before .before .before .before .before .before .before .before .before .before .before .before .before .before .before .before .before .before .before .args .slots .now) (c .before .before .before .before .before .before .before .before .before .prepare .ensures .1 ∙ c .before .before .before .before .before .before .before .before .before .before .before .before .before .before .before .before .two-sides .ensures .keeps .len) (c .before .before .before .before .color-and-give .ensures)
+    let colored = c .before .before .before .before .before .before .before .before .before .before .before .before .before .before .before .before .two-sides .ensures in
+    worked-plan (c .before .before .before .before .before .before .before .before .before .prepare .ensures .1 ∙ colored .keeps .len) (c .before .before .before .before .color-and-give .ensures)
 
 pub work-out-spec : {M : Type 1} → statement M
 work-out-spec =

@@ -1,9 +1,10 @@
 -- `slots::pair_in` meets its contract: word j of the stretch is the matching's number j. Assumes nothing.
+use Prim.Native.Nat.{_+_, _*_}
 use native.Mathlib.Omega.{arith}
 use native.Mathlib.Nat.{add-assoc}
 use lib.ListN.{length-take, length-drop}
-use Rattle.edge_color.proofs.Placed.{stretch-word}
 use borrow.Author.Needs.{needs}
+use Rattle.words.proofs.Frames.{stretch-word}
 use Rattle.slots.proofs.pair_in.Statement.{statement}
 use Rattle.slots.proofs.pair_in.Tie as tie
 
@@ -15,7 +16,7 @@ returns : tie.Need-returns
 returns c =
     let a = c .before .before .before .args in
     rw (c .before .matching .ensures, ← add-assoc)
-    (stretch-word (a .s .now) (a .out) (a .n) (a .z) (a .j) (omega arith))
+    (stretch-word (a .s .now) (a .out + a .n * a .z) (a .n) (a .j) (omega arith))
 
 pub pair-in-spec : {M : Type 1} → statement M
 pair-in-spec = tie.close (tie.spec (λ c κs. search needs) (λ c. search needs) in-stretch returns)

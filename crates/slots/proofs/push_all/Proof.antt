@@ -4,8 +4,9 @@ use Prim.Native.Nat.{_-_, _≤_}
 use mathlib.Core.Path.{_≡_, refl, _∙_}
 use native.Mathlib.Omega.{arith}
 use lib.ListN.{length}
+use Rattle.words.proofs.Below.{row-end}
 use Rattle.slots.specs.Steps.{all-pushed}
-use Rattle.slots.proofs.StepLaws.{matching-within, all-pushed-more}
+use Rattle.slots.proofs.StepLaws.{all-pushed-more}
 use borrow.Author.Needs.{needs}
 use Rattle.slots.proofs.push_all.Statement.{statement}
 use Rattle.slots.proofs.push_all.Tie as tie
@@ -22,7 +23,7 @@ loop-holds c = (search needs, refl, refl)
 
 push-matching-requires : tie.Need-push-matching-requires Inv-loop μ-loop
 push-matching-requires c κs =
-    let x = matching-within (c .before .before .before .before .args .n) (c .before .before .loop .z) (c .before .before .before .before .args .d) (c .before .loop-test .taken) in
+    let x = row-end (c .before .before .before .before .args .n) (c .before .before .loop .z) (c .before .before .before .before .args .d) (c .before .loop-test .taken) in
     search needs
 
 loop-again : tie.Need-loop-again Inv-loop μ-loop

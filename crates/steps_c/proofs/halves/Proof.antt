@@ -48,7 +48,7 @@ use Rattle.steps_c.proofs.halves as halves
 use Rattle.steps_c.proofs.halves.Statement as stated
 use Rattle.steps_c.proofs.halves.Code as code
 
--- the parameters after the scratch and the mark
+-- the parameters after the scratch
 abbrev ps : List (Slot 1)
 ps = plain (λ _. usize) ∷ plain (λ _. usize) ∷ plain (λ _. usize) ∷ plain (λ _. usize) ∷ plain (λ _. usize) ∷ []
 

@@ -1,4 +1,4 @@
--- `steps_c::two_sides` meets its contract: a walk of its MIR, by hand, over the rules of `mark`.
+-- `two_color::two_sides` meets its contract: a walk of its MIR, by hand, over the rules of `mark`.
 -- Assumes nothing.
 use mathlib.Core.Path.{_≡_, refl, subst, ap, _∙_}
 use Prim.Native.Nat.{ℕ, _<_, _^_, _*_}
@@ -42,19 +42,19 @@ use Rattle.mark.specs.Taking.{taken-more}
 use Rattle.mark.proofs.Lending.{Lent, scratch-own, mark-val, scratch-val, calls-both, scratch-ref, mark-ref}
 use Rattle.mark.proofs.Marking.{shown}
 use Rattle.mark.proofs.Holding.{held-of, mark-made, mark-unmade, leaves, meets, Post, at-entry}
 use Rattle.two_color.proofs.TwoColoring as TwoColoring-T
 use Rattle.two_color.proofs.TwoColoring.Laws as TwoColoring-T′
 use Rattle.two_color.proofs.two_color as two-color
 use Rattle.two_color.proofs.two_color.Symbol as two-color-def
 use Rattle.two_color.proofs.two_color.Symbol.{name as #two-color·two-color}
 use Rattle.two_color.proofs.two_color.Met as two-color-thm
 use Rattle.two_color.specs.Contract.{Can-color, Colored}
-use Rattle.steps_c.proofs.two_sides.Key.{name as #steps-c·two-sides}
-use Rattle.steps_c.proofs.two_sides as two-sides
-use Rattle.steps_c.proofs.two_sides.Statement as stated
-use Rattle.steps_c.proofs.two_sides.Code as code
+use Rattle.two_color.proofs.two_sides.Key.{name as #two-color·two-sides}
+use Rattle.two_color.proofs.two_sides as two-sides
+use Rattle.two_color.proofs.two_sides.Statement as stated
+use Rattle.two_color.proofs.two_sides.Code as code
 
--- the parameters after the scratch and the mark
+-- the parameters after the scratch
 abbrev ps : List (Slot 2)
 ps = plain (λ _. usize) ∷ plain (λ _. usize) ∷ shrSlice 1 tt (λ _. u16) ∷ []
 
@@ -124,6 +124,6 @@ pub two-sides-spec : {M : Type 1} → stated.statement M
 unfolding code.routine tablesOf
 two-sides-spec 𝓤 H 𝓜 𝓖 𝓡 =
     entered 𝓤 H (tripleOf 𝓤 H (𝓖 .A) two-sides.signature (two-sides.spec 𝓤 H (𝓖 .A) (𝓜 .mem) (𝓡 .run)))
-    (tables 𝓤 H 𝓜 𝓡 code.env .C) (tables 𝓤 H 𝓜 𝓡 code.env .Λ) #steps-c·two-sides code.function (code.unfolded 𝓤 H 𝓜 𝓡)
+    (tables 𝓤 H 𝓜 𝓡 code.env .C) (tables 𝓤 H 𝓜 𝓡 code.env .Λ) #two-color·two-sides code.function (code.unfolded 𝓤 H 𝓜 𝓡)
     (two-sides-meets 𝓤 H (𝓖 .A) (givenOf 𝓤 H 𝓜 𝓖) (𝓜 .mem) (𝓡 .run) (tablesOf 𝓤 H 𝓜 (tables 𝓤 H 𝓜 𝓡 code.env))
     (cited 𝓤 H (TwoColorC 𝓤 H (𝓖 .A) (𝓜 .mem) (𝓡 .run)) 𝓜 𝓡 code.env #two-color·two-color two-color-def.routine code.calls-two-color·two-color (two-color-thm.met 𝓤 H 𝓜 𝓖 𝓡)))

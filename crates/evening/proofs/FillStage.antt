@@ -1,0 +1,276 @@
+-- A step of evening out that fills two short parties: the pair that gets the copies is the one between them, or new, and the words
+-- are those of the next state. Assumes nothing.
+use Prim.Native.Nat.{ℕ, _+_, _*_, _-_, _/_, _≤_, _<_, min}
+use mathlib.Core.Path.{_≡_, sym, _∙_, ap}
+use mathlib.Core.List.{List, _∷_}
+use mathlib.Core.Logic.{_⊎_, inl, inr, ⊎-elim}
+use native.Mathlib.Omega.{arith}
+use native.Mathlib.Decide.{ℕ-discrete, decLt, decLe}
+use lib.ListN.{length, drop, List·getD-eq-default}
+use Rattle.words.specs.Basics.{is, count}
+use Rattle.words.specs.Words.{word}
+use Rattle.words.specs.Frames.{Changes-three}
+use Rattle.words.proofs.Ranges.{three-trans, three-within, three-low}
+use Rattle.two_color.specs.Contract.{region}
+use Rattle.multigraph.specs.Multigraph.{Graph, add-edge}
+use Rattle.multigraph.specs.Regular.{degree}
+use Rattle.multigraph.specs.Places.{size, number}
+use Rattle.multigraph.proofs.Ends.{same-ends-sym, same-ends-trans}
+use Rattle.evening.specs.Evening.{Evening, evening, even-out-step}
+use Rattle.evening.specs.Contract.{first-of, second-of, Has-ends, Can-even}
+use Rattle.evening.specs.Steps.{plain-graph, Pair-fits, Pair-added, row, Rows-filled, Joins, shortfall, Filled}
+use Rattle.evening.proofs.EvenSteps.{added-left, added-right, added-else, next-fill}
+use Rattle.evening.proofs.PlainLaws.{Graph-kept, graph-kept, has-ends-kept, plain-kept, graph-kept-by}
+use Rattle.evening.proofs.RepsLaws.{half-of}
+use Rattle.evening.proofs.FillingWords.{Raised, raised}
+use Rattle.evening.proofs.StageWords.{Stage, Known, known}
+
+module _ (list : List ℕ) (d n left right ends apair g u : ℕ) (first : List ℕ)
+    (h : Can-even list d n left right ends apair g u first) (s₁ : List ℕ)
+    (x : Rows-filled list (n + n) d u (u + (n + n)) (length list) first s₁) (E : Evening) (i j : ℕ) (s : List ℕ)
+    (st : Stage list d n left right ends apair g u first h s₁ x E i j s) (a : i < n)
+    (ne-l : word s (u + word s (left + i)) ≡ d → ⊥) (b : j < n) (ne-r : word s (u + word s (right + j)) ≡ d → ⊥) (t : List ℕ)
+    (F : Filled list d ends apair g u (u + (n + n) + d * word s (left + i)) (word s (left + i)) (word s (right + j)) s t) where
+  abbrev lefts : List ℕ
+  lefts = region first left n
+
+  abbrev rights : List ℕ
+  rights = region first right n
+
+  abbrev l : ℕ
+  l = word s (left + i)
+
+  abbrev r : ℕ
+  r = word s (right + j)
+
+  abbrev more : ℕ
+  more = shortfall d u l r s
+
+  abbrev G : Graph
+  G = E .graph
+
+  K : Known list d n left right ends apair g u first h s₁ x E i j s st
+  K = known list d n left right ends apair g u first h s₁ x E i j s st
+
+  l-below : l < n + n
+  l-below = K .left-side a .0
+
+  r-below : r < n + n
+  r-below = K .right-side b .0
+
+  l-short : word s (u + l) < d
+  l-short = omega (arith, K .left-degree a, st .evens .most l l-below, ne-l)
+
+  r-short : word s (u + r) < d
+  r-short = omega (arith, K .right-degree b, st .evens .most r r-below, ne-r)
+
+  apart : l ≡ r → ⊥
+  apart q = omega (arith, K .left-side a .1, K .right-side b .1, ap (h .side) q)
+
+  -- an appointment with these ends is in the list
+  joined-inside : (k : ℕ) → Joins list k l r → k < length list / 2
+  joined-inside k q =
+      elim (decLt k (length list / 2)) [
+        | yes y ↦ y
+        | no y ↦
+            let x0 : word list (2 * k) ≡ 0 = List·getD-eq-default list 0 (omega (arith, h .even)) in
+            let y0 : word list (2 * k + 1) ≡ 0 = List·getD-eq-default list 0 (omega (arith, h .even)) in
+            absurd (apart (⊎-elim (λ z. omega (arith, z .0, z .1)) (λ z. omega (arith, z .0, z .1)) q))
+      ]
+
+  -- and its pair has them
+  pair-there : (k : ℕ) → Joins list k l r → (word s (apair + k) < size s g) × Has-ends s ends (word s (apair + k)) l r
+  pair-there k q =
+      let inside : k < length list / 2 = joined-inside k q in
+      let below : word first (apair + k) < size first g = h .paired .number-of k inside in
+      let own : Has-ends first ends (word first (apair + k)) l r = same-ends-trans q (h .paired .ends-of k inside) in
+      rw (K .pair-of k inside)
+      (omega (arith, st .grown), rw (st .firsts (word first (apair + k)) below, st .seconds (word first (apair + k)) below) own)
+
+  -- a pair of the list with these ends has an appointment among the half-edges of l
+  old-joined :
+      (e : ℕ) → e < size first g → Has-ends s ends e l r →
+      (k : ℕ) × (k < d) × Joins list (word s (u + (n + n) + d * l + k) / 2) l r
+  old-joined e below q =
+      let own : Has-ends first ends e l r = rw (st .firsts e below, st .seconds e below) at q in
+      let k = h .paired .every e below in
+      let its : Has-ends first ends e (first-of list (k .0)) (second-of list (k .0)) = rw (k .2) at (h .paired .ends-of (k .0) (k .1)) in
+      let joins : Joins list (k .0) l r = same-ends-trans own (same-ends-sym its) in
+      let f = half-of list (k .0) l r joins in
+      let f-below : f .0 < length list = omega (arith, f .1 .of, k .1, h .even) in
+      let at = x .filled .there (f .0) f-below in
+      let at-below : at .0 < word s₁ (u + l) = rw (f .1 .own) at (at .1) in
+      let at-is : row s₁ (u + (n + n)) d l (at .0) ≡ f .0 = rw (f .1 .own) at (at .2) in
+      let is : word s (u + (n + n) + d * l + at .0) ≡ f .0 = K .row-of l (at .0) ∙ at-is in
+      (at .0, omega (arith, at-below, K .row-end l l-below), rw (is, f .1 .of) joins)
+
+  -- a pair that was added since has a full end
+  not-new : (e : ℕ) → size first g ≤ e → e < size s g → Has-ends s ends e l r → ⊥
+  not-new e low below q =
+      ⊎-elim
+      (λ y. ⊎-elim (λ z. ne-l (rw (z .0) at y)) (λ z. ne-r (rw (z .0) at y)) q)
+      (λ y. ⊎-elim (λ z. ne-r (rw (z .1) at y)) (λ z. ne-l (rw (z .1) at y)) q) (st .new-full e low below)
+
+  number-cases :
+      ((F .number < size s g) × Has-ends s ends (F .number) l r)
+      ⊎ ((F .number ≡ size s g) × ((e : ℕ) → e < size s g → Has-ends s ends e l r → ⊥))
+  number-cases =
+      ⊎-elim
+      (λ y. inl (rw (y .3) (pair-there (word s (u + (n + n) + d * l + y .0) / 2) (y .2))))
+      (λ y.
+      inr (
+        y .1,
+        λ e below q.
+            elim (decLt e (size first g)) [
+              | yes old ↦ let k = old-joined e old q in y .0 (k .0) (k .1) (k .2)
+              | no new ↦ not-new e (omega arith) below q
+            ],
+      ))
+      (F .found)
+
+  room : size s g + 1 ≤ n * d + n
+  room = omega (arith, K .few)
+
+  fits : Pair-fits ends g (F .number) l r more s
+  fits =
+      record {
+        plain = st .plain;
+        there = λ y. ⊎-elim (λ z. z .1) (λ z. absurd (omega (arith, z .0))) number-cases;
+        new = λ y. ⊎-elim (λ z. absurd (omega (arith, z .0))) (λ z. z .1) number-cases;
+        next = ⊎-elim (λ z. omega (arith, z .0)) (λ z. omega (arith, z .0)) number-cases;
+        after-ends = omega (arith, room, K .low);
+        inside = omega (arith, room, h .after-graph, h .room, K .len);
+        small = omega (arith, room, h .after-graph, h .low);
+        left-small = omega (arith, l-below, h .low);
+        right-small = omega (arith, r-below, h .low);
+        light = λ e y. omega (arith, K .copies e y, h .few);
+        few = omega (arith, h .few);
+      }
+
+  A : Pair-added ends g (F .number) l r more s (F .added)
+  A = F .adds fits
+
+  R : Raised u l r more s (F .added) t
+  R =
+      raised u l r more s (F .added) t (F .degrees) apart (omega (arith, l-below, h .room, A .changes .len, K .len))
+      (omega (arith, r-below, h .room, A .changes .len, K .len)) (omega (arith, l-short, h .few)) (omega (arith, r-short, h .few))
+
+  t-low : (k : ℕ) → k < u → word t k ≡ word (F .added) k
+  t-low k y = R .elsewhere k (λ q. omega arith) (λ q. omega arith)
+
+  added-high : (k : ℕ) → u ≤ k → word (F .added) k ≡ word s k
+  added-high k y = A .changes .over k (omega (arith, room, h .after-graph))
+
+  kept-t : Graph-kept ends g (F .added) t
+  kept-t =
+      graph-kept-by ends g (n * d + n) (F .added) t (omega (arith, room, A .by-one)) (K .low)
+      (λ k y z. t-low k (omega (arith, K .low, h .after-graph))) (λ k y z. t-low k (omega (arith, h .after-graph)))
+
+  abbrev bigger : Graph
+  bigger = add-edge G l r (min (d - degree l G) (d - degree r G)) 0
+
+  more-is : more ≡ min (d - degree l G) (d - degree r G)
+  more-is = rw (K .left-degree a, K .right-degree b)
+
+  step-is : even-out-step d E ≡ evening bigger (l ∷ drop (i + 1) lefts) (r ∷ drop (j + 1) rights)
+  step-is =
+      rw (K .lefts-are a, K .rights-are b)
+      (next-fill d G l (drop (i + 1) lefts) r (drop (j + 1) rights) (λ q. ne-l (K .left-degree a ∙ q)) (λ q. ne-r (K .right-degree b ∙ q)))
+
+  graph-is : even-out-step d E .graph ≡ bigger
+  graph-is = ap (λ (z : Evening). z .graph) step-is
+
+  graph' : plain-graph t ends g ≡ bigger
+  graph' = graph-kept ends g (F .added) t kept-t ∙ A .graph ∙ rw (st .graph, more-is)
+
+  degrees' : (v : ℕ) → v < n + n → word t (u + v) ≡ degree v bigger
+  degrees' v y =
+      elim (ℕ-discrete v l) [
+        | yes q ↦
+            rw q
+            (omega (arith, R .left, K .left-degree a, more-is, added-left G l r (min (d - degree l G) (d - degree r G)) apart))
+        | no q ↦
+            elim (ℕ-discrete v r) [
+              | yes p ↦
+                  rw p
+                  (omega (arith, R .right, K .right-degree b, more-is, added-right G l r (min (d - degree l G) (d - degree r G)) apart))
+              | no p ↦
+                  R .elsewhere (u + v) (λ z. q (omega arith)) (λ z. p (omega arith)) ∙ added-high (u + v) (omega arith)
+                  ∙ st .degrees v y ∙ sym (added-else G l r (min (d - degree l G) (d - degree r G)) apart v q p)
+            ]
+      ]
+
+  -- a full party is neither l nor r
+  full-stays : (v : ℕ) → word s (u + v) ≡ d → word t (u + v) ≡ d
+  full-stays v y =
+      R .elsewhere (u + v) (λ z. ne-l (rw (same-party v l z) at y)) (λ z. ne-r (rw (same-party v r z) at y))
+      ∙ added-high (u + v) (omega arith) ∙ y
+    where
+      same-party : (v w : ℕ) → u + v ≡ u + w → v ≡ w
+      same-party v w z = omega arith
+
+  one-full : (word t (u + l) ≡ d) ⊎ (word t (u + r) ≡ d)
+  one-full =
+      elim (decLe (word s (u + l)) (word s (u + r))) [
+        | yes y ↦ inr (omega (arith, R .right, l-short, r-short))
+        | no y ↦ inl (omega (arith, R .left, l-short, r-short))
+      ]
+
+  added-first : (e : ℕ) → e < size s g → word t (ends + 2 * e) ≡ word s (ends + 2 * e)
+  added-first e y =
+      t-low (ends + 2 * e) (omega (arith, room, K .low, h .after-graph)) ∙ A .changes .under (ends + 2 * e) (omega arith)
+
+  added-second : (e : ℕ) → e < size s g → word t (ends + 2 * e + 1) ≡ word s (ends + 2 * e + 1)
+  added-second e y =
+      t-low (ends + 2 * e + 1) (omega (arith, room, K .low, h .after-graph))
+      ∙ A .changes .under (ends + 2 * e + 1) (omega arith)
+
+  last-full :
+      (e : ℕ) → Has-ends t ends e l r →
+      (word t (u + word t (ends + 2 * e)) ≡ d) ⊎ (word t (u + word t (ends + 2 * e + 1)) ≡ d)
+  last-full e q =
+      ⊎-elim
+      (λ z. rw (z .0, z .1) one-full)
+      (λ z. rw (z .0, z .1) (⊎-elim (λ y. inr y) (λ y. inl y) one-full)) q
+
+  new-full' :
+      (e : ℕ) → size first g ≤ e → e < size t g →
+      (word t (u + word t (ends + 2 * e)) ≡ d) ⊎ (word t (u + word t (ends + 2 * e + 1)) ≡ d)
+  new-full' e low below =
+      elim (decLt e (size s g)) [
+        | yes y ↦
+            rw (added-first e y, added-second e y)
+            (⊎-elim (λ z. inl (full-stays (word s (ends + 2 * e)) z)) (λ z. inr (full-stays (word s (ends + 2 * e + 1)) z))
+            (st .new-full e low y))
+        | no y ↦
+            let its : F .number ≡ e =
+            ⊎-elim
+            (λ z. absurd (omega (arith, A .same-size (z .0), kept-t .count)))
+            (λ z. omega (arith, z .0, A .by-one, kept-t .count)) number-cases in
+            last-full e (rw its at (has-ends-kept ends g (F .added) t kept-t (F .number) l r (A .its-number) (A .its-ends)))
+      ]
+
+  changes' : (mark : ℕ) → Changes-three ends (2 * (n * d + n)) g (2 + 2 * (n * d + n)) u (n + n) mark s t
+  changes' mark =
+      three-trans
+      (three-low ends (2 * (n * d + n)) g (2 + 2 * (n * d + n)) u (n + n) mark (omega arith) (omega (arith, room)) (K .low) (omega arith)
+      (omega (arith, room)) (omega (arith, h .after-graph)) (A .changes))
+      (three-within ends (2 * (n * d + n)) g (2 + 2 * (n * d + n)) u (n + n) mark (F .added) t (K .low) (omega (arith, h .after-graph))
+      (R .len)
+      (λ k m y z w. R .elsewhere k (λ q. w (omega arith) (omega (arith, l-below))) (λ q. w (omega arith) (omega (arith, r-below)))))
+
+  pub stage-fill : Stage list d n left right ends apair g u first h s₁ x (even-out-step d E) i j t
+  stage-fill =
+      record {
+        left-rest = ap (λ (z : Evening). z .left) step-is ∙ sym (K .lefts-are a) ∙ st .left-rest;
+        right-rest = ap (λ (z : Evening). z .right) step-is ∙ sym (K .rights-are b) ∙ st .right-rest;
+        graph = graph' ∙ sym graph-is;
+        plain = plain-kept ends g (F .added) t kept-t (A .plain);
+        degrees = λ v y. degrees' v y ∙ ap (degree v) (sym graph-is);
+        evens = K .evens;
+        grown = omega (arith, st .grown, A .grown, kept-t .count);
+        new-full = new-full';
+        firsts = λ e y. added-first e (omega (arith, st .grown)) ∙ st .firsts e y;
+        seconds = λ e y. added-second e (omega (arith, st .grown)) ∙ st .seconds e y;
+        changes = λ mark. three-trans (st .changes mark) (changes' mark);
+      }

@@ -1,0 +1,138 @@
+-- The pairs of a list over words: rows and representatives are ready, and after all appointments the graph is the list's. Assumes
+-- nothing.
+use Prim.Native.Nat.{ℕ, _+_, _*_, _/_, _≤_, _<_}
+use mathlib.Core.Path.{_≡_, refl, sym, _∙_, ap}
+use mathlib.Core.List.{List, []}
+use native.Mathlib.Omega.{arith}
+use lib.ListN.{length, take}
+use lib.Seq.{take-all}
+use Rattle.words.specs.Basics.{count}
+use Rattle.words.specs.Words.{word, put-word}
+use Rattle.words.specs.Frames.{Changes-three}
+use Rattle.words.proofs.Ranges.{changes-stays, three-trans, three-keeps, three-within, three-middle}
+use Rattle.words.proofs.Frames.{here, away, length-put}
+use Rattle.appointments.specs.Appointments.{appts}
+use Rattle.appointments.proofs.Flat.{appts-count, load-count}
+use Rattle.multigraph.specs.Places.{size}
+use Rattle.multigraph.specs.Steps.{span}
+use Rattle.evening.specs.Evening.{add-appointments}
+use Rattle.evening.specs.Contract.{Can-pair, Pairs-made}
+use Rattle.evening.specs.Steps.{Rows-fit, Rows-filled, Reps-fit, Reps-done, Building, Built}
+use Rattle.evening.proofs.PlainLaws.{plain-is}
+use Rattle.evening.proofs.RepsLaws.{rep-of}
+use Rattle.evening.proofs.Listed.{listed-half}
+
+module _ (list : List ℕ) (p d ends apair g u : ℕ) (s : List ℕ) (h : Can-pair list p d ends apair g u s) where
+  halves : (f : ℕ) → f < length list → word list f < p
+  halves = listed-half list p (h .even) (h .listed)
+
+  counts : (v : ℕ) → v < p → count v list ≤ d
+  counts v a = omega (arith, h .loads v a, load-count v list (h .even))
+
+  pub rows-fit : Rows-fit list p d u (u + p) s
+  rows-fit =
+      record {
+        ends = halves;
+        loads = counts;
+        after = omega arith;
+        inside = omega (arith, h .room);
+        small = omega (arith, h .low);
+        short = h .short;
+      }
+
+  pub reps-fit : (t : List ℕ) → Rows-filled list p d u (u + p) (length list) s t → Reps-fit list p d u (u + p) (u + p + d * p) apair t
+  reps-fit t x =
+      record {
+        in-rows = x .filled;
+        lens = λ v a. omega (arith, x .filled .lens v a, ap (count v) (take-all (length list) list (omega arith)), counts v a);
+        ends = halves;
+        even = h .even;
+        short = h .short;
+        before = omega (arith, h .after-apair, h .after-graph);
+        after = omega arith;
+        after-rows = omega arith;
+        inside = omega (arith, h .room, x .keeps .len);
+        small = omega (arith, h .low);
+      }
+
+  module _ (t r o : List ℕ) (x : Rows-filled list p d u (u + p) (length list) s t) (y : Reps-done list p (u + p + d * p) apair p t r)
+      (z : o ≡ put-word (put-word r g g) (g + 1) 0) where
+    mid : List ℕ
+    mid = put-word r g g
+
+    o-len : length o ≡ length s
+    unfolding mid
+    o-len = ap length z ∙ length-put mid (g + 1) 0 ∙ length-put r g g ∙ y .changes .len ∙ x .keeps .len
+
+    o-away : (i : ℕ) → (i ≡ g → ⊥) → (i ≡ g + 1 → ⊥) → word o i ≡ word r i
+    unfolding mid
+    o-away i a b = rw z (away mid (g + 1) i 0 b ∙ away r g i g a)
+
+    o-header : word o g ≡ g
+    unfolding mid
+    o-header =
+        rw z
+        (away mid (g + 1) g 0 (λ q. omega arith)
+        ∙ here r g g (omega (arith, h .after-graph, h .room, y .changes .len, x .keeps .len)) (omega (arith, h .after-graph, h .low)))
+
+    o-size : size o g ≡ 0
+    unfolding mid
+    o-size =
+        rw z
+        (here mid (g + 1) 0 (omega (arith, h .after-graph, h .room, y .changes .len, x .keeps .len, length-put r g g)) (omega arith))
+
+    pub started : Building list ends apair g 0 o
+    unfolding span add-appointments
+    started =
+        record {
+          graph = rw o-size;
+          plain =
+              record {
+                header = o-header;
+                numbers = λ e a. absurd (omega (arith, o-size));
+                distinct = record { distinct = λ e f a b k. absurd (omega (arith, o-size)) };
+              };
+          few = omega (arith, o-size);
+          number-of = λ i a. absurd (omega arith);
+          ends-of = λ i a. absurd (omega arith);
+          every = λ e a. absurd (omega (arith, o-size));
+          reps =
+              λ i a b.
+              rw (o-away (apair + i) (λ q. omega (arith, h .after-apair)) (λ q. omega (arith, h .after-apair)))
+              (rep-of list p d u (u + p) (u + p + d * p) apair t (reps-fit t x) r y i b);
+          after-ends = h .after-ends;
+          after-apair = h .after-apair;
+          inside = omega (arith, o-len, h .after-graph, h .room);
+          small = omega (arith, h .after-graph, h .low);
+          short = h .short;
+        }
+
+    -- up to here
+    prepared : Changes-three ends (2 * (length list / 2)) apair (length list / 2) g (2 + 2 * (length list / 2)) u s o
+    prepared =
+        three-trans (three-keeps ends (2 * (length list / 2)) apair (length list / 2) g (2 + 2 * (length list / 2)) (x .keeps))
+        (three-trans
+        (three-middle ends (2 * (length list / 2)) g (2 + 2 * (length list / 2)) (h .after-ends) (h .after-apair)
+        (changes-stays u (omega arith) (y .changes)))
+        (three-within ends (2 * (length list / 2)) apair (length list / 2) g (2 + 2 * (length list / 2)) u r o (h .after-ends) (h .after-apair)
+        (o-len ∙ sym (y .changes .len ∙ x .keeps .len))
+        (λ i m a b c. o-away i (λ q. c (omega arith) (omega arith)) (λ q. c (omega arith) (omega arith)))))
+
+    pub pairs-made : (e : List ℕ) → Built list ends apair g (length list / 2) o e → Pairs-made list ends apair g u s u e
+    pairs-made e b =
+        record {
+          paired =
+              record {
+                graph = λ pairs few. plain-is ends pairs g e (b .building .plain) few ∙ b .building .graph ∙ ap (add-appointments []) whole;
+                plain = b .building .plain;
+                few = b .building .few;
+                number-of = b .building .number-of;
+                ends-of = b .building .ends-of;
+                every = b .building .every;
+              };
+          mark = refl;
+          changes = three-trans prepared (b .changes u);
+        }
+      where
+        whole : take (length list / 2) (appts list) ≡ appts list
+        whole = take-all (length list / 2) (appts list) (omega (arith, appts-count list))

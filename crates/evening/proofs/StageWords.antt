@@ -1,0 +1,235 @@
+-- The words at a step of evening out, and the steps that change no word: the state of the definition is the one that the words
+-- hold. Assumes nothing.
+use Prim.Native.Nat.{ℕ, _+_, _*_, _/_, _≤_, _<_}
+use mathlib.Core.Path.{_≡_, refl, sym, _∙_, ap}
+use mathlib.Core.List.{List, [], _∷_}
+use mathlib.Core.Logic.{_⊎_}
+use native.Mathlib.Omega.{arith}
+use lib.ListN.{length, drop, drop-of-length-le}
+use lib.Seq.{take-all}
+use Rattle.words.specs.Basics.{count}
+use Rattle.words.specs.Words.{word}
+use Rattle.words.specs.Frames.{Changes-three}
+use Rattle.words.proofs.Ranges.{three-refl}
+use Rattle.appointments.specs.Appointments.{appts, load}
+use Rattle.appointments.proofs.Flat.{load-count}
+use Rattle.two_color.specs.Contract.{region}
+use Rattle.multigraph.specs.Multigraph.{Pair, Graph}
+use Rattle.multigraph.specs.Regular.{degree}
+use Rattle.multigraph.specs.Places.{size, copies-of}
+use Rattle.multigraph.proofs.Matchings.{Sound}
+use Rattle.multigraph.proofs.Sizes.{pairs-le, copies-le}
+use Rattle.multigraph.proofs.Spans.{span-length, all-span}
+use Rattle.evening.specs.Evening.{Evening, evening, add-appointments, even-out-step}
+use Rattle.evening.specs.Contract.{Plain, Can-even}
+use Rattle.evening.specs.Steps.{plain-pair, plain-graph, row, Rows-filled}
+use Rattle.two_color.proofs.Regions.{region-length, region-rest}
+use Rattle.evening.proofs.Pairs.{degree-load, sound-list}
+use Rattle.evening.proofs.EvenSteps.{Evens, next-done, next-left, next-none, next-right}
+use Rattle.evening.proofs.EvenOut.{keep}
+use Rattle.evening.proofs.PlainLaws.{plain-is, Graph-kept, graph-kept, plain-kept, graph-kept-by}
+
+module _ (list : List ℕ) (d n left right ends apair g u : ℕ) (first : List ℕ)
+    (h : Can-even list d n left right ends apair g u first) where
+  abbrev side : ℕ → ℕ
+  side = h .side
+
+  abbrev lefts : List ℕ
+  lefts = region first left n
+
+  abbrev rights : List ℕ
+  rights = region first right n
+
+  abbrev start : Graph
+  start = plain-graph first ends g
+
+  start-is : start ≡ add-appointments [] (appts list)
+  start-is = sym (plain-is ends (size first g) g first (h .paired .plain) (omega arith)) ∙ h .paired .graph (size first g) (omega arith)
+
+  pub start-sound : Sound (n + n) side start
+  start-sound = rw start-is (sound-list (n + n) side (appts list) (h .crosses))
+
+  start-degree : (v : ℕ) → degree v start ≡ load v (appts list)
+  start-degree v = ap (degree v) start-is ∙ degree-load v (appts list)
+
+  pub start-most : (v : ℕ) → v < n + n → degree v start ≤ d
+  start-most v a = omega (arith, start-degree v, h .loads v a)
+
+  start-evens : Evens (n + n) side d start (evening start lefts rights)
+  start-evens =
+      record {
+        sound = start-sound;
+        most = start-most;
+        kept = λ v w. omega arith;
+        full = λ v a cl cr. absurd (omega (arith, h .partition .once v a));
+        lefts = h .partition .left-side;
+        rights = h .partition .right-side;
+      }
+
+  module _ (s₁ : List ℕ) (x : Rows-filled list (n + n) d u (u + (n + n)) (length list) first s₁) where
+    pub record Stage (E : Evening) (i j : ℕ) (s : List ℕ) : Type 0 where
+      pub left-rest : E .left ≡ drop i lefts
+      pub right-rest : E .right ≡ drop j rights
+      pub graph : plain-graph s ends g ≡ E .graph
+      pub plain : Plain ends g s
+      pub degrees : (v : ℕ) → v < n + n → word s (u + v) ≡ degree v (E .graph)
+      pub evens : Evens (n + n) side d start E
+      pub grown : size first g ≤ size s g
+      pub new-full :
+          (e : ℕ) → size first g ≤ e → e < size s g →
+          (word s (u + word s (ends + 2 * e)) ≡ d) ⊎ (word s (u + word s (ends + 2 * e + 1)) ≡ d)
+      pub firsts : (e : ℕ) → e < size first g → word s (ends + 2 * e) ≡ word first (ends + 2 * e)
+      pub seconds : (e : ℕ) → e < size first g → word s (ends + 2 * e + 1) ≡ word first (ends + 2 * e + 1)
+      pub changes : (mark : ℕ) → Changes-three ends (2 * (n * d + n)) g (2 + 2 * (n * d + n)) u (n + n) mark s₁ s
+
+    start-few : size first g ≤ n * d
+    start-few = omega (arith, pairs-le n side d start (start-sound .across) (start-sound .positive) start-most, span-length (plain-pair first ends g) 0 (size first g))
+
+    pub table-low : ends + 2 * (n * d + n) ≤ g
+    table-low = omega (arith, h .after-ends, h .after-apair)
+
+    kept-1 : Graph-kept ends g first s₁
+    kept-1 =
+        graph-kept-by ends g (n * d + n) first s₁ (omega (arith, start-few)) table-low
+        (λ i a b. x .keeps .same i (omega (arith, table-low, h .after-graph))) (λ i a b. x .keeps .same i (omega (arith, h .after-graph)))
+
+    pub stage-none : Stage (evening start lefts rights) 0 0 s₁
+    stage-none =
+        record {
+          left-rest = refl;
+          right-rest = refl;
+          graph = graph-kept ends g first s₁ kept-1;
+          plain = plain-kept ends g first s₁ kept-1 (h .paired .plain);
+          degrees =
+              λ v a.
+              x .filled .lens v a ∙ ap (count v) (take-all (length list) list (omega arith)) ∙ sym (load-count v list (h .even))
+              ∙ sym (start-degree v);
+          evens = start-evens;
+          grown = omega (arith, kept-1 .count);
+          new-full = λ e a b. absurd (omega (arith, kept-1 .count));
+          firsts = λ e a. kept-1 .firsts e a;
+          seconds = λ e a. kept-1 .seconds e a;
+          changes = λ mark. three-refl ends (2 * (n * d + n)) g (2 + 2 * (n * d + n)) u (n + n) mark s₁;
+        }
+
+    module _ (E : Evening) (i j : ℕ) (s : List ℕ) (st : Stage E i j s) where
+      abbrev l : ℕ
+      l = word s (left + i)
+
+      abbrev r : ℕ
+      r = word s (right + j)
+
+      left-word : (k : ℕ) → k < n → word s (left + k) ≡ word first (left + k)
+      left-word k a =
+          st .changes (left + k + 1) .under (left + k) (omega arith) (omega (arith, h .after-left))
+          ∙ x .keeps .same (left + k) (omega (arith, h .after-left, table-low, h .after-graph))
+
+      right-word : (k : ℕ) → k < n → word s (right + k) ≡ word first (right + k)
+      right-word k a =
+          st .changes (right + k + 1) .under (right + k) (omega arith) (omega (arith, h .after-right))
+          ∙ x .keeps .same (right + k) (omega (arith, h .after-right, table-low, h .after-graph))
+
+      left-cons : i < n → E .left ≡ l ∷ drop (i + 1) lefts
+      left-cons a = st .left-rest ∙ rw (left-word i a) (region-rest first left n i a)
+
+      right-cons : j < n → E .right ≡ r ∷ drop (j + 1) rights
+      right-cons a = st .right-rest ∙ rw (right-word j a) (region-rest first right n j a)
+
+      l-side : i < n → (l < n + n) × (side l ≡ 0)
+      l-side a = (rw (left-cons a) at (st .evens .lefts)) .0
+
+      r-side : j < n → (r < n + n) × (side r ≡ 1)
+      r-side a = (rw (right-cons a) at (st .evens .rights)) .0
+
+      -- what is known of the words and of the parties at i and j
+      pub record Known : Type 0 where
+        pub len : length s ≡ length first
+        pub pair-of : (k : ℕ) → k < length list / 2 → word s (apair + k) ≡ word first (apair + k)
+        pub row-of : (v k : ℕ) → row s (u + (n + n)) d v k ≡ row s₁ (u + (n + n)) d v k
+        pub row-end : (v : ℕ) → v < n + n → word s₁ (u + v) ≤ d
+        pub low : ends + 2 * (n * d + n) ≤ g
+        pub few : size s g ≤ n * d
+        pub copies : (e : ℕ) → e < size s g → copies-of s g e ≤ d
+        pub evens : Evens (n + n) side d start (even-out-step d E)
+        pub lefts-are : i < n → E .left ≡ l ∷ drop (i + 1) lefts
+        pub rights-are : j < n → E .right ≡ r ∷ drop (j + 1) rights
+        pub left-side : i < n → (l < n + n) × (side l ≡ 0)
+        pub right-side : j < n → (r < n + n) × (side r ≡ 1)
+        pub left-degree : i < n → word s (u + l) ≡ degree l (E .graph)
+        pub right-degree : j < n → word s (u + r) ≡ degree r (E .graph)
+
+      pub known : Known
+      known =
+          record {
+            len = st .changes 0 .len ∙ x .keeps .len;
+            pair-of =
+                λ k a.
+                st .changes (apair + k + 1) .after-first (apair + k) (omega arith) (omega (arith, h .after-ends)) (omega (arith, h .after-apair))
+                ∙ x .keeps .same (apair + k) (omega (arith, h .after-apair, h .after-graph));
+            row-of =
+                λ v k. st .changes (u + (n + n) + d * v + k + 1) .after-third (u + (n + n) + d * v + k) (omega arith) (omega arith);
+            row-end = λ v a. omega (arith, stage-none .degrees v a, start-most v a);
+            low = table-low;
+            few =
+                omega (
+                  arith,
+                  pairs-le n side d (E .graph) (st .evens .sound .across) (st .evens .sound .positive) (st .evens .most),
+                  ap length (st .graph),
+                  span-length (plain-pair s ends g) 0 (size s g),
+                );
+            copies =
+                λ e a.
+                all-span (λ (p : Pair). p .copies ≤ d) (plain-pair s ends g) 0 (size s g)
+                (rw (st .graph) (copies-le (n + n) side d (E .graph) (st .evens .sound .across) (st .evens .most))) e (omega arith)
+                (omega arith);
+            evens = keep (n + n) side d start lefts rights (h .partition) (E .graph) (E .left) (E .right) (st .evens);
+            lefts-are = left-cons;
+            rights-are = right-cons;
+            left-side = l-side;
+            right-side = r-side;
+            left-degree = λ a. st .degrees l (l-side a .0);
+            right-degree = λ a. st .degrees r (r-side a .0);
+          }
+
+      -- a step that changes no word
+      stage-same :
+          (i' j' : ℕ) (L R : List ℕ) → even-out-step d E ≡ evening (E .graph) L R → L ≡ drop i' lefts → R ≡ drop j' rights →
+          Stage (even-out-step d E) i' j' s
+      stage-same i' j' L R e a b =
+          record {
+            left-rest = ap (λ (z : Evening). z .left) e ∙ a;
+            right-rest = ap (λ (z : Evening). z .right) e ∙ b;
+            graph = st .graph ∙ sym (ap (λ (z : Evening). z .graph) e);
+            plain = st .plain;
+            degrees = λ v k. st .degrees v k ∙ ap (degree v) (sym (ap (λ (z : Evening). z .graph) e));
+            evens = known .evens;
+            grown = st .grown;
+            new-full = st .new-full;
+            firsts = st .firsts;
+            seconds = st .seconds;
+            changes = st .changes;
+          }
+
+      pub stage-done : n ≤ i → Stage (even-out-step d E) i j s
+      stage-done a =
+          let none : E .left ≡ [] = st .left-rest ∙ drop-of-length-le lefts {i = i} (omega (arith, region-length first left n)) in
+          stage-same i j [] (E .right) (rw none (next-done d (E .graph) (E .right))) (sym none ∙ st .left-rest) (st .right-rest)
+
+      pub stage-left : i < n → word s (u + l) ≡ d → Stage (even-out-step d E) (i + 1) j s
+      stage-left a e =
+          stage-same (i + 1) j (drop (i + 1) lefts) (E .right)
+          (rw (left-cons a) (next-left d (E .graph) l (drop (i + 1) lefts) (E .right) (sym (known .left-degree a) ∙ e))) refl (st .right-rest)
+
+      pub stage-none-right : i < n → (word s (u + l) ≡ d → ⊥) → n ≤ j → Stage (even-out-step d E) i j s
+      stage-none-right a e b =
+          let none : E .right ≡ [] = st .right-rest ∙ drop-of-length-le rights {i = j} (omega (arith, region-length first right n)) in
+          stage-same i j (l ∷ drop (i + 1) lefts) []
+          (rw (left-cons a, none) (next-none d (E .graph) l (drop (i + 1) lefts) (λ q. e (known .left-degree a ∙ q))))
+          (sym (left-cons a) ∙ st .left-rest) (sym none ∙ st .right-rest)
+
+      pub stage-right : i < n → (word s (u + l) ≡ d → ⊥) → j < n → word s (u + r) ≡ d → Stage (even-out-step d E) i (j + 1) s
+      stage-right a e b f =
+          stage-same i (j + 1) (l ∷ drop (i + 1) lefts) (drop (j + 1) rights)
+          (rw (left-cons a, right-cons b)
+          (next-right d (E .graph) l (drop (i + 1) lefts) r (drop (j + 1) rights) (λ q. e (known .left-degree a ∙ q)) (sym (known .right-degree b) ∙ f)))
+          (sym (left-cons a) ∙ st .left-rest) refl
