@@ -1,50 +1,29 @@
 -- What the rings hold while the walk goes on: each party's ring has the half-edges of the places that remain, and taking a
 -- half-edge and its mate out takes the place out. Assumes nothing.
-use Prim.Native.Nat.{ℕ, zero, suc, _+_, _*_, _-_, _/_, _%_, _≤_, _<_}
+use Prim.Native.Nat.{ℕ, _+_, _*_, _-_, _%_, _≤_, _<_}
 use mathlib.Core.Path.{_≡_, refl, sym, _∙_, ap, subst}
 use mathlib.Core.Bool.{Bool, true, false, not}
-use mathlib.Core.List.{List, [], _∷_}
+use mathlib.Core.List.{List}
 use native.Mathlib.Omega.{arith}
 use native.Mathlib.Decide.{ℕ-discrete}
-use borrow.Author.Tests.{eq-eqb, ne-eqb}
+use borrow.Author.Tests.{ne-eqb}
 use lib.Dec.{eqb}
 use lib.ListN.{length}
-use Rattle.words.specs.Basics.{pick, All}
+use Rattle.words.specs.Basics.{All}
 use Rattle.words.specs.Words.{word, put-word}
-use Rattle.words.specs.Frames.{Keeps}
 use Rattle.words.proofs.Sums.{all-map}
 use Rattle.words.proofs.Frames.{here, away, length-put, keeps-trans}
 use Rattle.multigraph.specs.Multigraph.{Pair}
-use Rattle.euler.specs.declared.Rows.{Rows}
+use Rattle.euler.specs.declared.Rings.{Rings}
 use Rattle.euler.specs.Model.{copiesM, popM, unlinkM}
-use Rattle.euler.proofs.Places.{keep, keep-all, without, Falling}
-use Rattle.euler.proofs.Rings.{Distinct, Has, after, prior, Chain, Between, between, Cut, chain-cut}
+use Rattle.euler.proofs.Places.{keep-all, without, Falling}
+use Rattle.euler.proofs.Chains.{Distinct, Has, after, prior, Chain, Between, between, Cut, chain-cut}
 use Rattle.euler.proofs.Nodes.{Odd, edge, end, nodes, nodes-distinct, nodes-without, has-node, has-kept, has-below, keep-distinct, First}
-use Rattle.euler.proofs.Filling.{Laid, P, Node, Edge, edge-node, party-node, edge-is, end-below, Aside, aside-trans, aside-two, Same-nodes, Ringed, ringed-same, away2}
+use Rattle.euler.proofs.Bases.{Laid, P, Node, Edge, edge-node, party-node, edge-is, end-below, away2}
+use Rattle.euler.proofs.Asides.{Aside, aside-trans, aside-two, Same-nodes}
+use Rattle.euler.proofs.Ringed.{Ringed, ringed-same}
 
--- the stack's word n, and the written place n
-abbrev pub slot : Bool → Rows → ℕ → ℕ
-slot true l n = l .col + 2 * n
-slot false l n = l .col + 2 * n + 1
-
--- n words of a column, last first
-unfoldable pub column : Rows → Bool → List ℕ → ℕ → List ℕ
-column l c s zero = []
-column l c s (suc n) = word s (slot c l n) ∷ column l c s n
-
-pub column-same :
-    (l : Rows) (c : Bool) (s t : List ℕ) (n : ℕ) → ((j : ℕ) → j < n → word t (slot c l j) ≡ word s (slot c l j)) →
-    column l c t n ≡ column l c s n
-unfolding column
-column-same l c s t zero h = refl
-column-same l c s t (suc n) h = rw (h n (omega arith), column-same l c s t n (λ j b. h j (omega arith)))
-
--- the mark of entry i once the places ws, last first, are written
-unfoldable pub mark-of : ℕ → List ℕ → ℕ
-mark-of i [] = 0
-mark-of i (x ∷ ws) = pick (eqb i x) (2 + length ws % 2) (mark-of i ws)
-
-module _ (l : Rows) (N m k : ℕ) (s₀ : List ℕ) (g : Laid l N m k s₀) (flag : ℕ → ℕ) where
+module _ (l : Rings) (N m k : ℕ) (s₀ : List ℕ) (g : Laid l N m k s₀) (flag : ℕ → ℕ) where
   abbrev C : ℕ → ℕ
   C i = copiesM l s₀ i
 
@@ -63,16 +42,16 @@ module _ (l : Rows) (N m k : ℕ) (s₀ : List ℕ) (g : Laid l N m k s₀) (fla
   -- ── the rings ──
 
   -- The rings hold the half-edges of the places is, which are odd entries.
-  pub record Rowed (s : List ℕ) (is : List ℕ) : Type 0 where
+  pub record Remaining (s : List ℕ) (is : List ℕ) : Type 0 where
     pub rung : Ringed l N m k s₀ g flag (λ v. nodes Q v is) s
     pub leads : (d : Bool) (i : ℕ) → odd i → word s (l .b + 2 * edge d i + 3) ≡ end Q (not d) i
     pub below : All (λ (i : ℕ). i < m) is
     pub odds : All (λ (i : ℕ). C i % 2 ≡ 1) is
 
-  pub rowed-same :
+  pub remaining-same :
       (s t is : List ℕ) → Same-nodes l N m k s₀ g flag s t →
-      ((d : Bool) (i : ℕ) → i < m → word t (l .b + 2 * edge d i + 3) ≡ word s (l .b + 2 * edge d i + 3)) → Rowed s is → Rowed t is
-  rowed-same s t is q f h =
+      ((d : Bool) (i : ℕ) → i < m → word t (l .b + 2 * edge d i + 3) ≡ word s (l .b + 2 * edge d i + 3)) → Remaining s is → Remaining t is
+  remaining-same s t is q f h =
       record {
         rung = ringed-same l N m k s₀ g flag (λ v. nodes Q v is) s t q (h .rung);
         leads = λ d i o. f d i (o .below) ∙ h .leads d i o;
@@ -81,7 +60,7 @@ module _ (l : Rows) (N m k : ℕ) (s₀ : List ℕ) (g : Laid l N m k s₀) (fla
       }
 
   -- a place that remains is an odd entry
-  pub has-odd : (s is : List ℕ) (i : ℕ) → Rowed s is → Has i is → odd i
+  pub has-odd : (s is : List ℕ) (i : ℕ) → Remaining s is → Has i is → odd i
   has-odd s is i h a =
       record {
         below = has-below m i is (h .below) a;
@@ -150,7 +129,7 @@ module _ (l : Rows) (N m k : ℕ) (s₀ : List ℕ) (g : Laid l N m k s₀) (fla
         c .1,
       )
 
-  module _ (v : ℕ) (s is : List ℕ) (b : v < N) (fall : Falling is) (h : Rowed s is) (f : First Q v is) where
+  module _ (v : ℕ) (s is : List ℕ) (b : v < N) (fall : Falling is) (h : Remaining s is) (f : First Q v is) where
     abbrev d : Bool
     d = f .side
 
@@ -193,8 +172,8 @@ module _ (l : Rows) (N m k : ℕ) (s₀ : List ℕ) (g : Laid l N m k s₀) (fla
         (ringed-less (λ u. nodes Q u is) s v x b (edge-is l N m k s₀ g flag d i (is-odd .below)) first-there (λ u c. nodes-distinct Q u is fall) (h .rung))
 
     -- The place of the first half-edge of v is taken out.
-    pub rowed-take : Rowed (unlinkM l popped y) (without i is) × Aside l N m k s₀ g flag s (unlinkM l popped y)
-    rowed-take =
+    pub remaining-take : Remaining (unlinkM l popped y) (without i is) × Aside l N m k s₀ g flag s (unlinkM l popped y)
+    remaining-take =
         let r₁ = first-out in
         let ib : i < m = is-odd .below in
         let r₂ =

@@ -11,20 +11,21 @@ use borrow.Author.Tests.{eq-eqb, ne-eqb}
 use lib.Dec.{eqb, leb}
 use Rattle.words.specs.Basics.{pick, is, total, count, All, sum-below}
 use Rattle.words.specs.Words.{word}
-use Rattle.words.proofs.Sums.{is-eq, is-ne, is-le, total-append, total-reverse, total-map, total-zero-all, total-cong-all, total-all-zero, count-total, zero-count, all-map, sum-below-le, sum-below-add}
+use Rattle.words.proofs.Sums.{is-eq, is-ne, is-le, total-append, total-reverse, total-map, total-zero-all, total-cong-all, total-all-zero, count-total, zero-count, all-map}
 use Rattle.multigraph.specs.Multigraph.{Pair, pair, Graph, joins, with-copies}
-use Rattle.multigraph.specs.Regular.{names, between, pairs-between, Apart, Across, Regular, Same-ends}
+use Rattle.multigraph.specs.Regular.{between, pairs-between, Apart, Across, Regular, Same-ends}
 use Rattle.multigraph.specs.Stored.{entry, entries}
 use Rattle.multigraph.proofs.Ends.{joins-true, between-same, between-cases, between-self}
-use Rattle.euler.specs.declared.Rows.{Rows}
+use Rattle.euler.specs.declared.Rings.{Rings}
 use Rattle.euler.specs.Split.{rest}
-use Rattle.euler.specs.Model.{copiesM, firstM, secondM}
+use Rattle.euler.specs.Model.{copiesM}
 use Rattle.euler.proofs.Taken.{ends}
 use Rattle.euler.proofs.Trail.{aslant}
 use Rattle.euler.proofs.Places.{keep, keep-all, descend, Falling, descend-below, descend-falling, keep-falling}
 use Rattle.euler.proofs.Nodes.{Ends-fit, odd-places}
+use Rattle.euler.proofs.Bases.{first-at, second-at}
 use Rattle.euler.proofs.HalfLaws.{upto, held}
-use Rattle.euler.proofs.HalfWords.{entries-snoc}
+use Rattle.euler.proofs.StoredGraphs.{entries-snoc}
 use Rattle.euler.proofs.SplitLaws.{rest-even}
 
 -- ── place by place ──
@@ -77,15 +78,15 @@ entries-apart s ends pairs g i (suc n) h x y a b c =
 turned : (a b c d : ℕ) → Same-ends a b c d → Same-ends c d a b
 turned a b c d h = ⊎-elim (λ k. inl (sym (k .0), sym (k .1))) (λ k. inr (sym (k .1), sym (k .0))) h
 
-module _ (l : Rows) (s : List ℕ) (N m : ℕ) (side : ℕ → ℕ) (d : ℕ) (reg : Regular N side d (entries s (l .ends) 0 (l .g) 0 m)) where
+module _ (l : Rings) (s : List ℕ) (N m : ℕ) (side : ℕ → ℕ) (d : ℕ) (reg : Regular N side d (entries s (l .ends) 0 (l .g) 0 m)) where
   abbrev C : ℕ → ℕ
   C i = copiesM l s i
 
   abbrev F : ℕ → ℕ
-  F i = firstM l s i
+  F i = first-at l s i
 
   abbrev S : ℕ → ℕ
-  S i = secondM l s i
+  S i = second-at l s i
 
   across-at : (i : ℕ) → i < m → Across N side (entry s (l .ends) 0 (l .g) i)
   across-at i b = entries-all (Across N side) s (l .ends) 0 (l .g) 0 m (reg .across) i (omega arith) (omega arith)
@@ -114,6 +115,24 @@ module _ (l : Rows) (s : List ℕ) (N m : ℕ) (side : ℕ → ℕ) (d : ℕ) (r
         second-below = λ i b. across-at i b .second-below;
         different = λ i b e. omega (arith, across-at i b .sides, ap side e);
       }
+
+  -- between two parties there is one pair
+  pub few-pairs : N ≡ 2 → m ≤ 1
+  few-pairs two =
+      elim (decLt 1 m) [
+        | yes b ↦
+            let x = across-at 0 (omega arith) in
+            let y = across-at 1 b in
+            absurd (not-same 0 1 (omega arith) b (λ e. omega arith) (same (F 0) (S 0) (F 1) (S 1)
+            (omega (arith, x .first-below)) (omega (arith, x .second-below)) (omega (arith, y .first-below)) (omega (arith, y .second-below))
+            (ends-fit .different 0 (omega arith)) (ends-fit .different 1 b)))
+        | no n ↦ omega arith
+      ]
+    where
+      same :
+          (a b c d : ℕ) → a < 2 → b < 2 → c < 2 → d < 2 → (a ≡ b → ⊥) → (c ≡ d → ⊥) → Same-ends a b c d
+      same a b c d ab bb cb db p q =
+          elim (ℕ-discrete c a) [ yes e ↦ inl (e, omega arith) | no n ↦ inr (omega arith, omega arith) ]
 
   -- ── the rest ──
 

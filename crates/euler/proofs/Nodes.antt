@@ -1,6 +1,6 @@
 -- Which nodes stand in a party's ring: the half-edges of the places that remain, first ends before second ends. No two are the
 -- same, and where a place is taken out, its two half-edges go. Assumes nothing.
-use Prim.Native.Nat.{ℕ, zero, suc, _+_, _*_, _-_, _/_, _%_, _≤_, _<_}
+use Prim.Native.Nat.{ℕ, zero, suc, _+_, _*_, _-_, _%_, _<_}
 use mathlib.Core.Path.{_≡_, refl, sym, _∙_, ap, subst}
 use mathlib.Core.Bool.{Bool, true, false, not}
 use mathlib.Core.List.{List, [], _∷_, _++_, map}
@@ -13,7 +13,7 @@ use Rattle.words.specs.Basics.{pick, All}
 use Rattle.words.proofs.Sums.{all-append, all-left, all-right, all-map}
 use Rattle.multigraph.specs.Multigraph.{Pair}
 use Rattle.euler.proofs.Places.{keep, keep-yes, keep-no, keep-append, keep-comm, keep-all, keep-falling, without, without-first, without-other, descend, Falling, firsts, seconds, row}
-use Rattle.euler.proofs.Rings.{Distinct, Has}
+use Rattle.euler.proofs.Chains.{Distinct, Has}
 
 -- the ends of m entries are two of N parties
 pub record Ends-fit (N m : ℕ) (F S : ℕ → ℕ) : Type 0 where
@@ -33,6 +33,23 @@ odds C xs = keep (λ i. eqb (C i % 2) 1) xs
 -- the odd entries, newest first
 unfoldable pub odd-places : ℕ → (ℕ → ℕ) → List ℕ
 odd-places m C = odds C (descend m)
+
+-- what all odd ones are, each of them is
+pub odds-all :
+    (C : ℕ → ℕ) (R : ℕ → Type 0) (m : ℕ) → All R (odds C (descend m)) → (i : ℕ) → i < m → C i % 2 ≡ 1 → R i
+unfolding keep descend
+odds-all C R zero h i b o = absurd (omega arith)
+odds-all C R (suc m) h i b o =
+    elim (ℕ-discrete i m) [
+      | yes e ↦
+          subst R (sym e)
+          (subst (All R) (keep-yes (λ j. eqb (C j % 2) 1) m (descend m) (eq-eqb (C m % 2) 1 (ap (λ (j : ℕ). C j % 2) (sym e) ∙ o))) h .0)
+      | no n ↦ odds-all C R m (later (eqb (C m % 2) 1) h) i (omega arith) o
+    ]
+  where
+    later : (c : Bool) → All R (pick c (m ∷ odds C (descend m)) (odds C (descend m))) → All R (odds C (descend m))
+    later true k = k .1
+    later false k = k
 
 -- the node of an entry's half-edge, at its first end or at its second
 abbrev pub edge : Bool → ℕ → ℕ
@@ -129,34 +146,6 @@ keep-distinct q (x ∷ xs) h = go (q x) (keep-all (λ y. x ≡ y → ⊥) q xs (
     go true a k = (a, k)
     go false a k = k
 
--- ── from the newest down ──
-
--- the k newest of m entries, newest first
-unfoldable pub newest : ℕ → ℕ → List ℕ
-newest m zero = []
-newest m (suc k) = newest m k ++ ((m - 1 - k) ∷ [])
-
-newest-cons : (m k : ℕ) → newest (suc m) (suc k) ≡ m ∷ newest m k
-unfolding newest
-newest-cons m zero = let e : suc m - 1 - 0 ≡ m = omega arith in rw e
-newest-cons m (suc k) =
-    let e : suc m - 1 - suc k ≡ m - 1 - k = omega arith in
-    ap (λ (l : List ℕ). l ++ ((suc m - 1 - suc k) ∷ [])) (newest-cons m k) ∙ ap (λ (x : ℕ). m ∷ newest m k ++ (x ∷ [])) e
-
-pub newest-all : (m : ℕ) → newest m m ≡ descend m
-unfolding newest descend
-newest-all zero = refl
-newest-all (suc m) = newest-cons m m ∙ ap (λ (l : List ℕ). m ∷ l) (newest-all m)
-
--- they are those from m - k up
-pub newest-are : (m k : ℕ) → k ≤ m → All (λ (i : ℕ). (m - k ≤ i) × (i < m)) (newest m k)
-unfolding newest
-newest-are m zero h = tt
-newest-are m (suc k) h =
-    all-append (λ i. (m - suc k ≤ i) × (i < m)) (newest m k) ((m - 1 - k) ∷ [])
-    (all-map (λ i b. (omega arith, b .1)) (newest m k) (newest-are m k (omega arith)))
-    ((omega arith, omega arith), tt)
-
 -- ── a place taken out ──
 
 without-append : (x : ℕ) (xs ys : List ℕ) → without x (xs ++ ys) ≡ without x xs ++ without x ys
@@ -210,19 +199,6 @@ module _ (P : ℕ → Pair) where
       sides-distinct (firsts P v is) (seconds P v is)
       (edges-distinct true (firsts P v is) (keep-falling (λ i. eqb v (P i .first)) is f))
       (edges-distinct false (seconds P v is) (keep-falling (λ i. eqb v (P i .second)) is f))
-
-  -- nodes of entries below m
-  pub nodes-are :
-      (Q : ℕ → Type 0) (m : ℕ) → ((d : Bool) (i : ℕ) → i < m → Q (edge d i)) → (v : ℕ) (is : List ℕ) →
-      All (λ (i : ℕ). i < m) is → All Q (nodes v is)
-  nodes-are Q m f v is h =
-      all-append Q (map (edge true) (firsts P v is)) (map (edge false) (seconds P v is))
-      (side true (firsts P v is) (keep-all (λ i. i < m) (λ i. eqb v (P i .first)) is h))
-      (side false (seconds P v is) (keep-all (λ i. i < m) (λ i. eqb v (P i .second)) is h))
-    where
-      side : (d : Bool) (xs : List ℕ) → All (λ (i : ℕ). i < m) xs → All Q (map (edge d) xs)
-      side d [] k = tt
-      side d (x ∷ xs) k = (f d x (k .0), side d xs (k .1))
 
   -- a place that remains has its half-edges in its ends' rings
   pub has-node : (d : Bool) (i v : ℕ) (is : List ℕ) → end d i ≡ v → Has i is → Has (edge d i) (nodes v is)

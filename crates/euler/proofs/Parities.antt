@@ -12,11 +12,10 @@ use Rattle.words.specs.Basics.{pick, is, count, All}
 use Rattle.words.specs.Words.{word}
 use Rattle.words.proofs.Sums.{is-eq, is-ne, count-append, all-append}
 use Rattle.multigraph.specs.Multigraph.{Pair}
-use Rattle.euler.specs.declared.Rows.{Rows}
+use Rattle.euler.specs.declared.Rings.{Rings}
 use Rattle.euler.specs.Model.{moreM}
 use Rattle.euler.specs.Split.{every-other}
-use Rattle.euler.proofs.Following.{column, mark-of}
-use Rattle.euler.proofs.Stepping.{column-length}
+use Rattle.euler.proofs.Columns.{column, column-length, mark-of}
 
 -- of the places ws, written last first, those at places of this parity, in the order of writing
 unfoldable pub dealt : ℕ → List ℕ → List ℕ
@@ -135,12 +134,12 @@ every-other-dealt f b (x ∷ ws) =
 -- ── the places of one parity, read from the words ──
 
 -- every other place written, from `parity` on
-unfoldable pub picks : Rows → List ℕ → ℕ → ℕ → List ℕ
+unfoldable pub picks : Rings → List ℕ → ℕ → ℕ → List ℕ
 picks l s parity zero = []
 picks l s parity (suc k) = picks l s parity k ++ (word s (l .col + 2 * (parity + 2 * k) + 1) ∷ [])
 
 pub picks-dealt :
-    (l : Rows) (s : List ℕ) (parity n : ℕ) → parity < 2 →
+    (l : Rings) (s : List ℕ) (parity n : ℕ) → parity < 2 →
     picks l s parity ((n + 1 - parity) / 2) ≡ dealt parity (column l false s n)
 unfolding picks column dealt
 picks-dealt l s parity zero b = let e : (0 + 1 - parity) / 2 ≡ 0 = omega arith in rw e

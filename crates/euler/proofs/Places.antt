@@ -136,15 +136,6 @@ module _ (P : ℕ → Pair) where
   unfoldable pub row : ℕ → List ℕ → List ℕ
   row v xs = firsts v xs ++ seconds v xs
 
-  pub row-without : (v i : ℕ) (xs : List ℕ) → row v (without i xs) ≡ without i (row v xs)
-  unfolding row
-  row-without v i xs =
-      rw (
-        keep-append (λ k. not (eqb i k)) (firsts v xs) (seconds v xs),
-        keep-comm (λ k. eqb v (P k .first)) (λ k. not (eqb i k)) xs,
-        keep-comm (λ k. eqb v (P k .second)) (λ k. not (eqb i k)) xs,
-      )
-
   -- the first place of a list taken out of the places xs
   abbrev as-taken : List ℕ → List ℕ → Taken
   as-taken xs [] = none

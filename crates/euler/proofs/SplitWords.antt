@@ -4,7 +4,8 @@ use mathlib.Core.Path.{_≡_, refl, sym, _∙_, ap}
 use mathlib.Core.Bool.{Bool, true, false}
 use mathlib.Core.List.{List, [], _∷_, map, reverse, append-nil}
 use native.Mathlib.Omega.{arith}
-use native.Mathlib.Nat.{mul-le-mul-left, mul-le-mul-right, mul-assoc}
+use native.Mathlib.Decide.{decLt}
+use native.Mathlib.Nat.{mul-le-mul-left, mul-le-mul-right}
 use lib.Dec.{leb}
 use lib.ListN.{length}
 use Rattle.words.specs.Basics.{pick, total, count, Run, ran, and-then}
@@ -14,23 +15,26 @@ use Rattle.words.proofs.Frames.{keeps-less, keeps-trans}
 use Rattle.multigraph.specs.Multigraph.{Pair, Graph, joins}
 use Rattle.multigraph.specs.Regular.{Regular}
 use Rattle.multigraph.specs.Stored.{entries, graph-at}
-use Rattle.euler.specs.declared.Rows.{Rows}
+use Rattle.euler.specs.declared.Rings.{Rings}
 use Rattle.euler.specs.Euler.{Tour, euler-cycles}
 use Rattle.euler.specs.Split.{Halves, add-halves, rest, every-other, add-pairs, deal, rbmg-split-into-two}
 use Rattle.euler.specs.Room.{Splits, Halves-stored}
-use Rattle.euler.specs.Bounds.{Fills, Walks}
-use Rattle.euler.specs.Model.{Fits, Stage, copiesM, firstM, secondM, fillM, walkM, begun, halfM, laid, splitM}
+use Rattle.euler.specs.Bounds.{Walks, Half-fits, Split-fits}
+use Rattle.euler.specs.Model.{Fits, Stage, copiesM, fillM, walkM, begun, walked, halfM, laid, splitM}
 use Rattle.euler.proofs.Taken.{ends}
 use Rattle.euler.proofs.Tours.{in-all}
 use Rattle.euler.proofs.Straight.{along, Same-tour, same-tour, deal-along}
 use Rattle.euler.proofs.Places.{keep}
-use Rattle.euler.proofs.Filling.{Laid, filled, fills-on}
-use Rattle.euler.proofs.Following.{column-same}
+use Rattle.euler.proofs.Bases.{Laid, first-at, second-at}
+use Rattle.euler.proofs.Filling.{filled, fills-on}
+use Rattle.euler.proofs.Columns.{column-same}
 use Rattle.euler.proofs.Stepping.{Walked-all, walked-all, walks-on}
 use Rattle.euler.proofs.Parities.{dealt, dealt-all, dealt-count, every-other-dealt}
 use Rattle.euler.proofs.HalfLaws.{held, bigs, small, one, halves-are, half-of, deal-all}
-use Rattle.euler.proofs.HalfWords.{Only, Same-entry, entries-same, Ready, Half-done, half-done}
-use Rattle.euler.proofs.Grounds.{joins-apart, ends-fit, rest-odd, rest-slant, rest-evens, places-once, upto-entries}
+use Rattle.euler.proofs.StoredGraphs.{Only, Same-entry, entries-same}
+use Rattle.euler.proofs.Pushes.{Ready}
+use Rattle.euler.proofs.HalfWords.{Half-done, half-done, half-fits}
+use Rattle.euler.proofs.Grounds.{few-pairs, joins-apart, ends-fit, rest-odd, rest-slant, rest-evens, places-once, upto-entries}
 
 -- ── the cycles' pairs, all in a row ──
 
@@ -49,7 +53,7 @@ module _ (s : List ℕ) (u ends g n width : ℕ) (q : Splits s u ends g n width)
   abbrev m : ℕ
   m = word s (g + 1)
 
-  abbrev l : Rows
+  abbrev l : Rings
   l = laid u k ends g
 
   abbrev h₂ : ℕ
@@ -85,10 +89,10 @@ module _ (s : List ℕ) (u ends g n width : ℕ) (q : Splits s u ends g n width)
     C i = copiesM l s i
 
     abbrev F : ℕ → ℕ
-    F i = firstM l s i
+    F i = first-at l s i
 
     abbrev S : ℕ → ℕ
-    S i = secondM l s i
+    S i = second-at l s i
 
     abbrev flag : ℕ → ℕ
     flag i = pick (leb pairs (word s (g + 2 + 2 * i))) 1 0
@@ -107,13 +111,13 @@ module _ (s : List ℕ) (u ends g n width : ℕ) (q : Splits s u ends g n width)
         same-tour (q .side) r (rest-slant l s N m (q .side) (2 * q .half) reg pairs)
         (rest-evens l s N m (q .side) (2 * q .half) reg pairs (q .half) refl) N
 
-    -- the walk on words, from filled rows
-    abbrev walked : Stage
-    walked = walkM l N (2 * m + N) (begun (fillM l m N s))
+    -- the walk on words, over filled rings
+    abbrev ended : Stage
+    ended = walked l m N s
 
     walk-done :
         Walked-all l N m k s grounds flag r (q .side) (rest-slant l s N m (q .side) (2 * q .half) reg pairs)
-        (rest-evens l s N m (q .side) (2 * q .half) reg pairs (q .half) refl) walked
+        (rest-evens l s N m (q .side) (2 * q .half) reg pairs (q .half) refl) ended
     walk-done =
         walked-all l N m k s grounds flag r (q .side) (rest-slant l s N m (q .side) (2 * q .half) reg pairs)
         (rest-evens l s N m (q .side) (2 * q .half) reg pairs (q .half) refl) (fillM l m N s) (filled l N m k s grounds flag)
@@ -184,10 +188,10 @@ module _ (s : List ℕ) (u ends g n width : ℕ) (q : Splits s u ends g n width)
     -- ── the words ──
 
     abbrev wr : ℕ
-    wr = walked .walk .written
+    wr = ended .walk .written
 
     abbrev s₂ : List ℕ
-    s₂ = walked .words
+    s₂ = ended .words
 
     abbrev s₃ : List ℕ
     s₃ = halfM l u 0 m wr s₂
@@ -195,8 +199,16 @@ module _ (s : List ℕ) (u ends g n width : ℕ) (q : Splits s u ends g n width)
     abbrev s₄ : List ℕ
     s₄ = halfM l h₂ 1 m wr s₃
 
-    less : m < k
-    less = grounds .entries
+    less : m + 2 ≤ k
+    less =
+        let kk : n * (width + 1) ≡ n * width + n = omega arith in
+        elim (decLt 1 n) [
+          | yes p ↦ omega (arith, q .pairs)
+          | no p ↦
+              let one' : n ≡ 1 = omega (arith, q .some) in
+              let all : n * (width + 1) ≡ 1 * (width + 1) = ap (λ (x : ℕ). x * (width + 1)) one' in
+              omega (arith, few-pairs l s N m (q .side) (2 * q .half) reg (omega arith), q .two)
+        ]
 
     ready-first : Ready l m k u u wr s s₂ ws
     ready-first =
@@ -215,6 +227,8 @@ module _ (s : List ℕ) (u ends g n width : ℕ) (q : Splits s u ends g n width)
           under = omega arith;
           behind = omega arith;
           inside = omega (arith, q .room);
+          marks-inside = omega (arith, q .room, less);
+          column-inside = omega (arith, q .room, less, walk-done .few);
           small = omega (arith, q .short);
         }
 
@@ -239,6 +253,8 @@ module _ (s : List ℕ) (u ends g n width : ℕ) (q : Splits s u ends g n width)
           under = omega arith;
           behind = omega arith;
           inside = omega (arith, q .room);
+          marks-inside = omega (arith, q .room, less);
+          column-inside = omega (arith, q .room, less, walk-done .few);
           small = omega (arith, q .short);
         }
 
@@ -301,13 +317,15 @@ module _ (s : List ℕ) (u ends g n width : ℕ) (q : Splits s u ends g n width)
             (record { len = second-done 0 .only .len; same = λ i b. second-done 0 .only .under i (omega arith) });
       }
 
-  -- every place that the filling touches is one
-  pub split-fills : Fills l m N s
-  split-fills = fills-on l N m k s grounds (λ i. 0)
-
-  -- every place that the walk touches is one
-  pub split-walks : Walks l N (2 * m + N) (fillM l m N s)
-  split-walks = walks 0
+  -- every place that it touches is one
+  pub split-fits : Split-fits l u h₂ m N s
+  split-fits =
+      record {
+        fills = fills-on l N m k s grounds (λ i. 0);
+        walks = walks 0;
+        first = half-fits l m k u u (wr 0) 0 0 s (s₂ 0) (ws 0) (ready-first 0) (omega arith) (apart 0);
+        second = half-fits l m k u h₂ (wr 0) 0 1 s (s₃ 0) (ws 0) (ready-second 0) (omega arith) (apart 0);
+      }
 
 -- ── for the code's proof ──
 
@@ -338,8 +356,21 @@ split-asks s u ends g n width m q b =
       omega (arith, q .few),
     )
 
+-- what each half asks, from what the steps before it give
+pub first-asks :
+    (l : Rings) (h₁ h₂ m parties wr : ℕ) (s t₁ t₂ : List ℕ) → Split-fits l h₁ h₂ m parties s → t₁ ≡ fillM l m parties s →
+    t₂ ≡ walkM l parties (2 * m + parties) (begun t₁) .words →
+    wr ≡ walkM l parties (2 * m + parties) (begun t₁) .walk .written → Half-fits l h₁ 0 m wr t₂
+first-asks l h₁ h₂ m parties wr s t₁ t₂ f e₁ e₂ e₃ = rw (e₂, e₃, e₁) (f .first)
+
+pub second-asks :
+    (l : Rings) (h₁ h₂ m parties wr : ℕ) (s t₁ t₂ t₃ : List ℕ) → Split-fits l h₁ h₂ m parties s → t₁ ≡ fillM l m parties s →
+    t₂ ≡ walkM l parties (2 * m + parties) (begun t₁) .words →
+    wr ≡ walkM l parties (2 * m + parties) (begun t₁) .walk .written → t₃ ≡ halfM l h₁ 0 m wr t₂ → Half-fits l h₂ 1 m wr t₃
+second-asks l h₁ h₂ m parties wr s t₁ t₂ t₃ f e₁ e₂ e₃ e₄ = rw (e₄, e₂, e₃, e₁) (f .second)
+
 pub split-so :
-    (l : Rows) (h₁ h₂ m parties wr : ℕ) (s t₁ t₂ t₃ t₄ : List ℕ) → t₁ ≡ fillM l m parties s →
+    (l : Rings) (h₁ h₂ m parties wr : ℕ) (s t₁ t₂ t₃ t₄ : List ℕ) → t₁ ≡ fillM l m parties s →
     t₂ ≡ walkM l parties (2 * m + parties) (begun t₁) .words →
     wr ≡ walkM l parties (2 * m + parties) (begun t₁) .walk .written → t₃ ≡ halfM l h₁ 0 m wr t₂ → t₄ ≡ halfM l h₂ 1 m wr t₃ →
     t₄ ≡ splitM l h₁ h₂ m parties s

@@ -1,7 +1,7 @@
 -- What the laws say of `euler_cycles` and of `rbmg_split_into_two`. Assumes nothing.
-use Prim.Native.Nat.{ℕ, zero, suc, _+_, _*_}
+use Prim.Native.Nat.{ℕ, _+_}
 use mathlib.Core.Path.{_≡_}
-use mathlib.Core.List.{List, [], _∷_}
+use mathlib.Core.List.{List}
 use Rattle.words.specs.Basics.{total, All}
 use Rattle.multigraph.specs.Multigraph.{Pair, Graph}
 use Rattle.multigraph.specs.Regular.{names, weigh, Regular, Positive, Symmetric, Agrees}

@@ -1,5 +1,5 @@
 -- Module 4 of document 01, `rbmg_split_into_two`. Assumes nothing.
-use Prim.Native.Nat.{ℕ, zero, suc, _/_, _%_}
+use Prim.Native.Nat.{ℕ, _/_, _%_}
 use mathlib.Core.Bool.{Bool, true, false}
 use mathlib.Core.List.{List, [], _∷_}
 use lib.Dec.{eqb, leb}

@@ -4,22 +4,26 @@ ghost use mathlib.Core.Path.{_≡_};
 ghost use Prim.Native.Nat.{ℕ, _+_, _*_, _-_, _/_, _<_, _≤_};
 ghost use lib.ListN.{length};
 ghost use Rattle.words.specs.Words.{word, «put-word»};
-ghost use Rattle.euler.specs.Model.{Stage, Fits, Small, copiesM, firstM, secondM};
-ghost use Rattle.euler.specs.Model.{appendM, startRowM, startM, rowFirstM, firstsM, rowSecondM, secondsM, fillM};
+ghost use Rattle.euler.specs.Model.{Stage, Fits, Small};
+ghost use Rattle.euler.specs.Model.{appendM, startRingM, startM, siftM, siftAllM, ringEndM, endsM, fillM};
 ghost use Rattle.euler.specs.Model.{popM, unlinkM, takeM, backM, stuckM, stepM, walkM, begun};
-ghost use Rattle.euler.specs.Model.{moreM, pushM, entryM, entriesM, singleM, singlesM, halfM, splitM};
-ghost use Rattle.euler.specs.Bounds.{Appends, «Row-firsts», «Row-seconds», «Fills-firsts», «Fills-seconds», Fills};
+ghost use Rattle.euler.specs.Model.{moreM, manyM, pushM, entryM, entriesM, singleM, singlesM, halfM, splitM};
+ghost use Rattle.euler.specs.Bounds.{Appends, Sifts, «Sifts-all», «Rings-end», «Fills-ends», Fills};
 ghost use Rattle.euler.specs.Bounds.{Pops, Unlinks, Takes, Backs, Steps, Walks};
+ghost use Rattle.euler.specs.Bounds.{«Entry-fits», «Entries-fit», «Single-fits», «Singles-fit», «Half-fits», «Split-fits»};
 ghost use Rattle.euler.specs.Room.{Splits, «Halves-stored»};
 ghost use Rattle.mark.specs.Taking.{«taken-more»};
 use mark::Mark;
+use multigraph::EdgeIndex;
+use multigraph::NodeIndex;
 
 // Where a split's words lie: the graph, the table of ends, the rings, the number of party 0's node, and the columns.
 // Each party has a ring of nodes, which are its half-edges in its pairs' order and its own node, the number top + v. Node x has two
 // words, at b + 2·x: the node after it and the node before it. Entry i has eight words, at b + 8·i: the node 4·i, its half-edge at
 // its first end; 2 its mark; 3 its second end; the node 4·i + 2, its half-edge at its second end; 7 its first end. So the party
-// to which the half-edge x leads stands at b + 2·x + 3. Columns, at col + 2·j: 0 stack; 1 places written.
-pub struct Rows {
+// to which the half-edge x leads stands at b + 2·x + 3. Columns, at col + 2·j: 0 stack, and before the walk the entries of odd
+// copies; 1 places written.
+pub struct Rings {
     pub g: usize,
     pub ends: usize,
     pub b: usize,
@@ -35,7 +39,7 @@ pub struct Walk {
     pub written: usize,
 }
 
-// The word at a place that is one; filling and walk go by these two, without a test.
+// The word at a place that is one; filling, walk and halves go by these two, without a test.
 fn word_at(s: &[u32], i: usize) -> usize
     requires { ⌜ i < length (now s) ⌝ }
     ensures { λ r. ⌜ (r ≡ word (now (s .entry)) i) × (r < 4294967296) ⌝ }
@@ -51,54 +55,29 @@ fn set_word(s: &mut [u32], i: usize, x: usize)
     s[i] = (x % 4294967296) as u32;
 }
 
-fn copies_of(s: &[u32], l: Rows, i: usize) -> usize
-    requires { ⌜ Fits l × (i < 8589934592) ⌝ }
-    ensures { λ r. ⌜ (r ≡ copiesM l (now (s .entry)) i) × (r < 4294967296) ⌝ }
-{
-    words::get(s, l.g + 3 + 2 * i)
-}
-
-fn first_of(s: &[u32], l: Rows, i: usize) -> usize
-    requires { ⌜ Fits l × (i < 8589934592) ⌝ }
-    ensures { λ r. ⌜ (r ≡ firstM l (now (s .entry)) i) × (r < 4294967296) ⌝ }
-{
-    let e = words::get(s, l.g + 2 + 2 * i);
-    let v = multigraph::first_end(s, l.ends, multigraph::EdgeIndex(e as u32));
-    v.0 as usize
-}
-
-fn second_of(s: &[u32], l: Rows, i: usize) -> usize
-    requires { ⌜ Fits l × (i < 8589934592) ⌝ }
-    ensures { λ r. ⌜ (r ≡ secondM l (now (s .entry)) i) × (r < 4294967296) ⌝ }
-{
-    let e = words::get(s, l.g + 2 + 2 * i);
-    let v = multigraph::second_end(s, l.ends, multigraph::EdgeIndex(e as u32));
-    v.0 as usize
-}
-
 // An empty ring for the party v.
-fn start_row(s: &mut [u32], l: Rows, v: usize)
+fn start_ring(s: &mut [u32], l: Rings, v: usize)
     requires { ⌜ Fits l × (v < 4294967296) ⌝ }
-    ensures { λ r. ⌜ now (s .exit) ≡ startRowM l (now (s .entry)) v ⌝ }
+    ensures { λ r. ⌜ now (s .exit) ≡ startRingM l (now (s .entry)) v ⌝ }
 {
     let z = l.top + v;
     words::put(s, l.b + 2 * z, z);
     words::put(s, l.b + 2 * z + 1, z);
 }
 
-fn start_rows(s: &mut [u32], l: Rows, parties: usize)
+fn start_rings(s: &mut [u32], l: Rings, parties: usize)
     requires { ⌜ Fits l × (parties < 4294967296) ⌝ }
     ensures { λ r. ⌜ now (s .exit) ≡ startM l parties (now (s .entry)) ⌝ }
 {
     let mut v = 0;
     while v < parties {
-        start_row(s, l, v);
+        start_ring(s, l, v);
         v += 1;
     }
 }
 
 // The half-edge x becomes the last of the ring of v.
-fn append(s: &mut [u32], l: Rows, v: usize, x: usize)
+fn append(s: &mut [u32], l: Rings, v: usize, x: usize)
     requires { ⌜ Fits l × (v < 4294967296) × (x < 34359738368) × Appends l (now s) v x ⌝ }
     ensures { λ r. ⌜ now (s .exit) ≡ appendM l (now (s .entry)) v x ⌝ }
 {
@@ -110,70 +89,80 @@ fn append(s: &mut [u32], l: Rows, v: usize, x: usize)
     set_word(s, l.b + 2 * z + 1, x);
 }
 
-// Entry i, if its copies are odd, gets a half-edge in its first end's ring; its mark is cleared.
-fn row_first(s: &mut [u32], l: Rows, i: usize)
-    requires { ⌜ Fits l × (i < 4294967296) × Row-firsts l (now s) i ⌝ }
-    ensures { λ r. ⌜ now (s .exit) ≡ rowFirstM l (now (s .entry)) i ⌝ }
+// Entry i is noted in the stack's column, which the walk doesn't use yet, and its mark is cleared. The place counts on only
+// past an entry of odd copies, so that the next entry writes over the note of an even one: there is no branch on the parity.
+fn sift(s: &mut [u32], l: Rings, i: usize, odd: usize) -> usize
+    requires { ⌜ Fits l × (i < 4294967296) × (odd ≤ i) × Sifts l (now s) i odd ⌝ }
+    ensures { λ r. ⌜ record { words = now (s .exit); count = r } ≡ siftM l (record { words = now (s .entry); count = odd }) i ⌝ }
 {
-    let c = copies_of(s, l, i);
-    let a = first_of(s, l, i);
+    let c = word_at(s, l.g + 3 + 2 * i);
     set_word(s, l.b + 8 * i + 2, 0);
-    if c % 2 == 0 {
-        return;
-    }
-    set_word(s, l.b + 8 * i + 7, a);
-    append(s, l, a, 4 * i);
+    set_word(s, l.col + 2 * odd, i);
+    odd + c % 2
 }
 
-// From the newest entry down.
-fn fill_firsts(s: &mut [u32], l: Rows, m: usize)
-    requires { ⌜ Fits l × (m < 4294967296) × Fills-firsts l m (now s) ⌝ }
-    ensures { λ r. ⌜ now (s .exit) ≡ firstsM l m m (now (s .entry)) ⌝ }
+// The entries of odd copies, oldest first; how many they are is returned.
+fn sift_all(s: &mut [u32], l: Rings, m: usize) -> usize
+    requires { ⌜ Fits l × (m < 4294967296) × Sifts-all l m (now s) ⌝ }
+    ensures { λ r. ⌜ (record { words = now (s .exit); count = r } ≡ siftAllM l m (now (s .entry))) × (r ≤ m) ⌝ }
 {
-    let mut k = 0;
-    while k < m {
-        row_first(s, l, m - 1 - k);
-        k += 1;
+    let mut odd = 0;
+    let mut i = 0;
+    while i < m {
+        odd = sift(s, l, i, odd);
+        i += 1;
     }
+    odd
 }
 
-// Entry i, if its copies are odd, gets its half-edge in its second end's ring.
-fn row_second(s: &mut [u32], l: Rows, i: usize)
-    requires { ⌜ Fits l × (i < 4294967296) × Row-seconds l (now s) i ⌝ }
-    ensures { λ r. ⌜ now (s .exit) ≡ rowSecondM l (now (s .entry)) i ⌝ }
+// The party at one end of the pair e, the first (side 0) or the second (side 1).
+fn end_of(s: &[u32], ends: usize, side: usize, e: EdgeIndex) -> NodeIndex
+    requires { ⌜ (ends < 4294967296) × (side < 2) × (ends + 2 * e .0 + side < length (now s)) ⌝ }
+    ensures { λ r. ⌜ r .0 ≡ word (now (s .entry)) (ends + 2 * e .0 + side) ⌝ }
 {
-    let c = copies_of(s, l, i);
-    if c % 2 == 0 {
-        return;
-    }
-    let d = second_of(s, l, i);
-    set_word(s, l.b + 8 * i + 3, d);
-    append(s, l, d, 4 * i + 2);
+    let i = e.0 as usize;
+    let v = word_at(s, ends + 2 * i + side);
+    NodeIndex(v as u32)
 }
 
-fn fill_seconds(s: &mut [u32], l: Rows, m: usize)
-    requires { ⌜ Fits l × (m < 4294967296) × Fills-seconds l m (now s) ⌝ }
-    ensures { λ r. ⌜ now (s .exit) ≡ secondsM l m m (now (s .entry)) ⌝ }
+// The entry noted at the place j gets its half-edge in the ring of its end on one side.
+fn ring_end(s: &mut [u32], l: Rings, side: usize, j: usize)
+    requires { ⌜ Fits l × (side < 2) × (j < 4294967296) × Rings-end l side (now s) j ⌝ }
+    ensures { λ r. ⌜ now (s .exit) ≡ ringEndM l side (now (s .entry)) j ⌝ }
 {
-    let mut k = 0;
-    while k < m {
-        row_second(s, l, m - 1 - k);
-        k += 1;
+    let i = word_at(s, l.col + 2 * j);
+    let e = word_at(s, l.g + 2 + 2 * i);
+    let p = end_of(s, l.ends, side, EdgeIndex(e as u32));
+    let v = p.0 as usize;
+    set_word(s, l.b + 8 * i + 7 - 4 * side, v);
+    append(s, l, v, 4 * i + 2 * side);
+}
+
+// From the newest of the noted entries down.
+fn fill_ends(s: &mut [u32], l: Rings, side: usize, odd: usize)
+    requires { ⌜ Fits l × (side < 2) × (odd < 4294967296) × Fills-ends l side odd (now s) ⌝ }
+    ensures { λ r. ⌜ now (s .exit) ≡ endsM l side odd (now (s .entry)) ⌝ }
+{
+    let mut k = odd;
+    while 0 < k {
+        k -= 1;
+        ring_end(s, l, side, k);
     }
 }
 
 // The rings of all parties: pairs where the party is first end, newest first, then those where it is second end.
-fn fill_rows(s: &mut [u32], l: Rows, m: usize, parties: usize)
+fn fill_rings(s: &mut [u32], l: Rings, m: usize, parties: usize)
     requires { ⌜ Fits l × (m < 4294967296) × (parties < 4294967296) × Fills l m parties (now s) ⌝ }
     ensures { λ r. ⌜ now (s .exit) ≡ fillM l m parties (now (s .entry)) ⌝ }
 {
-    start_rows(s, l, parties);
-    fill_firsts(s, l, m);
-    fill_seconds(s, l, m);
+    start_rings(s, l, parties);
+    let odd = sift_all(s, l, m);
+    fill_ends(s, l, 0, odd);
+    fill_ends(s, l, 1, odd);
 }
 
 // The first half-edge x of a ring goes out of it; z is the party's node.
-fn pop(s: &mut [u32], l: Rows, z: usize, x: usize)
+fn pop(s: &mut [u32], l: Rings, z: usize, x: usize)
     requires { ⌜ Fits l × (z < 274877906944) × (x < 4294967296) × Pops l (now s) z x ⌝ }
     ensures { λ r. ⌜ now (s .exit) ≡ popM l (now (s .entry)) z x ⌝ }
 {
@@ -183,7 +172,7 @@ fn pop(s: &mut [u32], l: Rows, z: usize, x: usize)
 }
 
 // The half-edge x goes out of its ring, wherever it stands.
-fn unlink(s: &mut [u32], l: Rows, x: usize)
+fn unlink(s: &mut [u32], l: Rings, x: usize)
     requires { ⌜ Fits l × (x < 34359738368) × Unlinks l (now s) x ⌝ }
     ensures { λ r. ⌜ now (s .exit) ≡ unlinkM l (now (s .entry)) x ⌝ }
 {
@@ -194,7 +183,7 @@ fn unlink(s: &mut [u32], l: Rows, x: usize)
 }
 
 // The first half-edge x of the party at which the walk stands is taken and followed; its mate goes too.
-fn take(s: &mut [u32], l: Rows, w: Walk, x: usize) -> Walk
+fn take(s: &mut [u32], l: Rings, w: Walk, x: usize) -> Walk
     requires { ⌜ Fits l × Small 68719476736 w × (x < 4294967296) × Takes l (now s) w x ⌝ }
     ensures { λ r. ⌜ record { words = now (s .exit); walk = r } ≡ takeM l (now (s .entry)) w x ⌝ }
 {
@@ -211,7 +200,7 @@ fn take(s: &mut [u32], l: Rows, w: Walk, x: usize) -> Walk
 }
 
 // Step back, write the place down, and mark its entry with the place's parity.
-fn step_back(s: &mut [u32], l: Rows, w: Walk) -> Walk
+fn step_back(s: &mut [u32], l: Rings, w: Walk) -> Walk
     requires { ⌜ Fits l × Small 68719476736 w × (0 < w .height) × Backs l (now s) w ⌝ }
     ensures { λ r. ⌜ record { words = now (s .exit); walk = r } ≡ backM l (now (s .entry)) w ⌝ }
 {
@@ -228,7 +217,7 @@ fn step_back(s: &mut [u32], l: Rows, w: Walk) -> Walk
 }
 
 // Stuck: back, or on to the next party.
-fn stuck(s: &mut [u32], l: Rows, w: Walk) -> Walk
+fn stuck(s: &mut [u32], l: Rings, w: Walk) -> Walk
     requires { ⌜ Fits l × Small 68719476736 w × (0 < w .height → Backs l (now s) w) ⌝ }
     ensures { λ r. ⌜ record { words = now (s .exit); walk = r } ≡ stuckM l (now (s .entry)) w ⌝ }
 {
@@ -244,7 +233,7 @@ fn stuck(s: &mut [u32], l: Rows, w: Walk) -> Walk
 }
 
 // One step of the walk; past the last party nothing happens.
-fn walk_step(s: &mut [u32], l: Rows, parties: usize, w: Walk) -> Walk
+fn walk_step(s: &mut [u32], l: Rings, parties: usize, w: Walk) -> Walk
     requires { ⌜ Fits l × Small 68719476736 w × (w .next < parties → Steps l (now s) w) ⌝ }
     ensures { λ r. ⌜ record { words = now (s .exit); walk = r } ≡ stepM l parties (record { words = now (s .entry); walk = w }) ⌝ }
 {
@@ -261,7 +250,7 @@ fn walk_step(s: &mut [u32], l: Rows, parties: usize, w: Walk) -> Walk
 
 // `euler_cycles`: the walks from all parties, in number order, their places written one after the other. Each pair is taken
 // and written down once, so two steps for each pair and one for each party suffice.
-fn euler_cycles(s: &mut [u32], l: Rows, m: usize, parties: usize) -> usize
+fn euler_cycles(s: &mut [u32], l: Rings, m: usize, parties: usize) -> usize
     requires { ⌜ Fits l × (m < 4294967296) × (parties < 4294967296) × Walks l parties (2 * m + parties) (now s) ⌝ }
     ensures { λ r. ⌜ (now (s .exit) ≡ walkM l parties (2 * m + parties) (begun (now (s .entry))) .words)
         × (r ≡ walkM l parties (2 * m + parties) (begun (now (s .entry))) .walk .written) × (r < 68719476736) ⌝ }
@@ -292,33 +281,40 @@ fn more(mark: usize, parity: usize) -> usize
     if mark == 2 + parity { 1 } else { 0 }
 }
 
-// An entry of a half, at its place `at`.
-fn push(s: &mut [u32], h: usize, at: usize, e: usize, copies: usize) -> usize
-    requires { ⌜ (h < 4294967296) × (at < 137438953472) ⌝ }
-    ensures { λ r. ⌜ (now (s .exit) ≡ pushM h (now (s .entry)) at e copies) × (r ≡ at + 1) ⌝ }
+// One for an entry of 2 copies or more.
+fn many(copies: usize) -> usize
+    ensures { λ r. ⌜ (r ≡ manyM copies) × (r ≤ 1) ⌝ }
 {
-    words::put(s, h + 2 + 2 * at, e);
-    words::put(s, h + 3 + 2 * at, copies);
-    at + 1
+    if copies < 2 { 0 } else { 1 }
 }
 
-fn half_entry(s: &mut [u32], l: Rows, h: usize, parity: usize, at: usize, i: usize) -> usize
-    requires { ⌜ Fits l × (h < 4294967296) × (parity < 2) × (at < 68719476736) × (i < 4294967296) ⌝ }
+// An entry of a half, at its place `at`.
+fn push(s: &mut [u32], h: usize, at: usize, e: usize, copies: usize)
+    requires { ⌜ (h < 4294967296) × (at < 137438953472) × (h + 3 + 2 * at < length (now s)) ⌝ }
+    ensures { λ r. ⌜ now (s .exit) ≡ pushM h (now (s .entry)) at e copies ⌝ }
+{
+    set_word(s, h + 2 + 2 * at, e);
+    set_word(s, h + 3 + 2 * at, copies);
+}
+
+// Entry i is written with half its copies, and the place counts on only past an entry of 2 copies or more: the next writes over
+// what doesn't belong there, and nothing branches on the copies.
+fn half_entry(s: &mut [u32], l: Rings, h: usize, parity: usize, at: usize, i: usize) -> usize
+    requires { ⌜ Fits l × (h < 4294967296) × (parity < 2) × (at < 68719476736) × (i < 4294967296) × Entry-fits l h (now s) at i ⌝ }
     ensures { λ r. ⌜ record { words = now (s .exit); count = r } ≡ entryM l h parity (record { words = now (s .entry); count = at }) i ⌝ }
 {
-    let c = copies_of(s, l, i);
-    if c < 2 {
-        return at;
-    }
-    let e = words::get(s, l.g + 2 + 2 * i);
-    let mark = words::get(s, l.b + 8 * i + 2);
+    let c = word_at(s, l.g + 3 + 2 * i);
+    let e = word_at(s, l.g + 2 + 2 * i);
+    let mark = word_at(s, l.b + 8 * i + 2);
     let x = more(mark, parity);
-    push(s, h, at, e, c / 2 + x)
+    push(s, h, at, e, c / 2 + x);
+    let n = many(c);
+    at + n
 }
 
 // The entries of 2 copies or more, in order: half of them.
-fn half_entries(s: &mut [u32], l: Rows, h: usize, parity: usize, m: usize) -> usize
-    requires { ⌜ Fits l × (h < 4294967296) × (parity < 2) × (m < 4294967296) ⌝ }
+fn half_entries(s: &mut [u32], l: Rings, h: usize, parity: usize, m: usize) -> usize
+    requires { ⌜ Fits l × (h < 4294967296) × (parity < 2) × (m < 4294967296) × Entries-fit l h m (now s) ⌝ }
     ensures { λ r. ⌜ (record { words = now (s .exit); count = r } ≡ entriesM l h parity m (now (s .entry))) × (r ≤ m) ⌝ }
 {
     let mut at = 0;
@@ -330,29 +326,30 @@ fn half_entries(s: &mut [u32], l: Rows, h: usize, parity: usize, m: usize) -> us
     at
 }
 
-fn half_single(s: &mut [u32], l: Rows, h: usize, at: usize, j: usize) -> usize
-    requires { ⌜ Fits l × (h < 4294967296) × (at < 137438953472) × (j < 137438953472) ⌝ }
+// The entry written down at the place j of the walk, if it has one copy; it goes as in `half_entry`.
+fn half_single(s: &mut [u32], l: Rings, h: usize, at: usize, j: usize) -> usize
+    requires { ⌜ Fits l × (h < 4294967296) × (at < 137438953472) × (j < 137438953472) × Single-fits l h (now s) at j ⌝ }
     ensures { λ r. ⌜ record { words = now (s .exit); count = r } ≡ singleM l h (record { words = now (s .entry); count = at }) j ⌝ }
 {
-    let i = words::get(s, l.col + 2 * j + 1);
-    let c = copies_of(s, l, i);
-    if 2 <= c {
-        return at;
-    }
-    let e = words::get(s, l.g + 2 + 2 * i);
-    push(s, h, at, e, 1)
+    let i = word_at(s, l.col + 2 * j + 1);
+    let c = word_at(s, l.g + 3 + 2 * i);
+    let e = word_at(s, l.g + 2 + 2 * i);
+    push(s, h, at, e, 1);
+    let n = many(c);
+    at + (1 - n)
 }
 
 // Then the written places of this parity whose entry has one copy, in the order of writing.
 fn half_singles(
     s: &mut [u32],
-    l: Rows,
+    l: Rings,
     h: usize,
     parity: usize,
     from: usize,
     written: usize,
 ) -> usize
-    requires { ⌜ Fits l × (h < 4294967296) × (parity < 2) × (from < 4294967296) × (written < 68719476736) ⌝ }
+    requires { ⌜ Fits l × (h < 4294967296) × (parity < 2) × (from < 4294967296) × (written < 68719476736)
+        × Singles-fit l h parity ((written + 1 - parity) / 2) (record { words = now s; count = from }) ⌝ }
     ensures { λ r. ⌜ record { words = now (s .exit); count = r } ≡ singlesM l h parity ((written + 1 - parity) / 2) (record { words = now (s .entry); count = from }) ⌝ }
 {
     let count = (written + 1 - parity) / 2;
@@ -365,8 +362,8 @@ fn half_singles(
     at
 }
 
-fn half(s: &mut [u32], l: Rows, h: usize, parity: usize, m: usize, written: usize)
-    requires { ⌜ Fits l × (h < 4294967296) × (parity < 2) × (m < 4294967296) × (written < 68719476736) ⌝ }
+fn half(s: &mut [u32], l: Rings, h: usize, parity: usize, m: usize, written: usize)
+    requires { ⌜ Fits l × (h < 4294967296) × (parity < 2) × (m < 4294967296) × (written < 68719476736) × Half-fits l h parity m written (now s) ⌝ }
     ensures { λ r. ⌜ now (s .exit) ≡ halfM l h parity m written (now (s .entry)) ⌝ }
 {
     let from = half_entries(s, l, h, parity, m);
@@ -375,12 +372,12 @@ fn half(s: &mut [u32], l: Rows, h: usize, parity: usize, m: usize, written: usiz
     words::put(s, h + 1, at);
 }
 
-fn split_words(s: &mut [u32], l: Rows, first: usize, second: usize, m: usize, parties: usize)
+fn split_words(s: &mut [u32], l: Rings, first: usize, second: usize, m: usize, parties: usize)
     requires { ⌜ Fits l × (first < 4294967296) × (second < 4294967296) × (m < 4294967296) × (parties < 4294967296)
-        × Fills l m parties (now s) × Walks l parties (2 * m + parties) (fillM l m parties (now s)) ⌝ }
+        × Split-fits l first second m parties (now s) ⌝ }
     ensures { λ r. ⌜ now (s .exit) ≡ splitM l first second m parties (now (s .entry)) ⌝ }
 {
-    fill_rows(s, l, m, parties);
+    fill_rings(s, l, m, parties);
     let written = euler_cycles(s, l, m, parties);
     half(s, l, first, 0, m, written);
     half(s, l, second, 1, m, written);
@@ -393,7 +390,7 @@ fn split_at(s: &mut [u32], u: usize, ends: usize, g: usize, n: usize, width: usi
 {
     let k = n * (width + 1);
     let b = u + 2 * k + 2 * k;
-    let l = Rows {
+    let l = Rings {
         g: g,
         ends: ends,
         b: b,

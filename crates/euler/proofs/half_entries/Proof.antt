@@ -1,5 +1,5 @@
 use Rattle.euler.proofs.ModelLaws.{entries-more, entry-count}
-use Rattle.euler.specs.Model.{Pushed, entriesM, entryM}
+use Rattle.euler.specs.Model.{Counted, entriesM, entryM}
 use lib.ListN.{length}
 use Prim.Native.Nat.{_-_, _≤_}
 use native.Mathlib.Omega.{arith}
@@ -23,13 +23,13 @@ loop-again : tie.Need-loop-again Inv-loop μ-loop
 loop-again c =
     let inv = c .before .before .before .before .before .loop .inv in
     let a = c .before .before .before .before .before .before .before .args in
-    let t : Pushed = record { words = c .before .before .before .before .before .loop .s; count = c .before .before .before .before .before .loop .at } in
+    let t : Counted = record { words = c .before .before .before .before .before .loop .s; count = c .before .before .before .before .before .loop .at } in
     let e : record { words = c .before .before .half-entry .last .0; count = c .before .before .half-entry .result } ≡ entryM (a .l) (a .h) (a .parity) t (c .before .before .before .before .before .loop .i) = c .before .before .half-entry .ensures in
-    let f : c .before .before .half-entry .result ≡ entryM (a .l) (a .h) (a .parity) t (c .before .before .before .before .before .loop .i) .count = ap (λ (u : Pushed). u .count) e in (
+    let f : c .before .before .half-entry .result ≡ entryM (a .l) (a .h) (a .parity) t (c .before .before .before .before .before .loop .i) .count = ap (λ (u : Counted). u .count) e in (
       search needs,
       search needs,
       omega (arith, f, entry-count (a .l) (a .h) (a .parity) t (c .before .before .before .before .before .loop .i), inv .2),
-      e ∙ ap (λ (u : Pushed). entryM (a .l) (a .h) (a .parity) u (c .before .before .before .before .before .loop .i)) (inv .3)
+      e ∙ ap (λ (u : Counted). entryM (a .l) (a .h) (a .parity) u (c .before .before .before .before .before .loop .i)) (inv .3)
           ∙ sym (entries-more (a .l) (a .h) (a .parity) (c .before .before .before .before .before .loop .i) (a .s .now)),
     )
 

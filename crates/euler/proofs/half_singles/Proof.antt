@@ -1,9 +1,10 @@
 use Rattle.euler.proofs.ModelLaws.{singles-more, single-count}
-use Rattle.euler.specs.Model.{Pushed, singlesM, singleM}
+use Rattle.euler.specs.Model.{Counted, singlesM, singleM}
 use lib.ListN.{length}
 use Prim.Native.Nat.{_+_, _*_, _-_, _/_, _≤_}
 use native.Mathlib.Omega.{arith}
-use mathlib.Core.Path.{_≡_, refl, sym, _∙_, ap}
+use mathlib.Core.Path.{_≡_, refl, sym, _∙_, ap, subst}
+use Rattle.euler.specs.Bounds.{Single-fits}
 use borrow.Author.Needs.{needs}
 use Rattle.euler.proofs.half_singles.Statement.{statement}
 use Rattle.euler.proofs.half_singles.Tie as tie
@@ -23,13 +24,13 @@ loop-again : tie.Need-loop-again Inv-loop μ-loop
 loop-again c =
     let inv = c .before .before .before .before .before .loop .inv in
     let a = c .before .before .before .before .before .before .before .args in
-    let t : Pushed = record { words = c .before .before .before .before .before .loop .s; count = c .before .before .before .before .before .loop .at } in
+    let t : Counted = record { words = c .before .before .before .before .before .loop .s; count = c .before .before .before .before .before .loop .at } in
     let e : record { words = c .before .before .half-single .last .0; count = c .before .before .half-single .result } ≡ singleM (a .l) (a .h) t (a .parity + 2 * c .before .before .before .before .before .loop .k) = c .before .before .half-single .ensures in
-    let f : c .before .before .half-single .result ≡ singleM (a .l) (a .h) t (a .parity + 2 * c .before .before .before .before .before .loop .k) .count = ap (λ (u : Pushed). u .count) e in (
+    let f : c .before .before .half-single .result ≡ singleM (a .l) (a .h) t (a .parity + 2 * c .before .before .before .before .before .loop .k) .count = ap (λ (u : Counted). u .count) e in (
       search needs,
       search needs,
       omega (arith, f, single-count (a .l) (a .h) t (a .parity + 2 * c .before .before .before .before .before .loop .k), inv .2),
-      e ∙ ap (λ (u : Pushed). singleM (a .l) (a .h) u (a .parity + 2 * c .before .before .before .before .before .loop .k)) (inv .3)
+      e ∙ ap (λ (u : Counted). singleM (a .l) (a .h) u (a .parity + 2 * c .before .before .before .before .before .loop .k)) (inv .3)
           ∙ sym (singles-more (a .l) (a .h) (a .parity) (c .before .before .before .before .before .loop .k) (record { words = a .s .now; count = a .from })),
     )
 
@@ -38,6 +39,19 @@ returns c =
     let inv = c .before .loop .inv in
     let e : c .before .loop .k ≡ (c .before .before .before .args .written + 1 - c .before .before .before .args .parity) / 2 = omega arith in
     rw e at (inv .3)
+
+half-single-requires : tie.Need-half-single-requires Inv-loop μ-loop
+half-single-requires c κs =
+    let inv = c .before .before .loop .inv in
+    let a = c .before .before .before .before .args in
+    let pre = c .before .before .before .before .pre in (
+      pre .0,
+      pre .1,
+      omega (arith, pre .3, pre .4, inv .0, inv .2),
+      omega (arith, pre .2, pre .4, inv .0),
+      subst (λ (t : Counted). Single-fits (a .l) (a .h) (t .words) (t .count) (a .parity + 2 * c .before .before .loop .k)) (sym (inv .3))
+          (pre .5 .singles (c .before .before .loop .k) (c .before .loop-test .taken)),
+    )
 
 pub half-singles-spec : {M : Type 1} → statement M
 half-singles-spec =
@@ -50,7 +64,7 @@ half-singles-spec =
     loop-holds
     (λ c. search needs)
     (λ c. search needs)
-    (λ c κs. search needs)
+    half-single-requires
     (λ c. search needs)
     (λ c. search needs)
     loop-again

@@ -1,10 +1,9 @@
-use mathlib.Core.Path.{refl}
 use borrow.Author.Needs.{needs}
 use Rattle.euler.proofs.push.Statement.{statement}
 use Rattle.euler.proofs.push.Tie as tie
 
 returns : tie.Need-returns
-returns c = (cc, refl)
+returns c = cc
 
 pub push-spec : {M : Type 1} → statement M
 push-spec =
@@ -18,6 +17,5 @@ push-spec =
     (λ c. search needs)
     (λ c. search needs)
     (λ c κs. search needs)
-    (λ c. search needs)
     (λ c. search needs)
     returns)

@@ -4,9 +4,9 @@ use Prim.Native.Nat.{ℕ, _+_, _*_}
 use mathlib.Core.List.{List}
 use mathlib.Core.Path.{sym, _∙_, ap, subst}
 use Rattle.euler.specs.Room.{Halves-stored}
-use Rattle.euler.specs.Model.{laid, fillM, splitM}
-use Rattle.euler.specs.Bounds.{Fills, Walks}
-use Rattle.euler.proofs.SplitWords.{width-small, split-asks, split-stored, split-fills, split-walks}
+use Rattle.euler.specs.Model.{laid, splitM}
+use Rattle.euler.specs.Bounds.{Split-fits}
+use Rattle.euler.proofs.SplitWords.{width-small, split-asks, split-stored, split-fits}
 use borrow.Author.Needs.{needs}
 use Rattle.euler.proofs.split_at.Statement.{statement}
 use Rattle.euler.proofs.split_at.Tie as tie
@@ -36,13 +36,9 @@ split-words-requires c κs =
       f .3,
       f .4,
       subst
-          (λ (m : ℕ). Fills (laid (a .u) (a .n * (a .width + 1)) (a .ends) (a .g)) m (2 * a .n) (a .s .now))
+          (λ (m : ℕ). Split-fits (laid (a .u) (a .n * (a .width + 1)) (a .ends) (a .g)) (a .u) (a .u + 2 * (a .n * (a .width + 1))) m (2 * a .n) (a .s .now))
           (sym (c .before .get .ensures .0))
-          (split-fills (a .s .now) (a .u) (a .ends) (a .g) (a .n) (a .width) (c .before .before .before .before .pre) (λ i. omega (arith, c .before .before .before .slice-known .given i))),
-      subst
-          (λ (m : ℕ). Walks (laid (a .u) (a .n * (a .width + 1)) (a .ends) (a .g)) (2 * a .n) (2 * m + 2 * a .n) (fillM (laid (a .u) (a .n * (a .width + 1)) (a .ends) (a .g)) m (2 * a .n) (a .s .now)))
-          (sym (c .before .get .ensures .0))
-          (split-walks (a .s .now) (a .u) (a .ends) (a .g) (a .n) (a .width) (c .before .before .before .before .pre) (λ i. omega (arith, c .before .before .before .slice-known .given i))),
+          (split-fits (a .s .now) (a .u) (a .ends) (a .g) (a .n) (a .width) (c .before .before .before .before .pre) (λ i. omega (arith, c .before .before .before .slice-known .given i))),
     )
 
 returns : tie.Need-returns

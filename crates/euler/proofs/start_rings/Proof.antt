@@ -3,11 +3,11 @@ use Prim.Native.Nat.{ℕ, _-_, _≤_}
 use mathlib.Core.Path.{_≡_, refl, sym, _∙_, ap}
 use mathlib.Core.List.{List}
 use lib.ListN.{length}
-use Rattle.euler.specs.Model.{startRowM, startM}
+use Rattle.euler.specs.Model.{startRingM, startM}
 use Rattle.euler.proofs.ModelLaws.{start-more}
 use borrow.Author.Needs.{needs}
-use Rattle.euler.proofs.start_rows.Statement.{statement}
-use Rattle.euler.proofs.start_rows.Tie as tie
+use Rattle.euler.proofs.start_rings.Statement.{statement}
+use Rattle.euler.proofs.start_rings.Tie as tie
 
 abbrev Inv-loop : tie.InvT-loop
 Inv-loop s₀ l parties v₀ s v = (v ≤ parties) × (length s ≡ length s₀) × (s ≡ startM l v s₀)
@@ -24,8 +24,8 @@ loop-again c =
     let inv = c .before .before .before .before .before .loop .inv in (
       search needs,
       search needs,
-      c .before .before .start-row .ensures
-          ∙ ap (λ (t : List ℕ). startRowM (c .before .before .before .before .before .before .before .args .l) t (c .before .before .before .before .before .loop .v)) (inv .2)
+      c .before .before .start-ring .ensures
+          ∙ ap (λ (t : List ℕ). startRingM (c .before .before .before .before .before .before .before .args .l) t (c .before .before .before .before .before .loop .v)) (inv .2)
           ∙ sym (start-more (c .before .before .before .before .before .before .before .args .l) (c .before .before .before .before .before .loop .v) (c .before .before .before .before .before .before .before .args .s .now)),
     )
 
@@ -35,8 +35,8 @@ returns c =
     let e : c .before .loop .v ≡ c .before .before .before .args .parties = omega arith in
     rw e at (inv .2)
 
-pub start-rows-spec : {M : Type 1} → statement M
-start-rows-spec =
+pub start-rings-spec : {M : Type 1} → statement M
+start-rings-spec =
     tie.close
     (tie.spec
     Inv-loop

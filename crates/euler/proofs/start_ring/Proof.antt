@@ -1,12 +1,12 @@
 use borrow.Author.Needs.{needs}
-use Rattle.euler.proofs.start_row.Statement.{statement}
-use Rattle.euler.proofs.start_row.Tie as tie
+use Rattle.euler.proofs.start_ring.Statement.{statement}
+use Rattle.euler.proofs.start_ring.Tie as tie
 
 returns : tie.Need-returns
 returns c = cc
 
-pub start-row-spec : {M : Type 1} → statement M
-start-row-spec =
+pub start-ring-spec : {M : Type 1} → statement M
+start-ring-spec =
     tie.close
     (tie.spec
     (λ c. search needs)
