@@ -21,7 +21,7 @@ use Rattle.multigraph.specs.Stored.{entry, graph-at}
 use Rattle.multigraph.specs.Places.{size, number, copies-of}
 use Rattle.multigraph.proofs.Spans.{graph-span, total-span}
 use Rattle.matching.specs.Matching.{power-above, flagged-pairs, flagged-copies}
-use Rattle.matching.specs.Choosing.{flagged-by, flagged-entry, fewer, Chooses}
+use Rattle.matching.specs.Choosing.{flagged-by, flagged-entry, fewer, Chooses, Inside-both, Side-by-side}
 use Rattle.matching.proofs.Powers.{power-above-law}
 
 -- ── entry by entry ──
@@ -126,6 +126,16 @@ chooses first room pairs by s l pos is ends a b =
       add-zero,
       add-zero,
     )
+
+-- The chosen half lies inside the words, and so does its copy at h.
+pub chosen-inside :
+    (first room pairs h : ℕ) (by : Bool) (s : List ℕ) (r : ℕ) → Side-by-side first room h s →
+    Chooses first room pairs by s r → Inside-both r h (size s r) s
+chosen-inside first room pairs h by s r halves is =
+    rw (is 0 (halves .first-fits) (halves .second-fits))
+    (fewer-is (λ (x : ℕ). Inside-both x h (size s x) s) by (graph-at s 0 pairs first) (graph-at s 0 pairs (first + room))
+    (word s first) (word s (first + room)) (rw (halves .first-base) (omega (arith, halves)))
+    (rw (halves .second-base) (omega (arith, halves))))
 
 pub part-length : (s : List ℕ) (a w : ℕ) → a + w ≤ length s → length (part s a w) ≡ w
 part-length s a w h = simp (length-take, length-drop) (omega arith)

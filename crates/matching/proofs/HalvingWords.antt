@@ -27,7 +27,7 @@ use Rattle.euler.specs.Halved.{Split-of}
 use Rattle.euler.specs.Room.{Splits, Numbers-from, Halves-stored}
 use Rattle.euler.proofs.SplitLaws.{split-law}
 use Rattle.matching.specs.Matching.{fewer-flagged, halve}
-use Rattle.matching.specs.Choosing.{flagged-by, Chooses, Can-copy, Copied, Copies}
+use Rattle.matching.specs.Choosing.{flagged-by, Chooses, Can-copy, Copied, Copies, Side-by-side}
 use Rattle.matching.specs.Searched.{Search-laid, Searching, Can-halve, Halved, Can-halve-all, Halved-all}
 use Rattle.matching.specs.declared.Table.{Table}
 use Rattle.matching.proofs.Halving.{Half-of, half-of}
@@ -66,6 +66,19 @@ module _ (t : Table) (h n width mark : ℕ) (s : List ℕ) (can : Can-halve t h 
 
   abbrev wide : ℕ
   wide = 2 * (n * (width + 1))
+
+  -- the two halves, and the room for the one that goes on
+  pub side-by-side :
+      (v : List ℕ) (above : ℕ) → Halves-stored s v mark above (t .ends) h n width → Side-by-side mark wide h v
+  side-by-side v above st =
+      record {
+        first-base = st .first-base;
+        second-base = st .second-base;
+        first-fits = omega (arith, st .first-count, within .under);
+        second-fits = omega (arith, st .second-count, within .under);
+        inside = omega (arith, can .laid .room, st .keeps .len);
+        below = omega (arith, can .laid .behind, can .laid .room, st .keeps .len);
+      }
 
   -- ── a half at x, copied down ──
 
@@ -132,11 +145,8 @@ module _ (t : Table) (h n width mark : ℕ) (s : List ℕ) (can : Can-halve t h 
     law : Split-of (2 * n) (can .side) (can .half) G both
     law = rw (st .halves (t .pairs)) at (split-law (2 * n) (can .side) (can .half) G (can .graph .regular))
 
-    first-fits : 2 + 2 * size v mark ≤ wide
-    first-fits = omega (arith, st .first-count, within .under)
-
-    second-fits : 2 + 2 * size v (mark + wide) ≤ wide
-    second-fits = omega (arith, st .second-count, within .under)
+    fit : Side-by-side mark wide h v
+    fit = side-by-side v above st
 
     gone :
         (x : ℕ) → mark ≤ x → size v x ≤ size s h → Numbers-from s v h x →
@@ -158,7 +168,7 @@ module _ (t : Table) (h n width mark : ℕ) (s : List ℕ) (can : Can-halve t h 
     halved = go (leb (flagged-by by (both .first-half)) (flagged-by by (both .second-half))) refl
       where
         is : from ≡ pick (leb (flagged-by by (both .first-half)) (flagged-by by (both .second-half))) (word v mark) (word v (mark + wide))
-        is = chooses (t .ends) first-fits second-fits
+        is = chooses (t .ends) (fit .first-fits) (fit .second-fits)
 
         go : (b : Bool) → leb (flagged-by by (both .first-half)) (flagged-by by (both .second-half)) ≡ b → Halved t h n by mark new s u
         go true e =

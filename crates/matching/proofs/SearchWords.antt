@@ -16,6 +16,7 @@ use Rattle.multigraph.specs.Stored.{graph-at}
 use Rattle.multigraph.specs.Places.{size, copies-of, Alike}
 use Rattle.multigraph.proofs.Sizes.{entries-few, entries-copies}
 use Rattle.matching.specs.Matching.{power-above, add-times, add-diagonal, search-graph, flagged-pairs}
+use Rattle.matching.specs.Choosing.{Inside-both}
 use Rattle.matching.specs.Searched.{lefts, rights, Can-build, Graph-built, Searching, Can-halve-all, Halved-all, Can-search, Search-done}
 use Rattle.matching.specs.declared.Table.{Table}
 use Rattle.matching.proofs.Columns.{length-column, column-at, column-once}
@@ -98,6 +99,10 @@ module _ (t : Table) (g n k mark : ℕ) (s : List ℕ) (can : Can-search t g n k
         graph = omega (arith, can .below, can .room, can .short, can .some);
         top = omega (arith, can .room, can .short, can .some);
       }
+
+  -- the graph and its copy lie inside the words
+  pub copy-inside : Inside-both g mark (size s g) s
+  copy-inside = (omega (arith, can .below, can .room), omega (arith, few-pairs, can .room, can .some))
 
   module _ (p : ℕ) (is : p ≡ 2 ^ power-above (k * n)) where
     -- and so do α and β

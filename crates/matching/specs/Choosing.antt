@@ -62,6 +62,19 @@ pub record Copied (from to α : ℕ) (s t : List ℕ) : Type 0 where
 abbrev pub Copies : ℕ → ℕ → ℕ → List ℕ → List ℕ → Type 0
 Copies from to α s t = Can-copy from to α s → Copied from to α s t
 
+-- m entries of the graph at `from`, and the place for them at `to`, lie inside the words.
+abbrev pub Inside-both : ℕ → ℕ → ℕ → List ℕ → Type 0
+Inside-both from to m s = (from + 2 + 2 * m ≤ length s) × (to + 2 + 2 * m ≤ length s)
+
+-- Two halves, each with so much room, lie side by side at `first`, and at h there is as much room.
+pub record Side-by-side (first room h : ℕ) (s : List ℕ) : Type 0 where
+  pub first-base : word s first ≡ first
+  pub second-base : word s (first + room) ≡ first + room
+  pub first-fits : 2 + 2 * size s first ≤ room
+  pub second-fits : 2 + 2 * size s (first + room) ≤ room
+  pub inside : first + room + room ≤ length s
+  pub below : h + room ≤ length s
+
 -- Of two halves side by side at `first` the one that goes on is copied to h.
 pub record Goes-on (first room pairs h : ℕ) (by : Bool) (s t : List ℕ) : Type 0 where
   pub from : ℕ

@@ -8,13 +8,15 @@ ghost use Rattle.words.specs.Words.{word, «put-word»};
 ghost use Rattle.multigraph.specs.Stored.{«graph-at»};
 ghost use Rattle.multigraph.specs.Places.{size, «Adds-edge»};
 ghost use Rattle.matching.specs.Matching.{«power-above», «flagged-pairs»};
-ghost use Rattle.matching.specs.Choosing.{«flagged-by», «flagged-entry», fewer, Chooses, Copies, «Copying», «Can-copy», «Goes-on»};
+ghost use Rattle.matching.specs.Choosing.{«flagged-by», «flagged-entry», fewer, Chooses, Copies, «Copying», «Can-copy», «Inside-both», «Side-by-side», «Goes-on»};
 ghost use Rattle.matching.specs.Searched.{«Adds-diagonal», «Builds-graph», «Can-halve», Halved, «Can-halve-all», «Halved-all»};
 ghost use Rattle.matching.specs.Searched.{«Can-search», «Search-done», «Searches-done», «Reads-matching», «Can-find», «Matching-found»};
 use mark::Mark;
 use multigraph::EdgeIndex;
 use words::get;
 use words::put;
+use words::set_word;
+use words::word_at;
 
 // Where the table of a regular graph lies: the ends, two words for each pair and then for left i with right i; the map of
 // places; the numbers of the diagonal; and how many pairs there are. A number is flagged if it is not below `pairs`.
@@ -102,12 +104,13 @@ fn copy_entry(s: &mut [u32], from: usize, to: usize, alpha: usize, i: usize)
     requires { ⌜ to < 4294967296 ⌝ }
     requires { ⌜ alpha < 4294967296 ⌝ }
     requires { ⌜ i < 4294967296 ⌝ }
+    requires { ⌜ Inside-both from to (i + 1) (now s) ⌝ }
     ensures { λ r. ⌜ now (s .exit) ≡ put-word (put-word (now (s .entry)) (to + 2 + 2 * i) (word (now (s .entry)) (from + 2 + 2 * i))) (to + 3 + 2 * i) (alpha * word (now (s .entry)) (from + 3 + 2 * i)) ⌝ }
 {
-    let e = get(s, from + 2 + 2 * i);
-    let c = get(s, from + 3 + 2 * i);
-    put(s, to + 2 + 2 * i, e);
-    put(s, to + 3 + 2 * i, alpha * c);
+    let e = word_at(s, from + 2 + 2 * i);
+    let c = word_at(s, from + 3 + 2 * i);
+    set_word(s, to + 2 + 2 * i, e);
+    set_word(s, to + 3 + 2 * i, alpha * c);
 }
 
 // Copies `m` entries.
@@ -116,6 +119,7 @@ fn copy_entries(s: &mut [u32], from: usize, to: usize, alpha: usize, m: usize)
     requires { ⌜ to < 4294967296 ⌝ }
     requires { ⌜ alpha < 4294967296 ⌝ }
     requires { ⌜ m < 4294967296 ⌝ }
+    requires { ⌜ Inside-both from to m (now s) ⌝ }
     ensures { λ r. ⌜ (m ≡ size (now (s .entry)) from → Can-copy from to alpha (now (s .entry)) → Copying from to alpha m (now (s .entry)) (now (s .exit))) ⌝ }
 {
     let mut i = 0;
@@ -130,12 +134,13 @@ fn copy_times(s: &mut [u32], from: usize, to: usize, alpha: usize)
     requires { ⌜ from < 4294967296 ⌝ }
     requires { ⌜ to < 4294967296 ⌝ }
     requires { ⌜ alpha < 4294967296 ⌝ }
+    requires { ⌜ Inside-both from to (size (now s) from) (now s) ⌝ }
     ensures { λ r. ⌜ Copies from to alpha (now (s .entry)) (now (s .exit)) ⌝ }
 {
-    let m = get(s, from + 1);
+    let m = word_at(s, from + 1);
     copy_entries(s, from, to, alpha, m);
-    put(s, to, to);
-    put(s, to + 1, m);
+    set_word(s, to, to);
+    set_word(s, to + 1, m);
 }
 
 // `beta` copies of left `i` with right `i`: the pair that has these ends, or a new one with the number of their row.
@@ -172,7 +177,7 @@ fn add_diagonal(s: &mut [u32], t: Table, h: usize, n: usize, beta: usize)
 
 // The graph that a search splits, built at `h` from the graph at `g`.
 fn search_graph(s: &mut [u32], t: Table, g: usize, h: usize, n: usize, alpha: usize, beta: usize)
-    requires { ⌜ (t .places < 4294967296) × (t .diag < 4294967296) × (t .pairs + n < 4294967296) × (g < 4294967296) × (h < 4294967296) × (alpha < 4294967296) × (beta < 4294967296) ⌝ }
+    requires { ⌜ (t .places < 4294967296) × (t .diag < 4294967296) × (t .pairs + n < 4294967296) × (g < 4294967296) × (h < 4294967296) × (alpha < 4294967296) × (beta < 4294967296) × Inside-both g h (size (now s) g) (now s) ⌝ }
     ensures { λ r. ⌜ Builds-graph t g h n alpha beta (now (s .entry)) (now (s .exit)) ⌝ }
 {
     copy_times(s, g, h, alpha);
@@ -181,7 +186,7 @@ fn search_graph(s: &mut [u32], t: Table, g: usize, h: usize, n: usize, alpha: us
 
 // Of the two halves at `first`, side by side, the one that goes on is copied down to `h`.
 fn go_on(s: &mut [u32], first: usize, room: usize, pairs: usize, h: usize, by_copies: bool)
-    requires { ⌜ (0 < room) × (first + room + room ≤ length (now s)) × (h < 4294967296) ⌝ }
+    requires { ⌜ (0 < room) × (h < 4294967296) × Side-by-side first room h (now s) ⌝ }
     ensures { λ r. ⌜ Goes-on first room pairs h «by_copies» (now (s .entry)) (now (s .exit)) ⌝ }
 {
     let from = chosen(s, first, room, pairs, by_copies);

@@ -7,7 +7,7 @@ use lib.Dec.{leb}
 use lib.ListN.{length}
 use Rattle.words.specs.Basics.{pick}
 use Rattle.words.specs.Words.{word}
-pub use Rattle.words.specs.Frames.{Changes}
+use Rattle.words.specs.Frames.{Changes}
 use Rattle.multigraph.specs.Multigraph.{add-edge, add-matching, remove-matching}
 use Rattle.multigraph.specs.Regular.{Same-ends, Apart, Positive}
 use Rattle.multigraph.specs.Stored.{graph-at, matching-at}

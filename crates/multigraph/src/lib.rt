@@ -5,6 +5,7 @@
 // word in a map of places answers that. specs/Stored.antt says which graph lies in the words, specs/Places.antt what the map is.
 ghost use mathlib.Core.Path.{_≡_};
 ghost use Prim.Native.Nat.{ℕ, _+_, _*_, _-_, _<_, _≤_};
+ghost use lib.ListN.{length};
 ghost use Rattle.words.specs.Words.{word, «put-word»};
 ghost use Rattle.multigraph.specs.Places.{size, «copies-of», «Maps-places», «Adds-edge», «Adds-matching», «Removes-matching»};
 ghost use Rattle.multigraph.specs.Steps.{Writes, «less-of», «rest-words», «rest-next», «Copies-rest»};
@@ -17,24 +18,13 @@ pub struct NodeIndex(pub u32);
 // A pair's number: its row in the table of ends.
 pub struct EdgeIndex(pub u32);
 
-// The first end of pair `e`.
-pub fn first_end(s: &[u32], ends: usize, e: EdgeIndex) -> NodeIndex
-    requires { ⌜ ends < 4294967296 ⌝ }
-    ensures { λ r. ⌜ r .0 ≡ word (now (s .entry)) (ends + 2 * e .0) ⌝ }
+// The end of pair `e` on one side: the first end (0) or the second (1).
+pub fn end_of(s: &[u32], ends: usize, side: usize, e: EdgeIndex) -> NodeIndex
+    requires { ⌜ (ends < 4294967296) × (side < 2) × (ends + 2 * e .0 + side < length (now s)) ⌝ }
+    ensures { λ r. ⌜ r .0 ≡ word (now (s .entry)) (ends + 2 * e .0 + side) ⌝ }
 {
     let i = e.0 as usize;
-    let v = get(s, ends + 2 * i);
-    NodeIndex(v as u32)
-}
-
-// The second end of pair `e`.
-pub fn second_end(s: &[u32], ends: usize, e: EdgeIndex) -> NodeIndex
-    requires { ⌜ ends < 4294967296 ⌝ }
-    ensures { λ r. ⌜ r .0 ≡ word (now (s .entry)) (ends + 2 * e .0 + 1) ⌝ }
-{
-    let i = e.0 as usize;
-    let v = get(s, ends + 2 * i + 1);
-    NodeIndex(v as u32)
+    NodeIndex(s[ends + 2 * i + side])
 }
 
 // Puts `x` into the map for the pair whose number stands at `at`.

@@ -1,4 +1,5 @@
-// Words in lent slices: reading and writing that is total, and clearing. Everything above stands on these.
+// Words in lent slices: reading and writing, with a test (total) or without (at a place that is one), and clearing. Everything
+// above stands on these.
 ghost use mathlib.Core.Path.{_≡_};
 ghost use mathlib.Core.List.{_++_};
 ghost use Prim.Native.Nat.{ℕ, _+_, _<_, _≤_};
@@ -43,6 +44,32 @@ pub fn put16(s: &mut [u16], i: usize, x: usize)
     if i < s.len() {
         s[i] = (x % 65536) as u16;
     }
+}
+
+// The word at `i`, which is a place: no test.
+pub fn word_at(s: &[u32], i: usize) -> usize
+    requires { ⌜ i < length (now s) ⌝ }
+    ensures { λ r. ⌜ (r ≡ word (now (s .entry)) i) × (r < 4294967296) ⌝ }
+{
+    let x = s[i];
+    x as usize
+}
+
+// Puts `x`, cut to 32 bits, at `i`, which is a place: no test.
+pub fn set_word(s: &mut [u32], i: usize, x: usize)
+    requires { ⌜ i < length (now s) ⌝ }
+    ensures { λ r. ⌜ now (s .exit) ≡ put-word (now (s .entry)) i x ⌝ }
+{
+    s[i] = (x % 4294967296) as u32;
+}
+
+// The 16-bit word at `i`, which is a place: no test.
+pub fn half_word_at(s: &[u16], i: usize) -> usize
+    requires { ⌜ i < length (now s) ⌝ }
+    ensures { λ r. ⌜ (r ≡ word (now (s .entry)) i) × (r < 65536) ⌝ }
+{
+    let x = s[i];
+    x as usize
 }
 
 // Sets the first `n` words to 0.

@@ -10,9 +10,9 @@ use Rattle.matching.proofs.copy_times.Tie as tie
 returns : tie.Need-returns
 returns c =
     let a = c .before .before .before .before .before .before .before .before .before .before .before .before .before .before .before .args in
-    let words : c .before .before .put2 .last .0 ≡ put-word (put-word (c .before .before .before .before .before .before .before .before .before .before .copy-entries .last .0) (a .to) (a .to)) (a .to + 1) (c .before .before .before .before .before .before .before .before .before .before .before .before .get .result) = rw (c .before .before .before .before .before .before .put .ensures) at (c .before .before .put2 .ensures) in
+    let words : c .before .before .set-word2 .last .0 ≡ put-word (put-word (c .before .before .before .before .before .before .before .before .before .before .copy-entries .last .0) (a .to) (a .to)) (a .to + 1) (c .before .before .before .before .before .before .before .before .before .before .before .before .word-at .result) = rw (c .before .before .before .before .before .before .set-word .ensures) at (c .before .before .set-word2 .ensures) in
     λ can.
-    copied-done (a .from) (a .to) (a .alpha) (c .before .before .before .before .before .before .before .before .before .before .before .before .get .result) (a .s .now) (c .before .before .before .before .before .before .before .before .before .before .copy-entries .last .0) (c .before .before .put2 .last .0) can (c .before .before .before .before .before .before .before .before .before .before .before .before .get .ensures .0) (c .before .before .before .before .before .before .before .before .before .before .copy-entries .ensures (c .before .before .before .before .before .before .before .before .before .before .before .before .get .ensures .0) can) words
+    copied-done (a .from) (a .to) (a .alpha) (c .before .before .before .before .before .before .before .before .before .before .before .before .word-at .result) (a .s .now) (c .before .before .before .before .before .before .before .before .before .before .copy-entries .last .0) (c .before .before .set-word2 .last .0) can (c .before .before .before .before .before .before .before .before .before .before .before .before .word-at .ensures .0) (c .before .before .before .before .before .before .before .before .before .before .copy-entries .ensures (c .before .before .before .before .before .before .before .before .before .before .before .before .word-at .ensures .0) can) words
 
 pub copy-times-spec : {M : Type 1} → statement M
 copy-times-spec =

@@ -63,7 +63,7 @@ use Rattle.euler.specs.Room.{Halves-stored}
 use Rattle.matching.specs.Choosing.{Goes-on}
 use Rattle.matching.specs.Searched.{Can-halve}
 use Rattle.matching.proofs.Narrow.{width-small}
-use Rattle.matching.proofs.HalvingWords.{splits, halved}
+use Rattle.matching.proofs.HalvingWords.{splits, side-by-side, halved}
 use Rattle.matching.proofs.halve_once.Key.{name as #matching·halve-once}
 use Rattle.matching.proofs.halve_once as halve-once
 use Rattle.matching.proofs.halve_once.Statement as stated
@@ -117,7 +117,7 @@ module _ {M : Type 1} (𝓤 : URA M) (H : Heap 𝓤) (A : Atoms 𝓤) (W : Given
         assigns ! (bin ! (lit ! tt) (load ! (from ! (stop !)) (look ! 8 refl)) (record { fits = (omega (arith, width-small n width (ok .0 .laid .some) (ok .0 .laid .most), ok .0 .laid .most, ok .0 .laid .table, ok .0 .laid .behind, ok .0 .laid .room, ok .0 .laid .short)) })) (from ! (stop !)) (init ! 6 refl (tt, record { fits = (omega (arith, width-small n width (ok .0 .laid .some) (ok .0 .laid .most), ok .0 .laid .most, ok .0 .laid .table, ok .0 .laid .behind, ok .0 .laid .room, ok .0 .laid .short)) })) $
         calls-scratch-plain ! l room fm unit (plain (λ _. usize) ∷ plain (λ _. usize) ∷ plain (λ _. usize) ∷ plain (λ _. usize) ∷ plain (λ _. Boolean) ∷ []) (yes, (yes, (yes, (yes, (yes, tt))))) (go-on.clauses 𝓤 H A mem run) known-go-on (n2) (ys2) le2 (λ ν. (m .now .taken, (2 * (n * (width + 1)), (t .pairs, (h, (by-copies, tt)))))) (λ ν. (vint w64 (m .now .taken) ∷ [], (vint w64 (2 * (n * (width + 1))) ∷ [], (vint w64 (t .pairs) ∷ [], (vint w64 h ∷ [], (vbool by-copies ∷ [], tt)))))) (λ ν δ. tt)
         (λ ν. owns-make 𝓤 H A (usize ∷ usize ∷ usize ∷ usize ∷ Boolean ∷ []) (Ises (usize ∷ usize ∷ usize ∷ usize ∷ Boolean ∷ [])) (uint-makes 𝓤 H A W w64, (uint-makes 𝓤 H A W w64, (uint-makes 𝓤 H A W w64, (uint-makes 𝓤 H A W w64, (bool-makes 𝓤 H A W, tt))))) (m .now .taken, (2 * (n * (width + 1)), (t .pairs, (h, (by-copies, tt))))) (vint w64 (m .now .taken) ∷ [], (vint w64 (2 * (n * (width + 1))) ∷ [], (vint w64 (t .pairs) ∷ [], (vint w64 h ∷ [], (vbool by-copies ∷ [], tt))))) ((refl, (omega (arith, width-small n width (ok .0 .laid .some) (ok .0 .laid .most), ok .0 .laid .most, ok .0 .laid .table, ok .0 .laid .behind, ok .0 .laid .room, ok .0 .laid .short))), ((refl, (omega (arith, width-small n width (ok .0 .laid .some) (ok .0 .laid .most), ok .0 .laid .most, ok .0 .laid .table, ok .0 .laid .behind, ok .0 .laid .room, ok .0 .laid .short))), ((refl, (omega (arith, width-small n width (ok .0 .laid .some) (ok .0 .laid .most), ok .0 .laid .most, ok .0 .laid .table, ok .0 .laid .behind, ok .0 .laid .room, ok .0 .laid .short))), ((refl, h-fits), (refl, tt))))))
-        (λ ν δ. shown 𝓤 (omega (arith, mul-le-mul-right (width + 1) (ok .0 .laid .some)), omega (arith, ok .0 .laid .room, le2), omega (arith, mul-le-mul-right (width + 1) (ok .0 .laid .some), ok .0 .laid .behind, ok .0 .laid .room, ok .0 .laid .short)))
+        (λ ν δ. shown 𝓤 (omega (arith, mul-le-mul-right (width + 1) (ok .0 .laid .some)), omega (arith, mul-le-mul-right (width + 1) (ok .0 .laid .some), ok .0 .laid .behind, ok .0 .laid .room, ok .0 .laid .short), side-by-side t h n width (m .now .taken) (s .now) (ok .0) ys2 (n2 .taken) (p2 .0)))
         (λ r3 ys3. Goes-on (m .now .taken) (2 * (n * (width + 1))) (t .pairs) h by-copies ys2 ys3) (λ ν δ r3 ys3 ws. id⊢ 𝓤 _)
         (λ ν δ P. and-then ! (load ! (from ! (stop !)) (look ! 12 refl)) (and-then ! (load ! (from ! (stop !)) (look ! 26 refl)) (and-then ! (load ! (from ! (stop !)) (look ! 6 refl)) (and-then ! (load ! (from ! (fld ! refl (stop !))) (look-in ! 36 (sub ! 3 refl (whole !)))) (and-then ! (load ! (from ! (stop !)) (look ! 34 refl)) (and-then ! (load ! (from ! (stop !)) (look ! 28 refl)) (no-more !))))))) (λ w3 r3 ys3 le3 is3 p3.
         land ! (from ! (stop !)) (store ! 22 refl (nothing-lawful 𝓤 H A W .typed r3 _ is3 .0)) $

@@ -75,7 +75,7 @@ use Rattle.multigraph.specs.Places.{size}
 use Rattle.matching.specs.Matching.{power-above as power-of, flagged-pairs}
 use Rattle.matching.specs.Searched.{Can-search, Builds-graph, Halved-all, Search-done}
 use Rattle.matching.proofs.Narrow.{width-small}
-use Rattle.matching.proofs.SearchWords.{cut, addresses, shares-fit, can-build, can-halve-all, search-done}
+use Rattle.matching.proofs.SearchWords.{cut, addresses, copy-inside, shares-fit, can-build, can-halve-all, search-done}
 use Rattle.matching.proofs.search.Key.{name as #matching·search}
 use Rattle.matching.proofs.search as search
 use Rattle.matching.proofs.search.Statement as stated
@@ -132,7 +132,7 @@ module _ {M : Type 1} (𝓤 : URA M) (H : Heap 𝓤) (A : Atoms 𝓤) (W : Given
         assigns ! (bin ! (load ! (from ! (stop !)) (look ! 30 refl)) (load ! (from ! (stop !)) (look ! 24 refl)) ((cut n k r2 p2 (ok .0 .several) (ok .0 .some) (ok .0 .most) .times))) (from ! (stop !)) (store ! 26 refl (tt, record { fits = (omega (arith, is2 .1)) })) $
         calls-scratch-plain ! l room fm unit (plain (λ _. Table-T.the-row) ∷ plain (λ _. usize) ∷ plain (λ _. usize) ∷ plain (λ _. usize) ∷ plain (λ _. usize) ∷ plain (λ _. usize) ∷ []) (yes, (yes, (yes, (yes, (yes, (yes, tt)))))) (search-graph.clauses 𝓤 H A mem run) known-search-graph (taken-more (2 * (n * (k + 2))) (m .now)) (s .now) refl (λ ν. (t, (g, (m .now .taken, (n, (r2 / k, (r2 - (k * (r2 / k)), tt))))))) (λ ν. (Table-T′.lowered t ∷ [], (vint w64 g ∷ [], (vint w64 (m .now .taken) ∷ [], (vint w64 n ∷ [], (vint w64 (r2 / k) ∷ [], (vint w64 (r2 - (k * (r2 / k))) ∷ [], tt))))))) (λ ν δ. tt)
         (λ ν. owns-make 𝓤 H A (Table-T.the-row ∷ usize ∷ usize ∷ usize ∷ usize ∷ usize ∷ []) (Ises (Table-T.the-row ∷ usize ∷ usize ∷ usize ∷ usize ∷ usize ∷ [])) (LL.makes Table-T.the-type Table-T′.the-plain 𝓤 H A, (uint-makes 𝓤 H A W w64, (uint-makes 𝓤 H A W w64, (uint-makes 𝓤 H A W w64, (uint-makes 𝓤 H A W w64, (uint-makes 𝓤 H A W w64, tt)))))) (t, (g, (m .now .taken, (n, (r2 / k, (r2 - (k * (r2 / k)), tt)))))) (Table-T′.lowered t ∷ [], (vint w64 g ∷ [], (vint w64 (m .now .taken) ∷ [], (vint w64 n ∷ [], (vint w64 (r2 / k) ∷ [], (vint w64 (r2 - (k * (r2 / k))) ∷ [], tt)))))) (t-is, ((refl, g-fits), ((refl, fits1), ((refl, n-fits), ((refl, (omega (arith, shares-fit t g n k (m .now .taken) (s .now) (ok .0) r2 p2 .0))), ((refl, (omega (arith, is2 .1))), tt)))))))
-        (λ ν δ. shown 𝓤 (addresses t g n k (m .now .taken) (s .now) (ok .0) .places, addresses t g n k (m .now .taken) (s .now) (ok .0) .diag, addresses t g n k (m .now .taken) (s .now) (ok .0) .rows, addresses t g n k (m .now .taken) (s .now) (ok .0) .graph, addresses t g n k (m .now .taken) (s .now) (ok .0) .top, shares-fit t g n k (m .now .taken) (s .now) (ok .0) r2 p2 .0, shares-fit t g n k (m .now .taken) (s .now) (ok .0) r2 p2 .1))
+        (λ ν δ. shown 𝓤 (addresses t g n k (m .now .taken) (s .now) (ok .0) .places, addresses t g n k (m .now .taken) (s .now) (ok .0) .diag, addresses t g n k (m .now .taken) (s .now) (ok .0) .rows, addresses t g n k (m .now .taken) (s .now) (ok .0) .graph, addresses t g n k (m .now .taken) (s .now) (ok .0) .top, shares-fit t g n k (m .now .taken) (s .now) (ok .0) r2 p2 .0, shares-fit t g n k (m .now .taken) (s .now) (ok .0) r2 p2 .1, copy-inside t g n k (m .now .taken) (s .now) (ok .0)))
         (λ r3 ys3. Builds-graph t g (m .now .taken) n (r2 / k) (r2 - k * (r2 / k)) (s .now) ys3) (λ ν δ r3 ys3 ws. id⊢ 𝓤 _)
         (λ ν δ P. and-then ! (load ! (from ! (stop !)) (look ! 16 refl)) (and-then ! (load ! (from ! (stop !)) (look ! 44 refl)) (and-then ! (load ! (from ! (stop !)) (look ! 42 refl)) (and-then ! (load ! (from ! (stop !)) (look ! 32 refl)) (and-then ! (load ! (from ! (stop !)) (look ! 40 refl)) (and-then ! (load ! (from ! (stop !)) (look ! 28 refl)) (and-then ! (load ! (from ! (stop !)) (look ! 26 refl)) (no-more !)))))))) (λ w3 r3 ys3 le3 is3 p3.
         land ! (from ! (stop !)) (init ! 20 refl (nothing-lawful 𝓤 H A W .typed r3 _ is3 .0)) $

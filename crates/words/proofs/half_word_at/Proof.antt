@@ -1,0 +1,14 @@
+use native.Mathlib.Omega.{arith}
+use mathlib.Core.Path.{refl}
+use borrow.Author.Needs.{needs}
+use Rattle.words.proofs.half_word_at.Statement.{statement}
+use Rattle.words.proofs.half_word_at.Tie as tie
+
+cast-result : tie.Need-cast-result
+cast-result c = omega (arith, c .shared-slice-known .given (c .before .args .i))
+
+returns : tie.Need-returns
+returns c = (refl, omega (arith, c .shared-slice-known .given (c .before .args .i)))
+
+pub half-word-at-spec : {M : Type 1} → statement M
+half-word-at-spec = tie.close (tie.spec (λ c. search needs) (λ c. search needs) cast-result returns)
