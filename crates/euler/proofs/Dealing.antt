@@ -2,7 +2,7 @@
 use Prim.Native.Nat.{ℕ, _+_, _*_, _/_, _%_, _<_}
 use mathlib.Core.Path.{_≡_, refl, _∙_, ap}
 use mathlib.Core.Bool.{Bool, true, false}
-use mathlib.Core.List.{List, [], _∷_}
+use mathlib.Core.List.{List, [], _∷_, _++_}
 use native.Mathlib.Omega.{arith}
 use borrow.Author.Tests.{leb-true, leb-false, eqb-true, eqb-false}
 use lib.Dec.{eqb, leb}
@@ -38,6 +38,27 @@ rest-zero f same [] z = refl
 rest-zero f same (p ∷ g) z =
     let none : f (with-copies 1 p) ≡ 0 = same 1 p ∙ omega arith in
     rest-cons f p g ∙ rw none (omega (arith, rest-zero f same g (omega arith)))
+
+-- the rest of one pair more, at the end
+pub rest-append : (x : Graph) (p : Pair) → rest (x ++ (p ∷ [])) ≡ rest x ++ rest (p ∷ [])
+unfolding rest
+rest-append [] p = refl
+rest-append (q ∷ x) p = go (eqb (q .copies % 2) 1) (rest-append x p)
+  where
+    go :
+        (b : Bool) → rest (x ++ (p ∷ [])) ≡ rest x ++ rest (p ∷ []) →
+        pick b (with-copies 1 q ∷ rest (x ++ (p ∷ []))) (rest (x ++ (p ∷ [])))
+        ≡ pick b (with-copies 1 q ∷ rest x) (rest x) ++ rest (p ∷ [])
+    go true h = ap (λ (y : Graph). with-copies 1 q ∷ y) h
+    go false h = h
+
+-- ── half of each pair ──
+
+-- half of one pair more, at the end
+pub halves-append : (h g : Graph) (p : Pair) → add-halves h (g ++ (p ∷ [])) ≡ pick (leb 2 (p .copies)) (add-edge (add-halves h g) (p .first) (p .second) (p .copies / 2) (p .bad)) (add-halves h g)
+unfolding add-halves
+halves-append h [] p = refl
+halves-append h (q ∷ g) p = halves-append _ g p
 
 -- ── weights ──
 

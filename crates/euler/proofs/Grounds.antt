@@ -1,9 +1,9 @@
 -- What a regular graph in words says of its entries, place by place. Assumes nothing.
-use Prim.Native.Nat.{ℕ, zero, suc, _+_, _*_, _-_, _%_, _≤_, _<_}
+use Prim.Native.Nat.{ℕ, zero, suc, _+_, _*_, _%_, _≤_, _<_}
 use mathlib.Core.Path.{_≡_, refl, sym, _∙_, ap}
 use mathlib.Core.Bool.{Bool, true, false}
 use mathlib.Core.List.{List, [], _∷_, _++_, map, reverse, reverse-append}
-use mathlib.Core.Logic.{_⊎_, inl, inr, ⊎-elim}
+use mathlib.Core.Logic.{inl, inr, ⊎-elim}
 use native.Mathlib.Omega.{arith}
 use native.Mathlib.Decide.{ℕ-discrete, decLt}
 use native.Mathlib.Numerals.{add-one}
@@ -12,7 +12,7 @@ use lib.Dec.{eqb, leb}
 use Rattle.words.specs.Basics.{pick, is, total, count, All, sum-below}
 use Rattle.words.specs.Words.{word}
 use Rattle.words.proofs.Sums.{is-eq, is-ne, is-le, total-append, total-reverse, total-map, total-zero-all, total-cong-all, total-all-zero, count-total, zero-count, all-map}
-use Rattle.multigraph.specs.Multigraph.{Pair, pair, Graph, joins, with-copies}
+use Rattle.multigraph.specs.Multigraph.{Pair, pair, Graph, joins}
 use Rattle.multigraph.specs.Regular.{between, pairs-between, Apart, Across, Regular, Same-ends}
 use Rattle.multigraph.specs.Stored.{entry, entries}
 use Rattle.multigraph.proofs.Ends.{joins-true, between-same, between-cases, between-self}
@@ -27,10 +27,11 @@ use Rattle.euler.proofs.Bases.{first-at, second-at}
 use Rattle.euler.proofs.HalfLaws.{upto, held}
 use Rattle.euler.proofs.StoredGraphs.{entries-snoc}
 use Rattle.euler.proofs.SplitLaws.{rest-even}
+use Rattle.euler.proofs.Dealing.{rest-append}
 
 -- ── place by place ──
 
-entries-all :
+pub entries-all :
     (R : Pair → Type 0) (s : List ℕ) (ends pairs g i n : ℕ) → All R (entries s ends pairs g i n) → (j : ℕ) → i ≤ j → j < i + n →
     R (entry s ends pairs g j)
 unfolding entries
@@ -39,7 +40,7 @@ entries-all R s ends pairs g i (suc n) h j lo hi =
     elim (ℕ-discrete j i)
     [ yes e ↦ rw e (h .0) | no q ↦ entries-all R s ends pairs g (i + 1) n (h .1) j (omega arith) (omega arith) ]
 
-entries-none : (s : List ℕ) (ends pairs g : ℕ) → entries s ends pairs g 0 0 ≡ []
+pub entries-none : (s : List ℕ) (ends pairs g : ℕ) → entries s ends pairs g 0 0 ≡ []
 unfolding entries
 entries-none s ends pairs g = refl
 
@@ -135,18 +136,6 @@ module _ (l : Rings) (s : List ℕ) (N m : ℕ) (side : ℕ → ℕ) (d : ℕ) (
           elim (ℕ-discrete c a) [ yes e ↦ inl (e, omega arith) | no n ↦ inr (omega arith, omega arith) ]
 
   -- ── the rest ──
-
-  rest-append : (x : Graph) (p : Pair) → rest (x ++ (p ∷ [])) ≡ rest x ++ rest (p ∷ [])
-  unfolding rest
-  rest-append [] p = refl
-  rest-append (q ∷ x) p = go (eqb (q .copies % 2) 1) (rest-append x p)
-    where
-      go :
-          (b : Bool) → rest (x ++ (p ∷ [])) ≡ rest x ++ rest (p ∷ []) →
-          pick b (with-copies 1 q ∷ rest (x ++ (p ∷ []))) (rest (x ++ (p ∷ [])))
-          ≡ pick b (with-copies 1 q ∷ rest x) (rest x) ++ rest (p ∷ [])
-      go true h = ap (λ (y : Graph). with-copies 1 q ∷ y) h
-      go false h = h
 
   module _ (pairs : ℕ) where
     abbrev flag : ℕ → ℕ

@@ -1,6 +1,6 @@
 -- What a half holds: the entries of 2 copies or more, in order, with half their copies and those dealt to them, and then the
 -- dealt entries of one copy, as they were dealt. This is the definition's adding to a pair or appending. Assumes nothing.
-use Prim.Native.Nat.{ℕ, zero, suc, _+_, _-_, _/_, _≤_, _<_}
+use Prim.Native.Nat.{ℕ, zero, suc, _+_, _/_, _≤_, _<_}
 use mathlib.Core.Path.{_≡_, refl, sym, _∙_, ap, subst}
 use mathlib.Core.Bool.{Bool, true, false, not}
 use mathlib.Core.List.{List, [], _∷_, _++_, map, append-assoc, append-nil}
@@ -17,6 +17,7 @@ use Rattle.multigraph.specs.Multigraph.{Pair, pair, Graph, joins, add-edge}
 use Rattle.multigraph.proofs.Ends.{true-joins}
 use Rattle.euler.specs.Split.{add-halves, add-pairs}
 use Rattle.euler.proofs.Places.{keep, keep-yes, keep-no, keep-append, keep-all}
+use Rattle.euler.proofs.Dealing.{halves-append}
 
 -- ── adding to a graph whose front doesn't have the pair ──
 
@@ -136,11 +137,6 @@ module _ (C F S flag : ℕ → ℕ) where
     own i c = true-joins (F i) (S i) (held i c) (inl (refl, refl))
 
     -- ── half of each entry ──
-
-    halves-append : (h g : Graph) (p : Pair) → add-halves h (g ++ (p ∷ [])) ≡ pick (leb 2 (p .copies)) (add-edge (add-halves h g) (p .first) (p .second) (p .copies / 2) (p .bad)) (add-halves h g)
-    unfolding add-halves
-    halves-append h [] p = refl
-    halves-append h (q ∷ g) p = halves-append _ g p
 
     pub halves-are : (n : ℕ) → n ≤ m → add-halves [] (upto n) ≡ bigs (λ i. 0) n
     unfolding add-halves upto bigs big

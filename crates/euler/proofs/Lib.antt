@@ -30,3 +30,17 @@ pub mod Pushes
 pub mod HalfWords
 pub mod Grounds
 pub mod SplitWords
+pub mod Leading
+pub mod Rounds
+pub mod RoundTours
+pub mod RoundEnds
+pub mod RoundModelLaws
+pub mod RoundHeld
+pub mod RoundFill
+pub mod RoundSteps
+pub mod RoundLists
+pub mod RoundWalk
+pub mod RoundGraph
+pub mod RoundGrounds
+pub mod RoundBegun
+pub mod RoundSplit

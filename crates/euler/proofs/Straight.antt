@@ -53,7 +53,7 @@ unfoldable pub along : List (List Pair) → List Pair
 along [] = []
 along (c ∷ cs) = c ++ along cs
 
-along-more : (cs : List (List Pair)) (c : List Pair) → along (cs ++ (c ∷ [])) ≡ along cs ++ c
+pub along-more : (cs : List (List Pair)) (c : List Pair) → along (cs ++ (c ∷ [])) ≡ along cs ++ c
 unfolding along
 along-more [] c = append-nil c
 along-more (d ∷ cs) c = ap (λ (l : List Pair). d ++ l) (along-more cs c) ∙ sym (append-assoc d (along cs) c)
@@ -78,7 +78,7 @@ trail-even side a b [] e z = omega (arith, ap side e)
 trail-even side a b (p ∷ ps) (c, lead, t) z =
     omega (arith, leads-across side p a c lead (omega arith), trail-even side c b ps t (omega arith))
 
-closed-even :
+pub closed-even :
     (side : ℕ → ℕ) (s : ℕ) (r : List Pair) (w : Walking) → total (aslant side) r ≡ 0 → Closed s r w →
     length (w .written) % 2 ≡ 0
 closed-even side s r w z c =
@@ -215,7 +215,7 @@ rests-same f a x y j k ex ey rx ry =
 
 -- ── dealing straight through ──
 
-every-other-even :
+pub every-other-even :
     (b : Bool) (xs ys : List Pair) → length xs % 2 ≡ 0 → every-other b (xs ++ ys) ≡ every-other b xs ++ every-other b ys
 unfolding every-other
 every-other-even b [] ys h = refl

@@ -1,6 +1,6 @@
 -- The walk from one party. It ends; what is written down then is a closed trail; and no party that it names has a pair left.
 -- Assumes nothing.
-use Prim.Native.Nat.{ℕ, _+_, _*_, _%_, _≤_, _<_}
+use Prim.Native.Nat.{ℕ, suc, _+_, _*_, _%_, _≤_, _<_}
 use mathlib.Core.Path.{_≡_, refl, sym, _∙_, ap, subst}
 use mathlib.Core.List.{List, [], _∷_}
 use mathlib.Core.Logic.{_⊎_, inl, inr, ⊎-elim}
@@ -222,3 +222,89 @@ walk-closes s r even =
 
     keep : (x : Walking) → Walked s r x → Walked s r (walk-step s x)
     keep x = turn-keeps s r x (walk-step s x) (turn s x)
+
+-- ── a start with two ends ──
+
+-- the pair at the bottom of the stack
+abbrev Bottom : Pair → List Step → Type 0
+Bottom p [] = ⊥
+Bottom p (e ∷ []) = e .pair ≡ p
+Bottom p (e ∷ d ∷ stack) = Bottom p (d ∷ stack)
+
+bottom-more : (p : Pair) (e : Step) (stack : List Step) → Bottom p stack → Bottom p (e ∷ stack)
+bottom-more p e [] h = absurd h
+bottom-more p e (d ∷ stack) h = h
+
+-- the walk is over: the pair p was written last, and no pair is left at the start
+record Over (s : ℕ) (p : Pair) (w : Walking) : Type 0 where
+  bare : w .stack ≡ []
+  spent : total (ends s) (w .left) ≡ 0
+  before : List Pair
+  written : w .written ≡ p ∷ before
+
+-- a walk from s whose first pair was p
+abbrev Led : ℕ → Pair → List Pair → Walking → Type 0
+Led s p r w = Walked s r w × (Bottom p (w .stack) ⊎ Over s p w)
+
+led-back :
+    (s : ℕ) (p : Pair) (r : List Pair) (e : Step) (stack : List Step) (left written : List Pair) → total (ends s) r ≡ 2 →
+    Walked s r (record { stack = e ∷ stack; left = left; written = written }) → total (ends (e .to)) left ≡ 0 →
+    Bottom p (e ∷ stack) →
+    Bottom p stack ⊎ Over s p (record { stack = stack; left = left; written = e .pair ∷ written })
+unfolding total
+led-back s p r e [] left written two i z b =
+    let met : e .to ≡ i .end = stuck-at-end s r (record { stack = e ∷ []; left = left; written = written }) i z in
+    let lead : Leads (e .pair) s (e .to) = i .stack-leads .0 in
+    inr
+    (record {
+      bare = refl;
+      spent = omega (arith, i .parity s, ap (is s) met, i .whole (ends s), leads-ends lead s, is-same s);
+      before = written;
+      written = ap (λ (q : Pair). q ∷ written) b;
+    })
+led-back s p r e (d ∷ stack) left written two i z b = inl b
+
+led-turn :
+    (s : ℕ) (p : Pair) (r : List Pair) (w x : Walking) → total (ends s) r ≡ 2 → Turn s w x → Walked s r w →
+    Bottom p (w .stack) ⊎ Over s p w → Bottom p (x .stack) ⊎ Over s p x
+led-turn s p r w x two (went q os t) i h =
+    ⊎-elim (λ b. inl (bottom-more p (record { pair = q; to = other-node q (standing s (w .stack)) }) (w .stack) b))
+    (λ o.
+    let start : standing s (w .stack) ≡ s = ap (standing s) (o .bare) in
+    absurd
+    (omega (
+      arith,
+      o .spent,
+      t .whole (ends s),
+      leads-ends (t .leads) s,
+      is-same s,
+      ap (is s) start,
+    ))) h
+led-turn s p r w x two (back e stack q z) i h =
+    ⊎-elim
+    (λ b.
+    led-back s p r e stack (w .left) (w .written) two (subst (λ (k : List Step). Walked s r (with-stack k w)) q i) z
+    (subst (Bottom p) q b))
+    (λ o. absurd (omega (arith, ap length (o .bare), ap length q))) h
+led-turn s p r w x two (ended q n) i h = h
+
+-- Where the start has two ends, the pair walked first is the one written last.
+pub walk-head :
+    (s : ℕ) (r : List Pair) (p : Pair) (ps : List Pair) → ((v : ℕ) → total (ends v) r % 2 ≡ 0) → total (ends s) r ≡ 2 →
+    first-pair s r ≡ taken p ps →
+    (before : List Pair) × (iterate (2 * length r) (walk-step s) (begin r) .written ≡ p ∷ before)
+unfolding iterate walk-step
+walk-head s r p ps even two e =
+    let t : Takes s r p ps = subst (Found s (ends s) r) e (first-pair-finds s r) in
+    let n : ℕ = suc (2 * length ps) in
+    let more : 2 * length r ≡ suc n = omega (arith, t .shorter) in
+    let c : Closed s r (iterate (2 * length r) (walk-step s) (begin r)) = walk-closes s r even in
+    let one : walk-step s (begin r) ≡ go-on s (begin r) p ps = rw e in
+    let w : Walking = iterate (2 * length r) (walk-step s) (begin r) in
+    let same : w ≡ iterate n (walk-step s) (go-on s (begin r) p ps) =
+    ap (λ (k : ℕ). iterate k (walk-step s) (begin r)) more ∙ ap (iterate n (walk-step s)) one in
+    let led : Led s p r (iterate n (walk-step s) (go-on s (begin r) p ps)) =
+    iterate-keeps {Inv = Led s p r} (walk-step s)
+    (λ x h. (turn-keeps s r x (walk-step s x) (turn s x) (h .0), led-turn s p r x (walk-step s x) two (turn s x) (h .0) (h .1))) n
+    (go-on s (begin r) p ps) (went-keeps s r (begin r) p ps t (begin-walked s r even), inl refl) in
+    ⊎-elim (λ b. absurd (subst (Bottom p) (c .empty) b)) (λ o. (o .before, o .written)) (subst (λ (x : Walking). Led s p r x) (sym same) led .1)

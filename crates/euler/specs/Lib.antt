@@ -4,5 +4,7 @@ pub mod Halved
 pub mod Room
 pub mod Model
 pub mod Bounds
+pub mod RoundModel
+pub mod RoundBounds
 pub mod Computing
 pub mod Examples

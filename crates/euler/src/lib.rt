@@ -13,9 +13,14 @@ ghost use Rattle.euler.specs.Bounds.{Pops, Unlinks, Takes, Backs, Steps,
 ghost use Rattle.euler.specs.Bounds.{«Entry-fits», «Entries-fit», «Single-fits», «Singles-fit», «Half-fits», «Split-fits»};
 ghost use Rattle.euler.specs.Room.{Splits, «Halves-stored»};
 ghost use Rattle.mark.specs.Taking.{«taken-more»};
+use crate::circuits::Two;
 use mark::Mark;
 use multigraph::EdgeIndex;
-use multigraph::NodeIndex;
+use multigraph::end_of;
+use words::set_word;
+use words::word_at;
+
+mod circuits; // circuits.rt: the split of a graph of degree 2
 
 // Where a split's words lie: the graph, the table of ends, the rings, the number of party 0's node, and the columns.
 // Each party has a ring of nodes, which are its half-edges in its pairs' order and its own node, the number top + v. Node x has two
@@ -37,22 +42,6 @@ pub struct Walk {
     pub at: usize,
     pub height: usize,
     pub written: usize,
-}
-
-// The word at a place that is one; filling, walk and halves go by these two, without a test.
-fn word_at(s: &[u32], i: usize) -> usize
-    requires { ⌜ i < length (now s) ⌝ }
-    ensures { λ r. ⌜ (r ≡ word (now (s .entry)) i) × (r < 4294967296) ⌝ }
-{
-    let x = s[i];
-    x as usize
-}
-
-fn set_word(s: &mut [u32], i: usize, x: usize)
-    requires { ⌜ i < length (now s) ⌝ }
-    ensures { λ r. ⌜ now (s .exit) ≡ put-word (now (s .entry)) i x ⌝ }
-{
-    s[i] = (x % 4294967296) as u32;
 }
 
 // An empty ring for the party v.
@@ -113,16 +102,6 @@ fn sift_all(s: &mut [u32], l: Rings, m: usize) -> usize
         i += 1;
     }
     odd
-}
-
-// The party at one end of the pair e, the first (side 0) or the second (side 1).
-fn end_of(s: &[u32], ends: usize, side: usize, e: EdgeIndex) -> NodeIndex
-    requires { ⌜ (ends < 4294967296) × (side < 2) × (ends + 2 * e .0 + side < length (now s)) ⌝ }
-    ensures { λ r. ⌜ r .0 ≡ word (now (s .entry)) (ends + 2 * e .0 + side) ⌝ }
-{
-    let i = e.0 as usize;
-    let v = word_at(s, ends + 2 * i + side);
-    NodeIndex(v as u32)
 }
 
 // The entry noted at the place j gets its half-edge in the ring of its end on one side.
@@ -389,6 +368,19 @@ fn split_at(s: &mut [u32], u: usize, ends: usize, g: usize, n: usize, width: usi
     ensures { λ r. ⌜ Halves-stored (now (s .entry)) (now (s .exit)) u (u + 4 * (n * (width + 1))) ends g n width ⌝ }
 {
     let k = n * (width + 1);
+    let m = words::get(s, g + 1);
+    if circuits::copies_sum(s, g, m, 2 * n) == 2 * n {
+        let l = Two {
+            g: g,
+            ends: ends,
+            first: u,
+            second: u + 2 * k,
+            b: u + 4 * k,
+            notes: u + 8 * k,
+        };
+        circuits::split_two(s, l, m, 2 * n);
+        return;
+    }
     let b = u + 2 * k + 2 * k;
     let l = Rings {
         g: g,
@@ -397,7 +389,6 @@ fn split_at(s: &mut [u32], u: usize, ends: usize, g: usize, n: usize, width: usi
         top: 4 * k,
         col: b + 10 * k,
     };
-    let m = words::get(s, g + 1);
     split_words(s, l, u, u + 2 * k, m, 2 * n);
 }
 

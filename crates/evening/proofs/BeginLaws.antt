@@ -1,5 +1,5 @@
 -- The diagonal's places begin over words: each party learns its place, and each place the number of its own row. Assumes nothing.
-use Prim.Native.Nat.{ℕ, _+_, _*_, _<_}
+use Prim.Native.Nat.{ℕ, _+_, _*_, _≤_, _<_}
 use mathlib.Core.Path.{_≡_, sym, _∙_}
 use mathlib.Core.List.{List}
 use native.Mathlib.Omega.{arith}
@@ -8,7 +8,7 @@ use lib.ListN.{length}
 use Rattle.words.specs.Words.{word, put-word}
 use Rattle.words.proofs.Frames.{here, away, length-put}
 use Rattle.words.proofs.Ranges.{three-refl, three-trans, three-within}
-use Rattle.evening.specs.Steps.{begun, Diag-fit, Begun, Diag-ready}
+use Rattle.evening.specs.Steps.{begun, Begins, Diag-fit, Begun, Diag-ready}
 
 -- the words after one place
 record One-begun (ends diag b m i l r : ℕ) (s t : List ℕ) : Type 0 where
@@ -99,6 +99,20 @@ module _ (n left right ends diag b m : ℕ) (s : List ℕ) (h : Diag-fit n left 
 
   pub right-same : (k : ℕ) (t : List ℕ) → Begun n left right ends diag b m k s t → (i : ℕ) → i < n → word t (right + i) ≡ word s (right + i)
   right-same k t x i a = x .changes (right + i + 1) .under (right + i) (omega arith) (omega (arith, h .after-right))
+
+  -- the next place can begin
+  pub begins : (k : ℕ) (t : List ℕ) → k < n → Begun n left right ends diag b m k s t → Begins left right ends diag b m k t
+  begins k t inside x =
+      let len : length t ≡ length s = x .changes 0 .len in
+      let low : diag + n ≤ length t = omega (arith, h .after-diag, h .after-ends, h .room) in
+      record {
+        left-party = omega (arith, h .after-left);
+        right-party = omega (arith, h .after-right);
+        left-place = omega (arith, left-same k t x k inside, h .left-below k inside, h .room);
+        right-place = omega (arith, right-same k t x k inside, h .right-below k inside, h .room);
+        number = omega arith;
+        row = omega (arith, h .after-ends, h .room);
+      }
 
   module _ (k : ℕ) (t v : List ℕ) (inside : k < n) (x : Begun n left right ends diag b m k s t)
       (e : v ≡ begun ends diag b m k (word t (left + k)) (word t (right + k)) t) where

@@ -18,7 +18,7 @@ use Rattle.multigraph.specs.Multigraph.{add-edge}
 use Rattle.multigraph.specs.Places.{size}
 use Rattle.multigraph.proofs.Ends.{same-ends-sym, same-ends-trans}
 use Rattle.evening.specs.Contract.{first-of, second-of, Has-ends}
-use Rattle.evening.specs.Steps.{Pair-fits, Pair-added, Rep, pair-of, Building, Built}
+use Rattle.evening.specs.Steps.{Has-place, Pair-fits, Pair-added, Rep, pair-of, Building, Built}
 use Rattle.evening.proofs.PlainLaws.{Graph-kept, graph-kept, has-ends-kept, plain-kept, graph-kept-by}
 use Rattle.evening.proofs.Listed.{add-appointments-more, copies-few}
 
@@ -68,6 +68,14 @@ module _ (list : List ℕ) (ends apair g k : ℕ) (s : List ℕ) (h : Building l
 
   e-cases : ((e < size s g) × Has-ends s ends e x y) ⊎ ((e ≡ size s g) × ((f : ℕ) → f < size s g → Has-ends s ends f x y → ⊥))
   e-cases = elim (decLt (word s (apair + k)) k) [ yes a ↦ inl (old-number a) | no a ↦ inr (new-number (omega arith)) ]
+
+  -- the next pair has a place
+  pub has-place : Has-place ends g s
+  has-place =
+      record {
+        row = omega (arith, h .few, h .after-ends, h .after-apair, h .inside);
+        entry = omega (arith, h .few, h .inside);
+      }
 
   pub fits : x < 4294967296 → y < 4294967296 → Pair-fits ends g e x y 1 s
   fits sx sy =

@@ -16,7 +16,7 @@ use Rattle.multigraph.specs.Multigraph.{Graph}
 use Rattle.multigraph.specs.Places.{size}
 use Rattle.evening.specs.Evening.{Evening, evening, even-out-step, evened, even-out}
 use Rattle.evening.specs.Contract.{Can-even, Evened-out}
-use Rattle.evening.specs.Steps.{plain-graph, Rows-fit, Rows-filled, Step-taken, all-passed, left-full, none-right, right-full, both-short}
+use Rattle.evening.specs.Steps.{plain-graph, Has-place, Rows-fit, Rows-filled, Step-taken, all-passed, left-full, none-right, right-full, both-short}
 use Rattle.two_color.proofs.Regions.{region-length}
 use Rattle.evening.proofs.EvenOut.{Evened, even-out-law}
 use Rattle.evening.proofs.PlainLaws.{plain-is}
@@ -96,6 +96,15 @@ module _ (list : List ℕ) (d n left right ends apair g u : ℕ) (first : List �
     pub at-none : At 0 0 0 s₁
     unfolding iterate
     at-none = stage-none list d n left right ends apair g u first h s₁ x
+
+    -- the next pair has a place
+    pub at-place : (k i j : ℕ) (s : List ℕ) → At k i j s → 0 < n → Has-place ends g s
+    at-place k i j s st some =
+        let K = known list d n left right ends apair g u first h s₁ x (after k) i j s st in
+        record {
+          row = omega (arith, K .few, K .low, K .len, h .after-graph, h .room);
+          entry = omega (arith, K .few, K .len, h .after-graph, h .room);
+        }
 
     pub at-more :
         (k i j i' j' : ℕ) (s t : List ℕ) → At k i j s → Step-taken list d n left right ends apair g u s t i j i' j' →

@@ -10,7 +10,7 @@ use Rattle.words.specs.Words.{word, put-word}
 use Rattle.words.proofs.Frames.{here, away, length-put}
 use Rattle.multigraph.specs.Regular.{Same-ends}
 use Rattle.evening.specs.Contract.{Has-ends}
-use Rattle.evening.specs.Steps.{Says, place-of, On-diagonal, Looked-at, Diag-ready, Looked}
+use Rattle.evening.specs.Steps.{Says, place-of, On-diagonal, Looks, Looked-at, Diag-ready, Looked}
 
 -- what one look does, by what it has read
 module _ (n left right ends diag b e : ℕ) (s : List ℕ) (x y i : ℕ) (ex : x ≡ word s (ends + 2 * e)) (ey : y ≡ word s (ends + 2 * e + 1))
@@ -42,6 +42,17 @@ module _ (n left right ends diag b m : ℕ) (s : List ℕ) (h : Diag-ready n lef
         len = refl;
         under = λ i a. refl;
         over = λ i a. refl;
+      }
+
+  -- the next pair can be looked at
+  pub looks : (k : ℕ) (t : List ℕ) → k < m → length t ≡ length s → Looks n left right ends diag k t
+  looks k t inside len =
+      let low : diag + n ≤ length t = omega (arith, h .after-diag, h .after-ends, h .room) in
+      record {
+        row = omega (arith, h .after-ends, h .room);
+        lefts = omega (arith, h .after-left);
+        rights = omega (arith, h .after-right);
+        numbers = low;
       }
 
   module _ (k : ℕ) (t v : List ℕ) (inside : k < m) (x : Looked n left right ends diag m k s t) (w : Looked-at n left right ends diag b k t v) where

@@ -15,7 +15,7 @@ use Rattle.words.proofs.Below.{row-inside}
 use Rattle.multigraph.specs.Regular.{Same-ends}
 use Rattle.multigraph.proofs.Ends.{same-ends-sym, same-ends-trans}
 use Rattle.evening.specs.Contract.{first-of, second-of}
-use Rattle.evening.specs.Steps.{row, Says, mate, Same, Rep, Earlier, candidate, Rep-found, Reps-fit, Row-done, Reps-done}
+use Rattle.evening.specs.Steps.{row, Says, mate, Same, Rep, Earlier, candidate, Finds, Rep-found, Reps-fit, Row-done, Reps-done}
 
 -- ── the two ends ──
 
@@ -111,6 +111,11 @@ module _ (list : List ℕ) (p d b rows map apair : ℕ) (s₀ : List ℕ) (fit :
   row-kept k t s a g =
       g .changes .between (rows + d * v + t) (omega (arith, fit .before, fit .after))
       (omega (arith, fit .after-rows, row-inside d v t p party (omega (arith, fit .lens v party))))
+
+  -- the row lies within the words
+  pub row-inside-words : (k t : ℕ) (s : List ℕ) → t < len → Going k s → rows + d * v + t < length s
+  row-inside-words k t s a g =
+      omega (arith, row-inside d v t p party (omega (arith, fit .lens v party)), fit .after-rows, fit .inside, g .changes .len)
 
   module _ (k : ℕ) (s : List ℕ) (inside : k < len) (g : Going k s) where
     abbrev h : ℕ
@@ -211,6 +216,16 @@ module _ (list : List ℕ) (p d b rows map apair : ℕ) (s₀ : List ℕ) (fit :
 
     i-inside : apair + i < length s
     i-inside = omega (arith, i-below, apair-low, fit .inside, s-len)
+
+    -- the next half-edge, its mate and their places
+    pub finds : Finds list map apair h s
+    finds =
+        record {
+          half = h-below k inside;
+          other = mate-below h (h-below k inside);
+          rep = i-inside;
+          candidate = omega (arith, w-party, fit .inside, s-len);
+        }
 
     going-found :
         (t : List ℕ) → Earlier list (word s (map + w)) i (word list h) w → t ≡ put-word s (apair + i) (word s (map + w)) →

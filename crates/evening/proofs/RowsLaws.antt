@@ -11,7 +11,7 @@ use Rattle.words.proofs.Sums.{is-same, is-ne, count-take-le}
 use Rattle.words.proofs.Frames.{here, away, length-put, keeps-refl, keeps-trans}
 use Rattle.words.proofs.Below.{rows-apart, row-inside}
 use Rattle.appointments.proofs.Flat.{count-more}
-use Rattle.evening.specs.Steps.{row, Cleared, Rows-fit, Rows-filled}
+use Rattle.evening.specs.Steps.{row, Cleared, Pushes, Rows-fit, Rows-filled}
 
 -- ── clearing ──
 
@@ -97,8 +97,7 @@ module _ (list : List ℕ) (q d b rows : ℕ) (s : List ℕ) (h : Rows-fit list 
         keeps = x .keeps;
       }
 
-  module _ (k : ℕ) (t u : List ℕ) (inside : k < length list) (x : Rows-filled list q d b rows k s t)
-      (e : u ≡ put-word (put-word t (rows + d * word list k + word t (b + word list k)) k) (b + word list k) (word t (b + word list k) + 1)) where
+  module _ (k : ℕ) (t : List ℕ) (inside : k < length list) (x : Rows-filled list q d b rows k s t) where
     abbrev v : ℕ
     v = word list k
 
@@ -117,91 +116,100 @@ module _ (list : List ℕ) (q d b rows : ℕ) (s : List ℕ) (h : Rows-fit list 
     v-short : word t (b + v) < d
     v-short = omega (arith, own-count, count-take-le v list (k + 1), h .loads v v-party)
 
-    p : Row-pushed q d b rows v k t u
-    p =
-        row-pushed q d b rows v k t u v-party v-short (h .after) (omega (arith, h .inside, x .keeps .len)) (omega (arith, h .small))
-        (omega (arith, h .short)) e
-
-    lens' : (w : ℕ) → w < q → word u (b + w) ≡ count w (take (k + 1) list)
-    lens' w a =
-        elim (ℕ-discrete w v) [
-          | yes y ↦ rw y (p .own-len ∙ own-count)
-          | no y ↦ p .other-len w a y ∙ omega (arith, x .filled .lens w a, more w, is-ne {u = w} {v = word list k} y)
-        ]
-
-    -- a place of a row is as before, or the new last one
-    below' : (w i : ℕ) → w < q → i < word u (b + w) → row u rows d w i < k + 1
-    below' w i a l =
-        elim (ℕ-discrete w v) [
-          | yes y ↦
-              rw y
-              (elim (ℕ-discrete i (word t (b + v))) [
-                | yes z ↦ rw (z, p .last) (omega arith)
-                | no z ↦
-                    let i-old : i < word t (b + v) = omega (arith, p .own-len, ap (λ n. word u (b + n)) y) in
-                    rw (p .own-row i i-old) (omega (arith, x .filled .below v i v-party i-old))
-              ])
-          | no y ↦
-              let i-old : i < word t (b + w) = omega (arith, p .other-len w a y) in
-              rw (p .other-row w i a y (omega (arith, lens-le w a))) (omega (arith, x .filled .below w i a i-old))
-        ]
-
-    named' : (w i : ℕ) → w < q → i < word u (b + w) → word list (row u rows d w i) ≡ w
-    named' w i a l =
-        elim (ℕ-discrete w v) [
-          | yes y ↦
-              rw y
-              (elim (ℕ-discrete i (word t (b + v))) [
-                | yes z ↦ rw (z, p .last)
-                | no z ↦
-                    let i-old : i < word t (b + v) = omega (arith, p .own-len, ap (λ n. word u (b + n)) y) in
-                    rw (p .own-row i i-old) (x .filled .named v i v-party i-old)
-              ])
-          | no y ↦
-              let i-old : i < word t (b + w) = omega (arith, p .other-len w a y) in
-              rw (p .other-row w i a y (omega (arith, lens-le w a))) (x .filled .named w i a i-old)
-        ]
-
-    order' : (w i j : ℕ) → w < q → i < j → j < word u (b + w) → row u rows d w i < row u rows d w j
-    order' w i j a l m =
-        elim (ℕ-discrete w v) [
-          | yes y ↦
-              let i-old : i < word t (b + v) = omega (arith, p .own-len, ap (λ n. word u (b + n)) y) in
-              rw y
-              (elim (ℕ-discrete j (word t (b + v))) [
-                | yes z ↦ rw (p .own-row i i-old, z, p .last) (x .filled .below v i v-party i-old)
-                | no z ↦
-                    let j-old : j < word t (b + v) = omega (arith, p .own-len, ap (λ n. word u (b + n)) y) in
-                    rw (p .own-row i i-old, p .own-row j j-old) (x .filled .order v i j v-party l j-old)
-              ])
-          | no y ↦
-              let j-old : j < word t (b + w) = omega (arith, p .other-len w a y) in
-              rw (p .other-row w i a y (omega (arith, lens-le w a)), p .other-row w j a y (omega (arith, lens-le w a)))
-              (x .filled .order w i j a l j-old)
-        ]
-
-    there' : (f : ℕ) → f < k + 1 → (i : ℕ) × (i < word u (b + word list f)) × (row u rows d (word list f) i ≡ f)
-    there' f a =
-        elim (ℕ-discrete f k) [
-          | yes y ↦ rw y (word t (b + v), omega (arith, p .own-len), p .last)
-          | no y ↦
-              let old = x .filled .there f (omega arith) in
-              let f-party : word list f < q = h .ends f (omega arith) in
-              elim (ℕ-discrete (word list f) v) [
-                | yes z ↦
-                    let i-old : old .0 < word t (b + v) = rw z at (old .1) in
-                    (old .0, rw z (omega (arith, p .own-len, i-old)), rw z (p .own-row (old .0) i-old) ∙ rw z at (old .2))
-                | no z ↦ (
-                  old .0,
-                  omega (arith, p .other-len (word list f) f-party z, old .1),
-                  p .other-row (word list f) (old .0) f-party z (omega (arith, lens-le (word list f) f-party, old .1)) ∙ old .2,
-                )
-              ]
-        ]
-
-    pub filled-more : Rows-filled list q d b rows (k + 1) s u
-    filled-more =
+    -- it has a place in its row
+    pub pushes : Pushes d b rows v t
+    pushes =
         record {
-          filled = record { lens = lens'; below = below'; named = named'; order = order'; there = there' };
-          keeps = keeps-trans (x .keeps) (record { len = p .len; same = p .under });
+          count = omega (arith, v-party, h .after, h .inside, x .keeps .len);
+          next = omega (arith, row-inside d v (word t (b + v)) q v-party v-short, h .inside, x .keeps .len);
         }
+
+    module _ (u : List ℕ) (e : u ≡ put-word (put-word t (rows + d * v + word t (b + v)) k) (b + v) (word t (b + v) + 1)) where
+      p : Row-pushed q d b rows v k t u
+      p =
+          row-pushed q d b rows v k t u v-party v-short (h .after) (omega (arith, h .inside, x .keeps .len)) (omega (arith, h .small))
+          (omega (arith, h .short)) e
+
+      lens' : (w : ℕ) → w < q → word u (b + w) ≡ count w (take (k + 1) list)
+      lens' w a =
+          elim (ℕ-discrete w v) [
+            | yes y ↦ rw y (p .own-len ∙ own-count)
+            | no y ↦ p .other-len w a y ∙ omega (arith, x .filled .lens w a, more w, is-ne {u = w} {v = word list k} y)
+          ]
+
+      -- a place of a row is as before, or the new last one
+      below' : (w i : ℕ) → w < q → i < word u (b + w) → row u rows d w i < k + 1
+      below' w i a l =
+          elim (ℕ-discrete w v) [
+            | yes y ↦
+                rw y
+                (elim (ℕ-discrete i (word t (b + v))) [
+                  | yes z ↦ rw (z, p .last) (omega arith)
+                  | no z ↦
+                      let i-old : i < word t (b + v) = omega (arith, p .own-len, ap (λ n. word u (b + n)) y) in
+                      rw (p .own-row i i-old) (omega (arith, x .filled .below v i v-party i-old))
+                ])
+            | no y ↦
+                let i-old : i < word t (b + w) = omega (arith, p .other-len w a y) in
+                rw (p .other-row w i a y (omega (arith, lens-le w a))) (omega (arith, x .filled .below w i a i-old))
+          ]
+
+      named' : (w i : ℕ) → w < q → i < word u (b + w) → word list (row u rows d w i) ≡ w
+      named' w i a l =
+          elim (ℕ-discrete w v) [
+            | yes y ↦
+                rw y
+                (elim (ℕ-discrete i (word t (b + v))) [
+                  | yes z ↦ rw (z, p .last)
+                  | no z ↦
+                      let i-old : i < word t (b + v) = omega (arith, p .own-len, ap (λ n. word u (b + n)) y) in
+                      rw (p .own-row i i-old) (x .filled .named v i v-party i-old)
+                ])
+            | no y ↦
+                let i-old : i < word t (b + w) = omega (arith, p .other-len w a y) in
+                rw (p .other-row w i a y (omega (arith, lens-le w a))) (x .filled .named w i a i-old)
+          ]
+
+      order' : (w i j : ℕ) → w < q → i < j → j < word u (b + w) → row u rows d w i < row u rows d w j
+      order' w i j a l m =
+          elim (ℕ-discrete w v) [
+            | yes y ↦
+                let i-old : i < word t (b + v) = omega (arith, p .own-len, ap (λ n. word u (b + n)) y) in
+                rw y
+                (elim (ℕ-discrete j (word t (b + v))) [
+                  | yes z ↦ rw (p .own-row i i-old, z, p .last) (x .filled .below v i v-party i-old)
+                  | no z ↦
+                      let j-old : j < word t (b + v) = omega (arith, p .own-len, ap (λ n. word u (b + n)) y) in
+                      rw (p .own-row i i-old, p .own-row j j-old) (x .filled .order v i j v-party l j-old)
+                ])
+            | no y ↦
+                let j-old : j < word t (b + w) = omega (arith, p .other-len w a y) in
+                rw (p .other-row w i a y (omega (arith, lens-le w a)), p .other-row w j a y (omega (arith, lens-le w a)))
+                (x .filled .order w i j a l j-old)
+          ]
+
+      there' : (f : ℕ) → f < k + 1 → (i : ℕ) × (i < word u (b + word list f)) × (row u rows d (word list f) i ≡ f)
+      there' f a =
+          elim (ℕ-discrete f k) [
+            | yes y ↦ rw y (word t (b + v), omega (arith, p .own-len), p .last)
+            | no y ↦
+                let old = x .filled .there f (omega arith) in
+                let f-party : word list f < q = h .ends f (omega arith) in
+                elim (ℕ-discrete (word list f) v) [
+                  | yes z ↦
+                      let i-old : old .0 < word t (b + v) = rw z at (old .1) in
+                      (old .0, rw z (omega (arith, p .own-len, i-old)), rw z (p .own-row (old .0) i-old) ∙ rw z at (old .2))
+                  | no z ↦ (
+                    old .0,
+                    omega (arith, p .other-len (word list f) f-party z, old .1),
+                    p .other-row (word list f) (old .0) f-party z (omega (arith, lens-le (word list f) f-party, old .1)) ∙ old .2,
+                  )
+                ]
+          ]
+
+      pub filled-more : Rows-filled list q d b rows (k + 1) s u
+      filled-more =
+          record {
+            filled = record { lens = lens'; below = below'; named = named'; order = order'; there = there' };
+            keeps = keeps-trans (x .keeps) (record { len = p .len; same = p .under });
+          }

@@ -49,6 +49,11 @@ pushed ends g m l r copies s =
     (put-word (put-word (put-word (put-word s (ends + 2 * m) l) (ends + 2 * m + 1) r) (g + 2 + 2 * m) m) (g + 3 + 2 * m) copies)
     (g + 1) (m + 1)
 
+-- the next pair has a row in the table of ends and an entry in the graph
+pub record Has-place (ends g : ℕ) (s : List ℕ) : Type 0 where
+  pub row : ends + 2 * size s g + 1 < length s
+  pub entry : g + 3 + 2 * size s g < length s
+
 -- There is room for one entry more, and e is the pair with the ends l and r, or, if there is none, the next number.
 pub record Pair-fits (ends g e l r copies : ℕ) (s : List ℕ) : Type 0 where
   pub plain : Plain ends g s
@@ -88,6 +93,11 @@ row s rows d v t = word s (rows + d * v + t)
 pub record Cleared (b n : ℕ) (s t : List ℕ) : Type 0 where
   pub zero : (v : ℕ) → v < n → word t (b + v) ≡ 0
   pub keeps : Keeps b s t
+
+-- the row of party v has a place for one half-edge more
+pub record Pushes (d b rows v : ℕ) (s : List ℕ) : Type 0 where
+  pub count : b + v < length s
+  pub next : rows + d * v + word s (b + v) < length s
 
 pub record Rows-fit (list : List ℕ) (q d b rows : ℕ) (s : List ℕ) : Type 0 where
   pub ends : (h : ℕ) → h < length list → word list h < q
@@ -147,6 +157,13 @@ Rep-found list map apair h s t =
     × (t ≡ put-word s (apair + h / 2) (candidate list map h s)))
     ⊎ ((Earlier list (candidate list map h s) (h / 2) (word list h) (word list (mate h)) → ⊥)
     × (t ≡ put-word (put-word s (apair + h / 2) (h / 2)) (map + word list (mate h)) (h / 2)))
+
+-- half-edge h and its mate stand in the list; its representative and the candidate have places
+pub record Finds (list : List ℕ) (map apair h : ℕ) (s : List ℕ) : Type 0 where
+  pub half : h < length list
+  pub other : mate h < length list
+  pub rep : apair + h / 2 < length s
+  pub candidate : map + word list (mate h) < length s
 
 -- Pairs numbers go to `apair`, below the rows; the map lies above them.
 pub record Reps-fit (list : List ℕ) (p d b rows map apair : ℕ) (s : List ℕ) : Type 0 where
@@ -251,6 +268,15 @@ begun ends diag b m i l r s =
     put-word (put-word (put-word (put-word (put-word s (b + l) i) (b + r) i) (diag + i) (m + i)) (ends + 2 * (m + i)) l)
     (ends + 2 * (m + i) + 1) r
 
+-- place i has its two parties, their places, its number and its row
+pub record Begins (left right ends diag b m i : ℕ) (s : List ℕ) : Type 0 where
+  pub left-party : left + i < length s
+  pub right-party : right + i < length s
+  pub left-place : b + word s (left + i) < length s
+  pub right-place : b + word s (right + i) < length s
+  pub number : diag + i < length s
+  pub row : ends + 2 * (m + i) + 1 < length s
+
 -- all 2·n parties are different numbers below n + n
 pub record Diag-fit (n left right ends diag b m : ℕ) (s : List ℕ) : Type 0 where
   pub left-once : (i j : ℕ) → i < n → j < n → word s (left + i) ≡ word s (left + j) → i ≡ j
@@ -283,6 +309,13 @@ abbrev pub On-diagonal : ℕ → ℕ → ℕ → ℕ → ℕ → ℕ → List �
 On-diagonal n left right ends b e s =
     (place-of ends b e s < n)
     × Has-ends s ends e (word s (left + place-of ends b e s)) (word s (right + place-of ends b e s))
+
+-- pair e has its row, and each place its two parties and its number
+pub record Looks (n left right ends diag e : ℕ) (s : List ℕ) : Type 0 where
+  pub row : ends + 2 * e + 1 < length s
+  pub lefts : left + n ≤ length s
+  pub rights : right + n ≤ length s
+  pub numbers : diag + n ≤ length s
 
 abbrev pub Looked-at : ℕ → ℕ → ℕ → ℕ → ℕ → ℕ → ℕ → List ℕ → List ℕ → Type 0
 Looked-at n left right ends diag b e s t =

@@ -9,11 +9,14 @@ ghost use Rattle.evening.specs.Contract.{«Can-pad», «Sides-padded», 
 ghost use Rattle.words.specs.Words.{word, «put-word»};
 ghost use Rattle.multigraph.specs.Regular.{«Same-ends»};
 ghost use Rattle.multigraph.specs.Places.{size};
-ghost use Rattle.evening.specs.Steps.{«Can-pad-side», Padding, pushed, «Adds-pair», Cleared, «Rows-fit», «Rows-filled», Says, mate, Earlier, «Rep-found», «Reps-fit», «Row-done», «Reps-done», «pair-of», Building, Built, Joins, «Pair-found», shortfall, Filled, «Step-taken», begun, «Diag-fit», Begun, «Looked-at», «Diag-ready», Looked};
+ghost use Rattle.evening.specs.Steps.{«Can-pad-side», Padding, pushed, «Has-place», «Adds-pair», Cleared, Pushes, «Rows-fit», «Rows-filled», Says, mate, Earlier, Finds, «Rep-found», «Reps-fit», «Row-done», «Reps-done», «pair-of», Building, Built, Joins, «Pair-found», shortfall, Filled, «Step-taken», begun, Begins, «Diag-fit», Begun, Looks, «Looked-at», «Diag-ready», Looked};
 use mark::Mark;
 use words::get;
 use words::get16;
+use words::half_word_at;
 use words::put;
+use words::set_word;
+use words::word_at;
 
 // Where things lie: the parties of both sides, the table of ends, each appointment's pair, the graph.
 pub struct Bases {
@@ -63,10 +66,11 @@ pub fn pad_sides(s: &mut [u32], p: usize, left: usize, l: usize, right: usize, r
 // Adds to the word at `at`.
 fn add_to(s: &mut [u32], at: usize, more: usize)
     requires { ⌜ more < 4294967296 ⌝ }
+    requires { ⌜ at < length (now s) ⌝ }
     ensures { λ r. ⌜ now (s .exit) ≡ put-word (now (s .entry)) at (word (now (s .entry)) at + more) ⌝ }
 {
-    let c = get(s, at);
-    put(s, at, c + more);
+    let c = word_at(s, at);
+    set_word(s, at, c + more);
 }
 
 // A new pair, the last one of the graph at `g`, which has `m`.
@@ -74,13 +78,14 @@ fn push_pair(s: &mut [u32], ends: usize, g: usize, m: usize, l: usize, r: usize,
     requires { ⌜ ends < 4294967296 ⌝ }
     requires { ⌜ g < 4294967296 ⌝ }
     requires { ⌜ m < 4294967296 ⌝ }
+    requires { ⌜ (ends + 2 * m + 1 < length (now s)) × (g + 3 + 2 * m < length (now s)) ⌝ }
     ensures { λ x. ⌜ now (s .exit) ≡ pushed ends g m l r copies (now (s .entry)) ⌝ }
 {
-    put(s, ends + 2 * m, l);
-    put(s, ends + 2 * m + 1, r);
-    put(s, g + 2 + 2 * m, m);
-    put(s, g + 3 + 2 * m, copies);
-    put(s, g + 1, m + 1);
+    set_word(s, ends + 2 * m, l);
+    set_word(s, ends + 2 * m + 1, r);
+    set_word(s, g + 2 + 2 * m, m);
+    set_word(s, g + 3 + 2 * m, copies);
+    set_word(s, g + 1, m + 1);
 }
 
 // `add_edge` where the pair's number is known: pair `e` gets the copies, or is new if it is the next number.
@@ -88,9 +93,10 @@ fn add_pair(s: &mut [u32], ends: usize, g: usize, e: usize, l: usize, r: usize, 
     requires { ⌜ ends < 4294967296 ⌝ }
     requires { ⌜ g < 4294967296 ⌝ }
     requires { ⌜ copies < 4294967296 ⌝ }
+    requires { ⌜ Has-place ends g (now s) ⌝ }
     ensures { λ x. ⌜ Adds-pair ends g e l r copies (now (s .entry)) (now (s .exit)) ⌝ }
 {
-    let m = get(s, g + 1);
+    let m = word_at(s, g + 1);
     if e < m {
         add_to(s, g + 3 + 2 * e, copies);
         return;
@@ -109,7 +115,7 @@ fn clear_words(s: &mut [u32], b: usize, n: usize)
 {
     let mut v = 0;
     while v < n {
-        put(s, b + v, 0);
+        set_word(s, b + v, 0);
         v += 1;
     }
 }
@@ -119,11 +125,12 @@ fn push_row(s: &mut [u32], d: usize, b: usize, rows: usize, v: usize, h: usize)
     requires { ⌜ b < 4294967296 ⌝ }
     requires { ⌜ rows + d * v < 4294967296 ⌝ }
     requires { ⌜ v < 4294967296 ⌝ }
+    requires { ⌜ Pushes d b rows v (now s) ⌝ }
     ensures { λ r. ⌜ now (s .exit) ≡ put-word (put-word (now (s .entry)) (rows + d * v + word (now (s .entry)) (b + v)) h) (b + v) (word (now (s .entry)) (b + v) + 1) ⌝ }
 {
-    let k = get(s, b + v);
-    put(s, rows + d * v + k, h);
-    put(s, b + v, k + 1);
+    let k = word_at(s, b + v);
+    set_word(s, rows + d * v + k, h);
+    set_word(s, b + v, k + 1);
 }
 
 // The rows of the `q` parties, each half-edge of the list in the row of its party.
@@ -134,7 +141,7 @@ fn fill_rows(s: &mut [u32], list: &[u16], q: usize, d: usize, b: usize, rows: us
     clear_words(s, b, q);
     let mut h = 0;
     while h < list.len() {
-        let v = get16(list, h);
+        let v = half_word_at(list, h);
         push_row(s, d, b, rows, v, h);
         h += 1;
     }
@@ -163,7 +170,8 @@ fn same_ends(a: usize, b: usize, x: usize, y: usize) -> usize
     0
 }
 
-// Has appointment `i` the ends `v` and `w`?
+// Has appointment `i` the ends `v` and `w`? Read with a test: the search that asks goes on past the half-edges of a row, where
+// any number may stand.
 fn joins(list: &[u16], i: usize, v: usize, w: usize) -> usize
     requires { ⌜ (i < 4294967296) × (v < 4294967296) × (w < 4294967296) ⌝ }
     ensures { λ r. ⌜ Says r (Joins (now (list .entry)) i v w) ⌝ }
@@ -175,13 +183,16 @@ fn joins(list: &[u16], i: usize, v: usize, w: usize) -> usize
 
 // Is appointment `j` not later than `i`, with the ends `v` and `w`?
 fn earlier(list: &[u16], j: usize, i: usize, v: usize, w: usize) -> usize
-    requires { ⌜ (i < 4294967296) × (v < 4294967296) × (w < 4294967296) ⌝ }
+    requires { ⌜ (v < 4294967296) × (w < 4294967296) ⌝ }
+    requires { ⌜ 2 * i + 1 < length (now list) ⌝ }
     ensures { λ r. ⌜ Says r (Earlier (now (list .entry)) j i v w) ⌝ }
 {
     if i < j {
         return 0;
     }
-    joins(list, j, v, w)
+    let x = half_word_at(list, 2 * j);
+    let y = half_word_at(list, 2 * j + 1);
+    same_ends(v, w, x, y)
 }
 
 // The half-edge at the other end.
@@ -195,20 +206,21 @@ fn other_half(h: usize) -> usize
 // The representative of the appointment of half-edge `h`.
 fn find_rep(s: &mut [u32], list: &[u16], map: usize, apair: usize, h: usize)
     requires { ⌜ (map < 4294967296) × (apair < 4294967296) × (h < 4294967296) ⌝ }
+    requires { ⌜ Finds (now list) map apair h (now s) ⌝ }
     ensures { λ r. ⌜ Rep-found (now (list .entry)) map apair h (now (s .entry)) (now (s .exit)) ⌝ }
 {
     let i = h / 2;
-    let v = get16(list, h);
+    let v = half_word_at(list, h);
     let f = other_half(h);
-    let w = get16(list, f);
-    let j = get(s, map + w);
+    let w = half_word_at(list, f);
+    let j = word_at(s, map + w);
     let found = earlier(list, j, i, v, w);
     if found == 1 {
-        put(s, apair + i, j);
+        set_word(s, apair + i, j);
         return;
     }
-    put(s, apair + i, i);
-    put(s, map + w, i);
+    set_word(s, apair + i, i);
+    set_word(s, map + w, i);
 }
 
 // The representatives of the appointments of party `v`.
@@ -227,11 +239,11 @@ fn rep_row(
     requires { ⌜ v < p ⌝ }
     ensures { λ r. ⌜ Row-done (now (list .entry)) p map apair v (now (s .entry)) (now (s .exit)) ⌝ }
 {
-    let n = get(s, b + v);
+    let n = word_at(s, b + v);
     let from = rows + d * v;
     let mut t = 0;
     while t < n {
-        let h = get(s, from + t);
+        let h = word_at(s, from + t);
         find_rep(s, list, map, apair, h);
         t += 1;
     }
@@ -264,13 +276,14 @@ fn rep_rows(
 // next number.
 fn pair_of(s: &[u32], g: usize, apair: usize, i: usize) -> usize
     requires { ⌜ (g < 4294967296) × (apair < 4294967296) × (i < 4294967296) ⌝ }
+    requires { ⌜ (apair + i < length (now s)) × (g + 1 < length (now s)) ⌝ }
     ensures { λ r. ⌜ r ≡ pair-of g apair i (now (s .entry)) ⌝ }
 {
-    let j = get(s, apair + i);
+    let j = word_at(s, apair + i);
     if j < i {
-        return get(s, apair + j);
+        return word_at(s, apair + j);
     }
-    get(s, g + 1)
+    word_at(s, g + 1)
 }
 
 // One copy for appointment `i`.
@@ -280,10 +293,10 @@ fn add_appointment(s: &mut [u32], list: &[u16], ends: usize, apair: usize, g: us
     ensures { λ r. ⌜ Built (now (list .entry)) ends apair g (i + 1) (now (s .entry)) (now (s .exit)) ⌝ }
 {
     let e = pair_of(s, g, apair, i);
-    let x = get16(list, 2 * i);
-    let y = get16(list, 2 * i + 1);
+    let x = half_word_at(list, 2 * i);
+    let y = half_word_at(list, 2 * i + 1);
     add_pair(s, ends, g, e, x, y, 1);
-    put(s, apair + i, e);
+    set_word(s, apair + i, e);
 }
 
 // One copy for each appointment, in list order.
@@ -391,6 +404,7 @@ fn find_pair(
 fn fill(s: &mut [u32], list: &[u16], at: Bases, d: usize, b: usize, from: usize, l: usize, r: usize)
     requires { ⌜ (at .ends < 4294967296) × (at .apair < 4294967296) × (at .g < 4294967296) × (b < 4294967296) ⌝ }
     requires { ⌜ (d < 4294967296) × (from + d < 18446744073709551616) × (l < 4294967296) × (r < 4294967296) ⌝ }
+    requires { ⌜ Has-place (at .ends) (at .g) (now s) ⌝ }
     ensures { λ x. ⌜ Filled (now (list .entry)) d (at .ends) (at .apair) (at .g) b from l r (now (s .entry)) (now (s .exit)) ⌝ }
 {
     let dl = get(s, b + l);
@@ -416,6 +430,7 @@ fn even_step(
 ) -> Passed
     requires { ⌜ (at .left < 4294967296) × (at .right < 4294967296) × (at .ends < 4294967296) × (at .apair < 4294967296) × (at .g < 4294967296) ⌝ }
     requires { ⌜ (d < 2147483648) × (n < 4294967296) × (b < 4294967296) ⌝ }
+    requires { ⌜ (st .l < n → Has-place (at .ends) (at .g) (now s)) ⌝ }
     ensures { λ x. ⌜ Step-taken (now (list .entry)) d n (at .left) (at .right) (at .ends) (at .apair) (at .g) b (now (s .entry)) (now (s .exit)) (st .l) (st .r) (x .l) (x .r) ⌝ }
 {
     if st.l >= n {
@@ -478,15 +493,16 @@ pub fn even_out(s: &mut [u32], m: &mut Mark, list: &[u16], d: usize, n: usize, a
 fn begin_place(s: &mut [u32], at: Bases, diag: usize, b: usize, m: usize, i: usize)
     requires { ⌜ (at .left < 4294967296) × (at .right < 4294967296) × (at .ends < 4294967296) ⌝ }
     requires { ⌜ (diag < 4294967296) × (b < 4294967296) × (m < 4294967296) × (i < 4294967296) ⌝ }
+    requires { ⌜ Begins (at .left) (at .right) (at .ends) diag b m i (now s) ⌝ }
     ensures { λ x. ⌜ now (s .exit) ≡ begun (at .ends) diag b m i (word (now (s .entry)) (at .left + i)) (word (now (s .entry)) (at .right + i)) (now (s .entry)) ⌝ }
 {
-    let l = get(s, at.left + i);
-    let r = get(s, at.right + i);
-    put(s, b + l, i);
-    put(s, b + r, i);
-    put(s, diag + i, m + i);
-    put(s, at.ends + 2 * (m + i), l);
-    put(s, at.ends + 2 * (m + i) + 1, r);
+    let l = word_at(s, at.left + i);
+    let r = word_at(s, at.right + i);
+    set_word(s, b + l, i);
+    set_word(s, b + r, i);
+    set_word(s, diag + i, m + i);
+    set_word(s, at.ends + 2 * (m + i), l);
+    set_word(s, at.ends + 2 * (m + i) + 1, r);
 }
 
 // All places.
@@ -501,25 +517,27 @@ fn begin_places(s: &mut [u32], at: Bases, diag: usize, b: usize, m: usize, n: us
     }
 }
 
-// Pair `e` gives its number to a place whose two parties are its ends.
+// Pair `e` gives its number to a place whose two parties are its ends. The place is read with a test: that an end of a pair is
+// below n + n isn't asked for.
 fn look_at(s: &mut [u32], at: Bases, diag: usize, b: usize, n: usize, e: usize)
     requires { ⌜ (at .left < 4294967296) × (at .right < 4294967296) × (at .ends < 4294967296) ⌝ }
     requires { ⌜ (diag < 4294967296) × (b < 4294967296) × (e < 4294967296) ⌝ }
+    requires { ⌜ Looks n (at .left) (at .right) (at .ends) diag e (now s) ⌝ }
     ensures { λ x. ⌜ Looked-at n (at .left) (at .right) (at .ends) diag b e (now (s .entry)) (now (s .exit)) ⌝ }
 {
-    let x = get(s, at.ends + 2 * e);
-    let y = get(s, at.ends + 2 * e + 1);
+    let x = word_at(s, at.ends + 2 * e);
+    let y = word_at(s, at.ends + 2 * e + 1);
     let i = get(s, b + x);
     if i >= n {
         return;
     }
-    let l = get(s, at.left + i);
-    let r = get(s, at.right + i);
+    let l = word_at(s, at.left + i);
+    let r = word_at(s, at.right + i);
     let same = same_ends(l, r, x, y);
     if same == 0 {
         return;
     }
-    put(s, diag + i, e);
+    set_word(s, diag + i, e);
 }
 
 // All pairs, of which there are `m`.

@@ -22,7 +22,7 @@ returns-2 c =
     let a = c .before .before .before .before .before .before .before .before .args in
     λ h.
     let k : size (a .s .now) (a .g) ≤ a .e = omega arith in
-    let w : c .before .before .push-pair .last .0 ≡ pushed (a .ends) (a .g) (size (a .s .now) (a .g)) (a .l) (a .r) (a .copies) (a .s .now) = rw (c .before .before .before .before .before .get .ensures .0) at (c .before .before .push-pair .ensures) in
+    let w : c .before .before .push-pair .last .0 ≡ pushed (a .ends) (a .g) (size (a .s .now) (a .g)) (a .l) (a .r) (a .copies) (a .s .now) = rw (c .before .before .before .before .before .word-at .ensures .0) at (c .before .before .push-pair .ensures) in
     added-new (a .ends) (a .g) (a .e) (a .l) (a .r) (a .copies) (a .s .now) h k (c .before .before .push-pair .last .0) (rw w (pushed-words (a .ends) (a .g) (size (a .s .now) (a .g)) (a .l) (a .r) (a .copies) (a .s .now) (h .after-ends) (h .inside) (h .small) (h .left-small) (h .right-small) (h .few)))
 
 pub add-pair-spec : {M : Type 1} → statement M

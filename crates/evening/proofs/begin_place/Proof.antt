@@ -8,25 +8,29 @@ use borrow.Author.Needs.{needs}
 use Rattle.evening.proofs.begin_place.Statement.{statement}
 use Rattle.evening.proofs.begin_place.Tie as tie
 
-add-put-7 : tie.Need-add-put-7
-add-put-7 c =
-    omega (arith, c .before .before .before .before .before .before .before .before .before .before .before .before .before .before .before .before .before .before .before .before .before .before .before .before .before .pre .1 .2, c .before .before .before .before .before .before .before .before .before .before .before .before .before .before .before .before .before .before .before .before .before .before .before .before .before .pre .1 .3)
+add-set-word-7 : tie.Need-add-set-word-7
+add-set-word-7 c =
+    omega (arith, c .before .before .before .before .before .before .before .before .before .before .before .before .before .before .before .before .before .before .before .before .before .before .before .before .before .pre .1 .0 .2, c .before .before .before .before .before .before .before .before .before .before .before .before .before .before .before .before .before .before .before .before .before .before .before .before .before .pre .1 .0 .3)
 
-mul-put-2 : tie.Need-mul-put-2
-mul-put-2 c =
-    omega (arith, c .before .before .before .before .before .before .before .before .before .before .before .before .before .before .before .before .before .before .before .before .before .before .before .before .before .pre .1 .2, c .before .before .before .before .before .before .before .before .before .before .before .before .before .before .before .before .before .before .before .before .before .before .before .before .before .pre .1 .3)
+mul-set-word-2 : tie.Need-mul-set-word-2
+mul-set-word-2 c =
+    omega (arith, c .before .before .before .before .before .before .before .before .before .before .before .before .before .before .before .before .before .before .before .before .before .before .before .before .before .pre .1 .0 .2, c .before .before .before .before .before .before .before .before .before .before .before .before .before .before .before .before .before .before .before .before .before .before .before .before .before .pre .1 .0 .3)
 
-add-put-8 : tie.Need-add-put-8
-add-put-8 c =
-    omega (arith, c .before .before .before .before .before .before .before .before .before .before .before .before .before .before .before .before .before .before .before .before .before .before .before .before .before .before .pre .0 .2, c .before .before .before .before .before .before .before .before .before .before .before .before .before .before .before .before .before .before .before .before .before .before .before .before .before .before .pre .1 .2, c .before .before .before .before .before .before .before .before .before .before .before .before .before .before .before .before .before .before .before .before .before .before .before .before .before .before .pre .1 .3)
+add-set-word-8 : tie.Need-add-set-word-8
+add-set-word-8 c =
+    omega (arith, c .before .before .before .before .before .before .before .before .before .before .before .before .before .before .before .before .before .before .before .before .before .before .before .before .before .before .pre .0 .2, c .before .before .before .before .before .before .before .before .before .before .before .before .before .before .before .before .before .before .before .before .before .before .before .before .before .before .pre .1 .0 .2, c .before .before .before .before .before .before .before .before .before .before .before .before .before .before .before .before .before .before .before .before .before .before .before .before .before .before .pre .1 .0 .3)
 
-add-put-9 : tie.Need-add-put-9
-add-put-9 c =
-    omega (arith, c .before .before .before .before .before .before .before .before .before .before .before .before .before .before .before .before .before .before .before .before .before .before .before .before .before .before .pre .0 .2, c .before .before .before .before .before .before .before .before .before .before .before .before .before .before .before .before .before .before .before .before .before .before .before .before .before .before .pre .1 .2, c .before .before .before .before .before .before .before .before .before .before .before .before .before .before .before .before .before .before .before .before .before .before .before .before .before .before .pre .1 .3)
+add-set-word-9 : tie.Need-add-set-word-9
+add-set-word-9 c =
+    omega (arith, c .before .before .before .before .before .before .before .before .before .before .before .before .before .before .before .before .before .before .before .before .before .before .before .before .before .before .pre .0 .2, c .before .before .before .before .before .before .before .before .before .before .before .before .before .before .before .before .before .before .before .before .before .before .before .before .before .before .pre .1 .0 .2, c .before .before .before .before .before .before .before .before .before .before .before .before .before .before .before .before .before .before .before .before .before .before .before .before .before .before .pre .1 .0 .3)
+
+set-word-requires-5 : tie.Need-set-word-requires-5
+set-word-requires-5 c κs =
+    omega (arith, c .before .before .before .before .before .before .before .before .before .before .before .before .before .before .before .before .before .before .before .before .before .before .before .before .before .before .pre .1 .1 .row, c .before .before .before .before .set-word4 .kept, c .before .before .before .before .before .before .before .before .before .set-word3 .kept, c .before .before .before .before .before .before .before .before .before .before .before .before .before .set-word2 .kept, c .before .before .before .before .before .before .before .before .before .before .before .before .before .before .before .before .before .set-word .kept)
 
 returns : tie.Need-returns
 returns c =
-    rw (c .before .before .before .before .before .before .before .put4 .ensures, c .before .before .before .before .before .before .before .before .before .before .before .before .put3 .ensures, c .before .before .before .before .before .before .before .before .before .before .before .before .before .before .before .before .put2 .ensures, c .before .before .before .before .before .before .before .before .before .before .before .before .before .before .before .before .before .before .before .before .put .ensures, c .before .before .before .before .before .before .before .before .before .before .before .before .before .before .before .before .before .before .before .before .before .before .before .before .before .get .ensures .0, c .before .before .before .before .before .before .before .before .before .before .before .before .before .before .before .before .before .before .before .before .before .before .get2 .ensures .0) at (c .before .before .put5 .ensures)
+    rw (c .before .before .before .before .before .before .before .set-word4 .ensures, c .before .before .before .before .before .before .before .before .before .before .before .before .set-word3 .ensures, c .before .before .before .before .before .before .before .before .before .before .before .before .before .before .before .before .set-word2 .ensures, c .before .before .before .before .before .before .before .before .before .before .before .before .before .before .before .before .before .before .before .before .set-word .ensures, c .before .before .before .before .before .before .before .before .before .before .before .before .before .before .before .before .before .before .before .before .before .before .before .before .before .word-at .ensures .0, c .before .before .before .before .before .before .before .before .before .before .before .before .before .before .before .before .before .before .before .before .before .before .word-at2 .ensures .0) at (c .before .before .set-word5 .ensures)
 
 pub begin-place-spec : {M : Type 1} → statement M
 begin-place-spec =
@@ -47,10 +51,10 @@ begin-place-spec =
     (λ c. search needs)
     (λ c. search needs)
     (λ c κs. search needs)
-    add-put-7
-    mul-put-2
-    add-put-8
-    add-put-9
-    (λ c κs. search needs)
+    add-set-word-7
+    mul-set-word-2
+    add-set-word-8
+    add-set-word-9
+    set-word-requires-5
     (λ c. search needs)
     returns)

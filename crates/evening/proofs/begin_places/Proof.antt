@@ -8,7 +8,7 @@ use Rattle.evening.specs.Steps.{Diag-fit, Begun}
 use borrow.Author.Needs.{needs}
 use Rattle.evening.proofs.begin_places.Statement.{statement}
 use Rattle.evening.proofs.begin_places.Tie as tie
-use Rattle.evening.proofs.BeginLaws.{begun-none, begun-more}
+use Rattle.evening.proofs.BeginLaws.{begun-none, begins, begun-more}
 
 abbrev Inv-loop : tie.InvT-loop
 Inv-loop s₀ at diag b m n i₀ s i =
@@ -21,6 +21,19 @@ loop-holds : tie.Need-loop-holds Inv-loop μ-loop
 loop-holds c =
     let a = c .before .args in
     (omega arith, refl, λ h. begun-none (a .n) (a .at .left) (a .at .right) (a .at .ends) (a .diag) (a .b) (a .m) (a .s .now) h)
+
+begin-place-requires : tie.Need-begin-place-requires Inv-loop μ-loop
+begin-place-requires c κs =
+    let a = c .before .before .before .before .args in
+    let h = c .before .before .before .before .pre in
+    let lp = c .before .before .loop in
+    let low : a .at .ends + 2 * (a .m + a .n) < 4294967296 = omega (arith, h .after-ends, h .low) in (
+      (omega (arith, h .after-left, h .after-diag), omega (arith, h .after-right, h .after-diag), omega arith),
+      (
+        (omega (arith, h .after-diag), omega (arith, h .low), omega arith, omega arith),
+        begins (a .n) (a .at .left) (a .at .right) (a .at .ends) (a .diag) (a .b) (a .m) (a .s .now) h (lp .i) (lp .s) (omega arith) (lp .inv .2 h),
+      ),
+    )
 
 loop-again : tie.Need-loop-again Inv-loop μ-loop
 loop-again c =
@@ -40,7 +53,7 @@ begin-places-spec =
     Inv-loop
     μ-loop
     loop-holds
-    (λ c κs. search needs)
+    begin-place-requires
     (λ c. search needs)
     (λ c. search needs)
     loop-again

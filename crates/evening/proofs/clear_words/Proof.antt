@@ -22,7 +22,7 @@ loop-again : tie.Need-loop-again Inv-loop μ-loop
 loop-again c =
     let a = c .before .before .before .before .before .before .before .args in
     let lp = c .before .before .before .before .before .loop in
-    (search needs, search needs, cleared-more (a .b) (lp .v) (a .s .now) (lp .s) (c .before .before .put .last .0) (omega arith) (lp .inv .2) (c .before .before .put .ensures))
+    (search needs, search needs, cleared-more (a .b) (lp .v) (a .s .now) (lp .s) (c .before .before .set-word .last .0) (omega arith) (lp .inv .2) (c .before .before .set-word .ensures))
 
 returns : tie.Need-returns Inv-loop μ-loop
 returns c =

@@ -6,7 +6,7 @@ use Rattle.words.specs.Words.{word, put-word}
 use mathlib.Core.List.{List}
 use Rattle.evening.specs.Contract.{Can-even}
 use Rattle.evening.specs.Steps.{Rows-filled}
-use Rattle.evening.proofs.EveningWords.{rows-fit-even, At, at-none, at-more, evened-out}
+use Rattle.evening.proofs.EveningWords.{rows-fit-even, At, at-none, at-place, at-more, evened-out}
 use borrow.Author.Needs.{needs}
 use Rattle.evening.proofs.even_at.Statement.{statement}
 use Rattle.evening.proofs.even_at.Tie as tie
@@ -27,6 +27,19 @@ loop-holds : tie.Need-loop-holds Inv-loop μ-loop
 loop-holds c =
     let a = c .before .before .before .before .before .before .args in
     (omega arith, refl, λ first h x. at-none (a .list .now) (a .d) (a .n) (a .at .left) (a .at .right) (a .at .ends) (a .at .apair) (a .at .g) (a .u) first h (c .before .before .fill-rows .last .0) x)
+
+even-step-requires : tie.Need-even-step-requires Inv-loop μ-loop
+even-step-requires c κs =
+    let a = c .before .before .before .before .before .before .before .before .before .args in
+    let h = c .before .before .before .before .before .before .before .before .before .pre in
+    let lp = c .before .before .loop in
+    let x = c .before .before .before .before .before .fill-rows .ensures in (
+      (omega (arith, h .after-left, h .after-ends, h .after-apair, h .after-graph, h .low), omega (arith, h .after-right, h .after-ends, h .after-apair, h .after-graph, h .low), omega (arith, h .after-ends, h .after-apair, h .after-graph, h .low), omega (arith, h .after-apair, h .after-graph, h .low), omega (arith, h .after-graph, h .low)),
+      (
+        (h .few, omega (arith, h .low), omega (arith, h .low)),
+        λ below. at-place (a .list .now) (a .d) (a .n) (a .at .left) (a .at .right) (a .at .ends) (a .at .apair) (a .at .g) (a .u) (a .s .now) h (c .before .before .before .before .before .fill-rows .last .0) x (lp .k) (lp .st .l) (lp .st .r) (lp .s) (lp .inv .2 (a .s .now) h x) (omega arith),
+      ),
+    )
 
 loop-again : tie.Need-loop-again Inv-loop μ-loop
 loop-again c =
@@ -55,7 +68,7 @@ even-at-spec =
     (λ c. search needs)
     (λ c. search needs)
     loop-holds
-    (λ c κs. search needs)
+    even-step-requires
     (λ c. search needs)
     (λ c. search needs)
     loop-again

@@ -11,15 +11,15 @@ use Rattle.evening.proofs.fill.Tie as tie
 
 add-put : tie.Need-add-put
 add-put c =
-    omega (arith, c .before .before .before .before .before .before .before .before .before .before .before .before .before .before .before .before .before .before .before .pre .0 .3, c .before .before .before .before .before .before .before .before .before .before .before .before .before .before .before .before .before .before .before .pre .1 .2)
+    omega (arith, c .before .before .before .before .before .before .before .before .before .before .before .before .before .before .before .before .before .before .before .pre .0 .3, c .before .before .before .before .before .before .before .before .before .before .before .before .before .before .before .before .before .before .before .pre .1 .0 .2)
 
 add-put-3 : tie.Need-add-put-3
 add-put-3 c =
-    omega (arith, c .before .before .before .before .before .before .before .before .before .before .before .before .before .before .before .before .before .before .before .before .before .before .before .pre .0 .3, c .before .before .before .before .before .before .before .before .before .before .before .before .before .before .before .before .before .before .before .before .before .before .before .pre .1 .3)
+    omega (arith, c .before .before .before .before .before .before .before .before .before .before .before .before .before .before .before .before .before .before .before .before .before .before .before .pre .0 .3, c .before .before .before .before .before .before .before .before .before .before .before .before .before .before .before .before .before .before .before .before .before .before .before .pre .1 .0 .3)
 
 add-put-4 : tie.Need-add-put-4
 add-put-4 c =
-    omega (arith, c .before .before .before .before .before .before .before .before .before .before .before .before .before .before .before .before .before .get2 .ensures .1, c .before .before .before .before .before .before .before .before .before .before .before .before .before .before .smaller .ensures, c .before .before .before .before .before .before .before .before .before .before .before .before .before .before .before .lacks2 .ensures, c .before .before .before .before .before .before .before .before .before .before .before .before .before .before .before .before .before .before .before .before .before .before .before .pre .1 .0)
+    omega (arith, c .before .before .before .before .before .before .before .before .before .before .before .before .before .before .before .before .before .get2 .ensures .1, c .before .before .before .before .before .before .before .before .before .before .before .before .before .before .smaller .ensures, c .before .before .before .before .before .before .before .before .before .before .before .before .before .before .before .lacks2 .ensures, c .before .before .before .before .before .before .before .before .before .before .before .before .before .before .before .before .before .before .before .before .before .before .before .pre .1 .0 .0)
 
 returns : tie.Need-returns
 returns c =

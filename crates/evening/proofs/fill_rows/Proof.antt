@@ -6,7 +6,7 @@ use lib.ListN.{length}
 use Rattle.words.specs.Words.{word, put-word}
 use mathlib.Core.List.{List}
 use Rattle.evening.specs.Steps.{Rows-fit, Rows-filled}
-use Rattle.evening.proofs.RowsLaws.{filled-none, filled-more}
+use Rattle.evening.proofs.RowsLaws.{filled-none, filled-more, pushes}
 use borrow.Author.Needs.{needs}
 use Rattle.evening.proofs.fill_rows.Statement.{statement}
 use Rattle.evening.proofs.fill_rows.Tie as tie
@@ -25,17 +25,20 @@ push-row-requires : tie.Need-push-row-requires Inv-loop μ-loop
 push-row-requires c κs =
     let a = c .before .before .before .before .before .before .before .before .before .before .args in
     let h = c .before .before .before .before .before .before .before .before .before .before .pre in
-    let e : c .before .get16 .result ≡ word (a .list .now) (c .before .before .before .loop .h) = c .before .get16 .ensures .0 in
-    let v : c .before .get16 .result < a .q = rw e (h .ends (c .before .before .before .loop .h) (omega arith)) in
-    let less : c .before .get16 .result ≤ a .q = omega arith in
-    (omega (arith, h .after, h .small), (omega (arith, h .small, mul-le-mul-left (a .d) less), omega arith))
+    let e : c .before .half-word-at .result ≡ word (a .list .now) (c .before .before .before .loop .h) = c .before .half-word-at .ensures .0 in
+    let v : c .before .half-word-at .result < a .q = rw e (h .ends (c .before .before .before .loop .h) (omega arith)) in
+    let less : c .before .half-word-at .result ≤ a .q = omega arith in
+    let lp = c .before .before .before .loop in
+    let none = filled-none (a .list .now) (a .q) (a .d) (a .b) (a .rows) (a .s .now) h (c .before .before .before .before .before .before .clear-words .last .0) (c .before .before .before .before .before .before .clear-words .ensures) in
+    let place = pushes (a .list .now) (a .q) (a .d) (a .b) (a .rows) (a .s .now) h (lp .h) (lp .s) (omega arith) (lp .inv .2 (a .s .now) h none) in
+    (omega (arith, h .after, h .small), (omega (arith, h .small, mul-le-mul-left (a .d) less), (omega arith, rw e place)))
 
 loop-again : tie.Need-loop-again Inv-loop μ-loop
 loop-again c =
     let a = c .before .before .before .before .before .before .before .before .before .before .before .before .before .args in
     let lp = c .before .before .before .before .before .before .loop in
-    let e : c .before .before .before .before .get16 .result ≡ word (a .list .now) (lp .h) = c .before .before .before .before .get16 .ensures .0 in
-    (search needs, search needs, λ first k x. filled-more (a .list .now) (a .q) (a .d) (a .b) (a .rows) first k (lp .h) (lp .s) (c .before .before .push-row .last .0) (omega arith) (lp .inv .2 first k x) (rw e at (c .before .before .push-row .ensures)))
+    let e : c .before .before .before .before .half-word-at .result ≡ word (a .list .now) (lp .h) = c .before .before .before .before .half-word-at .ensures .0 in
+    (search needs, search needs, λ first k x. filled-more (a .list .now) (a .q) (a .d) (a .b) (a .rows) first k (lp .h) (lp .s) (omega arith) (lp .inv .2 first k x) (c .before .before .push-row .last .0) (rw e at (c .before .before .push-row .ensures)))
 
 returns : tie.Need-returns Inv-loop μ-loop
 returns c =

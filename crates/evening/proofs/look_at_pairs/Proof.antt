@@ -8,7 +8,7 @@ use Rattle.evening.specs.Steps.{Diag-ready, Looked}
 use borrow.Author.Needs.{needs}
 use Rattle.evening.proofs.look_at_pairs.Statement.{statement}
 use Rattle.evening.proofs.look_at_pairs.Tie as tie
-use Rattle.evening.proofs.LookLaws.{looked-none, looked-more}
+use Rattle.evening.proofs.LookLaws.{looked-none, looks, looked-more}
 
 abbrev Inv-loop : tie.InvT-loop
 Inv-loop s₀ at diag b n m e₀ s e =
@@ -21,6 +21,19 @@ loop-holds : tie.Need-loop-holds Inv-loop μ-loop
 loop-holds c =
     let a = c .before .args in
     (omega arith, refl, λ h. looked-none (a .n) (a .at .left) (a .at .right) (a .at .ends) (a .diag) (a .b) (a .m) (a .s .now) h)
+
+look-at-requires : tie.Need-look-at-requires Inv-loop μ-loop
+look-at-requires c κs =
+    let a = c .before .before .before .before .args in
+    let h = c .before .before .before .before .pre in
+    let lp = c .before .before .loop in
+    let low : a .at .ends + 2 * (a .m + a .n) < 4294967296 = omega (arith, h .after-ends, h .low) in (
+      (omega (arith, h .after-left, h .after-diag), omega (arith, h .after-right, h .after-diag), omega arith),
+      (
+        (omega (arith, h .after-diag), omega (arith, h .low), omega arith),
+        looks (a .n) (a .at .left) (a .at .right) (a .at .ends) (a .diag) (a .b) (a .m) (a .s .now) h (lp .e) (lp .s) (omega arith) (lp .inv .1),
+      ),
+    )
 
 loop-again : tie.Need-loop-again Inv-loop μ-loop
 loop-again c =
@@ -40,7 +53,7 @@ look-at-pairs-spec =
     Inv-loop
     μ-loop
     loop-holds
-    (λ c κs. search needs)
+    look-at-requires
     (λ c. search needs)
     (λ c. search needs)
     loop-again

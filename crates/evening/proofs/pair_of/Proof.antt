@@ -11,12 +11,12 @@ use Rattle.evening.proofs.pair_of.Tie as tie
 returns : tie.Need-returns
 returns c =
     let a = c .before .before .before .before .args in
-    pair-of-old (a .g) (a .apair) (a .i) (a .s .now) (c .before .before .get .result) (c .get2 .result) (c .before .before .get .ensures .0) (c .before .if1 .taken) (c .get2 .ensures .0)
+    pair-of-old (a .g) (a .apair) (a .i) (a .s .now) (c .before .before .word-at .result) (c .word-at2 .result) (c .before .before .word-at .ensures .0) (c .before .if1 .taken) (c .word-at2 .ensures .0)
 
 returns-2 : tie.Need-returns-2
 returns-2 c =
     let a = c .before .before .before .before .args in
-    pair-of-new (a .g) (a .apair) (a .i) (a .s .now) (c .before .before .get .result) (c .get3 .result) (c .before .before .get .ensures .0) (omega arith) (c .get3 .ensures .0)
+    pair-of-new (a .g) (a .apair) (a .i) (a .s .now) (c .before .before .word-at .result) (c .word-at3 .result) (c .before .before .word-at .ensures .0) (omega arith) (c .word-at3 .ensures .0)
 
 pub pair-of-spec : {M : Type 1} → statement M
 pair-of-spec =

@@ -7,7 +7,7 @@ use mathlib.Core.List.{List}
 use Prim.Native.Nat.{_/_}
 use native.Mathlib.Nat.{mul-le-mul-left}
 use Rattle.evening.specs.Steps.{row, Reps-fit, Row-done}
-use Rattle.evening.proofs.RepsLaws.{Going, going-none, going-more, row-kept, row-done}
+use Rattle.evening.proofs.RepsLaws.{Going, going-none, going-more, row-kept, row-inside-words, finds, row-done}
 use borrow.Author.Needs.{needs}
 use Rattle.evening.proofs.rep_row.Statement.{statement}
 use Rattle.evening.proofs.rep_row.Tie as tie
@@ -36,23 +36,42 @@ loop-holds c =
     let a = c .before .before .before .before .args in
     (omega arith, refl, λ fit party. going-none (a .list .now) (a .p) (a .d) (a .b) (a .rows) (a .map) (a .apair) (a .s .now) fit (a .v) party)
 
-add-get-2 : tie.Need-add-get-2 Inv-loop μ-loop
-add-get-2 c =
+add-word-at-2 : tie.Need-add-word-at-2 Inv-loop μ-loop
+add-word-at-2 c =
     let a = c .before .before .before .before .before .before .before .args in
     let less : a .v ≤ a .p = omega (arith, c .before .before .before .before .before .before .before .pre .1) in
-    omega (arith, mul-le-mul-left (a .d) less, c .before .before .before .before .before .before .before .pre .0 .after-rows, c .before .before .before .before .before .before .before .pre .0 .small, c .before .before .before .get .ensures .1)
+    omega (arith, mul-le-mul-left (a .d) less, c .before .before .before .before .before .before .before .pre .0 .after-rows, c .before .before .before .before .before .before .before .pre .0 .small, c .before .before .before .word-at .ensures .1)
+
+word-at-requires-2 : tie.Need-word-at-requires-2 Inv-loop μ-loop
+word-at-requires-2 c κs =
+    let a = c .before .before .before .before .before .before .before .args in
+    let lp = c .before .before .loop in
+    let fit = c .before .before .before .before .before .before .before .pre .0 in
+    let party = c .before .before .before .before .before .before .before .pre .1 in
+    let inside : lp .t < word (a .s .now) (a .b + a .v) = omega (arith, c .before .before .before .word-at .ensures .0) in
+    row-inside-words (a .list .now) (a .p) (a .d) (a .b) (a .rows) (a .map) (a .apair) (a .s .now) fit (a .v) party (lp .t) (lp .t) (lp .s) inside (lp .inv .2 fit party)
+
+find-rep-requires : tie.Need-find-rep-requires Inv-loop μ-loop
+find-rep-requires c κs =
+    let a = c .before .before .before .before .before .before .before .before .before .args in
+    let lp = c .before .before .before .before .loop in
+    let fit = c .before .before .before .before .before .before .before .before .before .pre .0 in
+    let party = c .before .before .before .before .before .before .before .before .before .pre .1 in
+    let inside : lp .t < word (a .s .now) (a .b + a .v) = omega (arith, c .before .before .before .before .before .word-at .ensures .0) in
+    let h-is : c .before .word-at2 .result ≡ row (a .s .now) (a .rows) (a .d) (a .v) (lp .t) = c .before .word-at2 .ensures .0 ∙ row-kept (a .list .now) (a .p) (a .d) (a .b) (a .rows) (a .map) (a .apair) (a .s .now) fit (a .v) party (lp .t) (lp .t) (lp .s) inside (lp .inv .2 fit party) in
+    ((omega (arith, fit .small), omega (arith, fit .before, fit .after, fit .after-rows, fit .small), c .before .word-at2 .ensures .1), rw h-is (finds (a .list .now) (a .p) (a .d) (a .b) (a .rows) (a .map) (a .apair) (a .s .now) fit (a .v) party (lp .t) (lp .s) inside (lp .inv .2 fit party)))
 
 loop-again : tie.Need-loop-again Inv-loop μ-loop
 loop-again c =
     let a = c .before .before .before .before .before .before .before .before .before .before .before .before .args in
     let lp = c .before .before .before .before .before .before .before .loop in
-    let n-is : c .before .before .before .before .before .before .before .before .get .result ≡ word (a .s .now) (a .b + a .v) = c .before .before .before .before .before .before .before .before .get .ensures .0 in (
+    let n-is : c .before .before .before .before .before .before .before .before .word-at .result ≡ word (a .s .now) (a .b + a .v) = c .before .before .before .before .before .before .before .before .word-at .ensures .0 in (
       search needs,
       search needs,
       λ fit party.
           let g = lp .inv .2 fit party in
           let inside : lp .t < word (a .s .now) (a .b + a .v) = omega arith in
-          let h-is : c .before .before .before .before .get2 .result ≡ row (a .s .now) (a .rows) (a .d) (a .v) (lp .t) = c .before .before .before .before .get2 .ensures .0 ∙ row-kept (a .list .now) (a .p) (a .d) (a .b) (a .rows) (a .map) (a .apair) (a .s .now) fit (a .v) party (lp .t) (lp .t) (lp .s) inside g in
+          let h-is : c .before .before .before .before .word-at2 .result ≡ row (a .s .now) (a .rows) (a .d) (a .v) (lp .t) = c .before .before .before .before .word-at2 .ensures .0 ∙ row-kept (a .list .now) (a .p) (a .d) (a .b) (a .rows) (a .map) (a .apair) (a .s .now) fit (a .v) party (lp .t) (lp .t) (lp .s) inside g in
           going-more (a .list .now) (a .p) (a .d) (a .b) (a .rows) (a .map) (a .apair) (a .s .now) fit (a .v) party (lp .t) (lp .s) inside g (c .before .before .find-rep .last .0) (rw h-is at (c .before .before .find-rep .ensures)),
     )
 
@@ -60,7 +79,7 @@ returns : tie.Need-returns Inv-loop μ-loop
 returns c =
     let a = c .before .before .before .before .before .before .args in
     let lp = c .before .loop in
-    let e : lp .t ≡ word (a .s .now) (a .b + a .v) = omega (arith, c .before .before .get .ensures .0) in
+    let e : lp .t ≡ word (a .s .now) (a .b + a .v) = omega (arith, c .before .before .word-at .ensures .0) in
     row-done (a .list .now) (a .p) (a .d) (a .b) (a .rows) (a .map) (a .apair) (a .s .now) (c .before .before .before .before .before .before .pre .0) (a .v) (c .before .before .before .before .before .before .pre .1) (lp .s) (rw e at (lp .inv .2 (c .before .before .before .before .before .before .pre .0) (c .before .before .before .before .before .before .pre .1)))
 
 pub rep-row-spec : {M : Type 1} → statement M
@@ -74,9 +93,9 @@ rep-row-spec =
     mul-from
     add-from
     loop-holds
-    add-get-2
-    (λ c κs. search needs)
-    (λ c κs. search needs)
+    add-word-at-2
+    word-at-requires-2
+    find-rep-requires
     (λ c. search needs)
     (λ c. search needs)
     loop-again

@@ -1,0 +1,53 @@
+-- Pair numbers in words: what a half holds, and what is noted. Assumes nothing.
+use Prim.Native.Nat.{ℕ, _+_, _*_, _≤_, _<_}
+use mathlib.Core.Path.{_≡_, _∙_}
+use mathlib.Core.List.{List, [], _∷_}
+use native.Mathlib.Omega.{arith}
+use lib.ListN.{length}
+use Rattle.words.specs.Words.{word, put-word}
+use Rattle.words.proofs.Frames.{here, away, length-put}
+use Rattle.euler.specs.RoundModel.{singleM}
+
+-- the half at h holds one copy each of the pairs es, the last first
+abbrev pub Held : List ℕ → ℕ → List ℕ → Type 0
+Held s h [] = Unit {0}
+Held s h (e ∷ es) = (word s (h + 2 + 2 * length es) ≡ e) × (word s (h + 3 + 2 * length es) ≡ 1) × Held s h es
+
+pub held-same :
+    (s t : List ℕ) (h : ℕ) (es : List ℕ) → ((a : ℕ) → h + 2 ≤ a → a < h + 2 + 2 * length es → word t a ≡ word s a) →
+    Held s h es → Held t h es
+held-same s t h [] f k = tt
+held-same s t h (e ∷ es) f k = (
+  f (h + 2 + 2 * length es) (omega arith) (omega arith) ∙ k .0,
+  f (h + 3 + 2 * length es) (omega arith) (omega arith) ∙ k .1,
+  held-same s t h es (λ a lo hi. f a lo (omega arith)) (k .2),
+)
+
+pub single-away :
+    (h : ℕ) (s : List ℕ) (at e a : ℕ) → (a ≡ h + 2 + 2 * at → ⊥) → (a ≡ h + 3 + 2 * at → ⊥) → word (singleM h s at e) a ≡ word s a
+single-away h s at e a p q =
+    away (put-word s (h + 2 + 2 * at) e) (h + 3 + 2 * at) a 1 q ∙ away s (h + 2 + 2 * at) a e p
+
+pub held-more :
+    (s : List ℕ) (h e : ℕ) (es : List ℕ) → h + 3 + 2 * length es < length s → e < 4294967296 → Held s h es →
+    Held (singleM h s (length es) e) h (e ∷ es)
+held-more s h e es b f k =
+    let t : List ℕ = put-word s (h + 2 + 2 * length es) e in
+    let len : length t ≡ length s = length-put s (h + 2 + 2 * length es) e in (
+      away t (h + 3 + 2 * length es) (h + 2 + 2 * length es) 1 (λ x. omega arith)
+          ∙ here s (h + 2 + 2 * length es) e (omega arith) f,
+      here t (h + 3 + 2 * length es) 1 (omega arith) (omega arith),
+      held-same s (singleM h s (length es) e) h es
+          (λ a lo hi. single-away h s (length es) e a (λ x. omega arith) (λ x. omega arith)) k,
+    )
+
+-- the notes are es, the last first
+abbrev pub Noted : List ℕ → ℕ → List ℕ → Type 0
+Noted s n [] = Unit {0}
+Noted s n (e ∷ es) = (word s (n + length es) ≡ e) × Noted s n es
+
+pub noted-same :
+    (s t : List ℕ) (n : ℕ) (es : List ℕ) → ((a : ℕ) → n ≤ a → a < n + length es → word t a ≡ word s a) → Noted s n es → Noted t n es
+noted-same s t n [] f k = tt
+noted-same s t n (e ∷ es) f k =
+    (f (n + length es) (omega arith) (omega arith) ∙ k .0, noted-same s t n es (λ a lo hi. f a lo (omega arith)) (k .1))

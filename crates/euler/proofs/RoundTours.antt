@@ -1,0 +1,233 @@
+-- The cycles of pairs in which every party has at most two ends are rounds: from each party in number order that has pairs
+-- left, the round from its last half-edge. Assumes nothing.
+use Prim.Native.Nat.{ℕ, suc, _+_, _*_, _%_, _<_}
+use mathlib.Core.Path.{_≡_, refl, sym, _∙_, ap, subst}
+use mathlib.Core.Bool.{Bool, true, false}
+use mathlib.Core.List.{List, [], _∷_, _++_, reverse, reverse-cons, append-nil}
+use mathlib.Core.Logic.{_⊎_, inl, inr}
+use native.Mathlib.Omega.{arith}
+use native.Mathlib.Decide.{ℕ-discrete}
+use lib.ListN.{length, length-reverse}
+use Rattle.words.specs.Basics.{pick, total, iterate, All, Run, ran, Ran, and-then}
+use Rattle.words.proofs.Sums.{is-eq, is-same, total-append, total-reverse, all-append}
+use Rattle.multigraph.specs.Multigraph.{Pair, Graph}
+use Rattle.euler.specs.Euler.{Taken, taken, none, first-pair, Walking, walk-step, Tour, walk-from, visited, tour-below, euler-cycles}
+use Rattle.euler.specs.Split.{Halves, add-halves, rest, every-other, add-pairs, deal, rbmg-split-into-two}
+use Rattle.euler.proofs.Taken.{ends, Leads, leads-ends}
+use Rattle.euler.proofs.Trail.{Trail, aslant, trail-reverse}
+use Rattle.euler.proofs.Walks.{begin, Closed, walk-closes, walk-head}
+use Rattle.euler.proofs.Tours.{in-all, Toured, tour-below-tours, visited-named}
+use Rattle.euler.proofs.Straight.{along, closed-even, deal-along}
+use Rattle.euler.proofs.Straight as Straight
+use Rattle.euler.proofs.Leading.{lead, Leaves, leaves-all, leaves-then, leaves-walk}
+use Rattle.euler.proofs.Rounds.{Two-ended, Round, round-of, meet, pair-same}
+
+-- the sum over all the pairs of the cycles
+pub along-total : (f : Pair → ℕ) (cs : List (List Pair)) → total f (along cs) ≡ in-all f cs
+unfolding along total
+along-total f [] = refl
+along-total f (c ∷ cs) = total-append f c (along cs) ∙ ap (λ (x : ℕ). total f c + x) (along-total f cs)
+
+-- the pair that is taken
+lead-taken : (t : Taken) (p : Pair) → lead t ≡ p ∷ [] → (os : List Pair) × (t ≡ taken p os)
+lead-taken (taken q os) p e = (os, ap (λ (x : Pair). taken x os) (ap head e))
+  where
+    head : List Pair → Pair
+    head [] = p
+    head (x ∷ xs) = x
+lead-taken none p e = absurd (omega (arith, ap length e))
+
+-- a walk that leads back to v by no pair of v is empty
+no-pair : (v : ℕ) (ps : List Pair) → Trail v v ps → total (ends v) ps ≡ 0 → ps ≡ []
+unfolding total
+no-pair v [] t z = refl
+no-pair v (p ∷ ps) t z = let k : Leads p v (t .0) = t .1 in absurd (omega (arith, leads-ends k v, is-same v))
+
+module _ (r : List Pair) (mate at : ℕ → ℕ) (pr : ℕ → Pair) (early late : ℕ → ℕ) (Half : ℕ → Type 0) (h : Two-ended r mate at pr early late Half) (side : ℕ → ℕ) (slant : total (aslant side) r ≡ 0) (evens : (v : ℕ) → total (ends v) r % 2 ≡ 0) (order : (v : ℕ) → 0 < total (ends v) r → lead (first-pair v (reverse r)) ≡ pr (early v) ∷ []) where
+  abbrev Round-of : ℕ → List Pair → Type 0
+  Round-of v T = Round r mate at pr early late Half h v T
+
+  -- A closed trail from v whose last pair is v's first is v's round.
+  closed-round :
+      (v : ℕ) (xs os : List Pair) → 0 < total (ends v) r → Trail v v (xs ++ (pr (early v) ∷ [])) →
+      ((f : Pair → ℕ) → total f (xs ++ (pr (early v) ∷ [])) + total f os ≡ total f r) →
+      length (xs ++ (pr (early v) ∷ [])) % 2 ≡ 0 → Round-of v (xs ++ (pr (early v) ∷ []))
+  unfolding total
+  closed-round v [] os s t whole even = absurd (omega arith)
+  closed-round v (q ∷ ys) os s t whole even =
+      let p : Pair = pr (early v) in
+      let k : Leads q v (t .0) = t .1 in
+      let same : q ≡ pr (late v) =
+      pair-same q (pr (late v))
+      (λ f.
+      omega (
+        arith,
+        h .both v s f,
+        meet r q p (ys ++ os) v (h .few v) (omega (arith, leads-ends k v, is-same v))
+            (omega (arith, leads-ends (h .leads (early v) (h .early-half v s .0)) v, is-eq {u = v} (sym (h .early-half v s .1))))
+            (λ f. omega (arith, whole f, total-append f ys (p ∷ []), total-append f ys os)) f,
+      )) in
+      subst (λ (z : Pair). Round-of v (z ∷ ys ++ (p ∷ []))) (sym same)
+      (round-of r mate at pr early late Half h v (ys ++ (p ∷ [])) os s
+      (subst (λ (z : Pair). Trail v v (z ∷ ys ++ (p ∷ []))) same t) (λ f. omega (arith, whole f, ap f same)) even)
+
+  -- what the definition's tour has come to before party v
+  pub record Rounded (v : ℕ) (t : Tour) : Type 0 where
+    pub runs : tour-below v r ≡ ran t
+    pub toured : Toured r v t
+    pub even : All (λ (c : List Pair). length c % 2 ≡ 0) (t .cycles)
+    pub leaves : Leaves (reverse r) (t .left)
+
+  -- party v has no pair left, and adds nothing
+  pub record Passed (t u : Tour) : Type 0 where
+    pub along-same : along (u .cycles) ≡ along (t .cycles)
+    pub left-same : (f : Pair → ℕ) → total f (u .left) ≡ total f (t .left)
+
+  -- party v has pairs left, and its round is one more cycle
+  pub record One-more (v : ℕ) (t u : Tour) : Type 0 where
+    pub cycle : List Pair
+    pub round : Round-of v cycle
+    pub size : length cycle % 2 ≡ 0
+    pub some : 0 < length cycle
+    pub along-more : along (u .cycles) ≡ along (t .cycles) ++ cycle
+    pub left-less : (f : Pair → ℕ) → total f cycle + total f (u .left) ≡ total f (t .left)
+
+  pub record Turned (v : ℕ) (t : Tour) : Type 0 where
+    pub after : Tour
+    pub rounded : Rounded (suc v) after
+    pub by : ((total (ends v) (t .left) ≡ 0) × Passed t after) ⊎ ((total (ends v) (t .left) ≡ 2) × One-more v t after)
+
+  module _ (v : ℕ) (t : Tour) (k : Rounded v t) where
+    abbrev w : Walking
+    w = iterate (2 * length (t .left)) (walk-step v) (begin (t .left))
+
+    abbrev u : Tour
+    u = record { cycles = t .cycles ++ (reverse (w .written) ∷ []); left = w .left }
+
+    closed : Closed v (t .left) w
+    closed = walk-closes v (t .left) (k .toured .even)
+
+    cycle-even : length (reverse (w .written)) % 2 ≡ 0
+    cycle-even =
+        rw length-reverse (closed-even side v (t .left) w (omega (arith, slant, k .toured .whole (aslant side))) closed)
+
+    -- the walk from a party not visited
+    walks-on : visited v (t .cycles) ≡ false → Rounded (suc v) u
+    unfolding tour-below walk-from
+    walks-on e =
+        let walks : walk-from v t ≡ ran u = rw (closed .empty, closed .stuck) in
+        let runs : tour-below (suc v) r ≡ ran u =
+        ap (λ (x : Run Tour). and-then x (λ u. pick (visited v (u .cycles)) (ran u) (walk-from v u))) (k .runs) ∙ rw e walks in
+        record {
+          runs = runs;
+          toured = subst (Ran (Toured r (suc v))) runs (tour-below-tours side r slant evens (suc v));
+          even =
+              all-append (λ (c : List Pair). length c % 2 ≡ 0) (t .cycles) (reverse (w .written) ∷ []) (k .even) (cycle-even, tt);
+          leaves = leaves-then (reverse r) (t .left) (w .left) (k .leaves) (leaves-walk v (2 * length (t .left)) (t .left));
+        }
+
+    -- a party visited
+    stays : visited v (t .cycles) ≡ true → Rounded (suc v) t
+    unfolding tour-below
+    stays e =
+        let runs : tour-below (suc v) r ≡ ran t =
+        ap (λ (x : Run Tour). and-then x (λ u. pick (visited v (u .cycles)) (ran u) (walk-from v u))) (k .runs) ∙ rw e in
+        record {
+          runs = runs;
+          toured = subst (Ran (Toured r (suc v))) runs (tour-below-tours side r slant evens (suc v));
+          even = k .even;
+          leaves = k .leaves;
+        }
+
+    along-u : along (u .cycles) ≡ along (t .cycles) ++ reverse (w .written)
+    along-u = Straight.along-more (t .cycles) (reverse (w .written))
+
+    -- no pair is left at v
+    nothing : total (ends v) (t .left) ≡ 0 → Passed t u
+    unfolding total
+    nothing z =
+        let empty : w .written ≡ [] = no-pair v (w .written) (closed .trail) (omega (arith, closed .whole (ends v))) in
+        record {
+          along-same = along-u ∙ ap (λ (l : List Pair). along (t .cycles) ++ reverse l) empty ∙ append-nil (along (t .cycles));
+          left-same = λ f. omega (arith, closed .whole f, ap (total f) empty);
+        }
+
+    -- both are
+    round-more : total (ends v) (t .left) ≡ 2 → One-more v t u
+    unfolding total
+    round-more two =
+        let p : Pair = pr (early v) in
+        let all : total (ends v) r ≡ 2 = omega (arith, h .few v, k .toured .whole (ends v)) in
+        let first : (os : List Pair) × (first-pair v (t .left) ≡ taken p os) =
+        lead-taken (first-pair v (t .left)) p
+        (k .leaves .same v (omega (arith, total-reverse (ends v) r)) ∙ order v (omega arith)) in
+        let last : (before : List Pair) × (w .written ≡ p ∷ before) =
+        walk-head v (t .left) p (first .0) (k .toured .even) two (first .1) in
+        let as-cycle : reverse (w .written) ≡ reverse (last .0) ++ (p ∷ []) =
+        ap reverse (last .1) ∙ reverse-cons p (last .0) in
+        let goes : Round-of v (reverse (last .0) ++ (p ∷ [])) =
+        closed-round v (reverse (last .0)) (w .left ++ along (t .cycles)) (omega arith)
+        (subst (Trail v v) as-cycle (trail-reverse v v (w .written) (closed .trail)))
+        (λ f.
+        omega (
+          arith,
+          ap (total f) as-cycle,
+          total-reverse f (w .written),
+          total-append f (w .left) (along (t .cycles)),
+          along-total f (t .cycles),
+          closed .whole f,
+          k .toured .whole f,
+        ))
+        (rw (← as-cycle) cycle-even) in
+        record {
+          cycle = reverse (w .written);
+          round = subst (Round-of v) (sym as-cycle) goes;
+          size = cycle-even;
+          some = omega (arith, ap length (last .1), length-reverse (w .written));
+          along-more = along-u;
+          left-less = λ f. omega (arith, closed .whole f, total-reverse f (w .written));
+        }
+
+  -- one party more
+  pub turned : (v : ℕ) (t : Tour) → Rounded v t → Turned v t
+  turned v t k = go (visited v (t .cycles)) refl
+    where
+      go : (b : Bool) → visited v (t .cycles) ≡ b → Turned v t
+      go true e =
+          let z : total (ends v) (t .left) ≡ 0 = k .toured .spent v (visited-named v (t .cycles) e) in
+          record { after = t; rounded = stays v t k e; by = inl (z, record { along-same = refl; left-same = λ f. refl }) }
+      go false e =
+          elim (ℕ-discrete (total (ends v) (t .left)) 0) [
+            | yes z ↦ record { after = u v t k; rounded = walks-on v t k e; by = inl (z, nothing v t k z) }
+            | no n ↦
+                let two : total (ends v) (t .left) ≡ 2 = omega (arith, h .few v, k .toured .whole (ends v), k .toured .even v) in
+                record { after = u v t k; rounded = walks-on v t k e; by = inr (two, round-more v t k two) }
+          ]
+
+  -- before the first party
+  pub begun : Rounded 0 (record { cycles = []; left = reverse r })
+  unfolding tour-below
+  begun =
+      record {
+        runs = refl;
+        toured = tour-below-tours side r slant evens 0;
+        even = tt;
+        leaves = leaves-all (reverse r);
+      }
+
+  -- the halves of a graph whose rest is r
+  pub halves-along :
+      (N : ℕ) (g : Graph) (t : Tour) → r ≡ rest g → Rounded N t →
+      rbmg-split-into-two N g
+      ≡ ran (record {
+        first-half = add-pairs (add-halves [] g) (every-other true (along (t .cycles)));
+        second-half = add-pairs (add-halves [] g) (every-other false (along (t .cycles)));
+      })
+  unfolding rbmg-split-into-two euler-cycles
+  halves-along N g t e k =
+      ap
+      (λ (x : Run Tour).
+      and-then (and-then x (λ t. ran (t .cycles)))
+      (λ cs. ran (deal (record { first-half = add-halves [] g; second-half = add-halves [] g }) cs)))
+      (ap (tour-below N) (sym e) ∙ k .runs)
+      ∙ ap (λ (x : Halves). ran x) (deal-along (record { first-half = add-halves [] g; second-half = add-halves [] g }) (t .cycles) (k .even))

@@ -1,0 +1,352 @@
+-- The rounds from all parties on words, against the definition's tour. Assumes nothing.
+use Prim.Native.Nat.{ℕ, zero, suc, _+_, _*_, _-_, _/_, _%_, _≤_, _<_}
+use mathlib.Core.Path.{_≡_, refl, sym, _∙_, ap, subst}
+use mathlib.Core.Bool.{Bool, true, false}
+use mathlib.Core.List.{List, _∷_, _++_, map, reverse, reverseAux, append-assoc}
+use mathlib.Core.Logic.{⊎-elim}
+use native.Mathlib.Omega.{arith}
+use native.Mathlib.Decide.{ℕ-discrete, decLt}
+use borrow.Author.Tests.{ne-eqb, le-leb, lt-leb}
+use lib.Dec.{eqb}
+use lib.ListN.{length, length-map, length-append, length-reverse}
+use Rattle.words.specs.Basics.{pick, is, total, iterate, All}
+use Rattle.words.specs.Words.{word}
+use Rattle.words.proofs.Sums.{total-const, all-counted}
+use Rattle.multigraph.specs.Multigraph.{Pair}
+use Rattle.euler.specs.declared.circuits.Two.{Two}
+use Rattle.euler.specs.Euler.{Tour}
+use Rattle.euler.specs.Split.{every-other}
+use Rattle.euler.specs.RoundModel.{Told, twoPairM, twoRoundM, twoFromM, twoWalkM}
+use Rattle.euler.specs.RoundBounds.{Two-rounds, Two-froms, Two-walks}
+use Rattle.euler.proofs.Taken.{ends}
+use Rattle.euler.proofs.Trail.{aslant}
+use Rattle.euler.proofs.Straight.{along, every-other-even}
+use Rattle.euler.proofs.Rounds.{trace}
+use Rattle.euler.proofs.RoundEnds as Ends
+use Rattle.euler.proofs.RoundTours as Tours
+use Rattle.euler.proofs.RoundFill as Fill
+use Rattle.euler.proofs.RoundFill.{Ground}
+use Rattle.euler.proofs.RoundSteps as Steps
+use Rattle.euler.proofs.RoundSteps.{double, others, numbers}
+use Rattle.euler.proofs.RoundLists.{double-is, even-double, reverse-onto, map-onto, map-numbers, others-map, others-length, others-all, numbers-all, onto-length, onto-all, trace-length}
+use Rattle.euler.proofs.RoundModelLaws.{two-round-back, two-round-on, two-from-none, two-from-some}
+
+module _ (l : Two) (N m k u : ℕ) (s₀ : List ℕ) (g : Ground l N m k u s₀) (flag : ℕ → ℕ) (r : List Pair) (two : Ends.Twos (Steps.E l N m k u s₀ g flag r) flag (Steps.es l N m k u s₀ g flag r) r) where
+  abbrev E : ℕ → ℕ
+  E y = word s₀ (l .ends + y)
+
+  abbrev es : List ℕ
+  es = Fill.odds-of l N m k u s₀ g m
+
+  abbrev pr : ℕ → Pair
+  pr y = Ends.pr E flag es y
+
+  abbrev Half : ℕ → Type 0
+  Half y = Ends.Half E flag es y
+
+  abbrev late : ℕ → ℕ
+  late v = Ends.late E flag es v
+
+  abbrev next : ℕ → ℕ
+  next y = Steps.next l N m k u s₀ g flag r y
+
+  abbrev Going : List ℕ → List ℕ → (ℕ → ℕ) → List ℕ → Type 0
+  Going ds₁ ds₂ M s = Steps.Going l N m k u s₀ g flag r ds₁ ds₂ M s
+
+  abbrev wipe : List ℕ → (ℕ → ℕ) → ℕ → ℕ
+  wipe hs M = Steps.wipe l N m k u s₀ g flag r hs M
+
+  -- the pairs dealt to one of the halves along a round
+  abbrev dealt : Bool → List ℕ → List ℕ → List ℕ
+  dealt b hs ds = reverseAux (numbers (others b hs)) ds
+
+  -- ── one round ──
+
+  record Gone (ds₁ ds₂ : List ℕ) (M : ℕ → ℕ) (y₀ f : ℕ) (s : List ℕ) (at y n : ℕ) : Type 0 where
+    fits : Two-rounds l y₀ f s at y
+    going :
+        Going (dealt true (trace next (double n) y) ds₁) (dealt false (trace next (double n) y) ds₂)
+        (wipe (trace next (double n) y) M)
+        (twoRoundM l y₀ f s at y .words)
+    number : twoRoundM l y₀ f s at y .number ≡ at + n
+
+  gone :
+      (n f : ℕ) (ds₁ ds₂ : List ℕ) (M : ℕ → ℕ) (y₀ : ℕ) (s : List ℕ) (at y : ℕ) → length ds₁ ≡ at → length ds₂ ≡ at → at + suc n ≤ m →
+      suc n ≤ f → Going ds₁ ds₂ M s → Half y → iterate (double (suc n)) next y ≡ y₀ →
+      ((j : ℕ) → 0 < j → j < suc n → (iterate (double j) next y ≡ y₀ → ⊥)) → Gone ds₁ ds₂ M y₀ f s at y (suc n)
+  unfolding double trace others iterate Steps.wipe
+  gone n zero ds₁ ds₂ M y₀ s at y e₁ e₂ room fuel q i back not = absurd (omega arith)
+  gone zero (suc f) ds₁ ds₂ M y₀ s at y e₁ e₂ room fuel q i back not =
+      let p : Steps.Paired l N m k u s₀ g flag r two ds₁ ds₂ M s at y =
+      Steps.paired l N m k u s₀ g flag r two ds₁ ds₂ M s at y e₁ e₂ (omega arith) q i in
+      let done : twoRoundM l y₀ (suc f) s at y ≡ record { words = twoPairM l s at y .words; number = at + 1 } =
+      two-round-back l y₀ (suc f) f s at y (twoPairM l s at y) refl refl (p .is-next ∙ back) in
+      record {
+        fits = (p .fits-first, p .fits-second, λ n. absurd (n (p .is-next ∙ back)));
+        going = rw done (p .going);
+        number = ap (λ (x : Told). x .number) done;
+      }
+  gone (suc n) (suc f) ds₁ ds₂ M y₀ s at y e₁ e₂ room fuel q i back not =
+      let p : Steps.Paired l N m k u s₀ g flag r two ds₁ ds₂ M s at y =
+      Steps.paired l N m k u s₀ g flag r two ds₁ ds₂ M s at y e₁ e₂ (omega arith) q i in
+      let t : Told = twoPairM l s at y in
+      let z : ℕ = next (next y) in
+      let on : t .number ≡ y₀ → ⊥ = λ e. not 1 (omega arith) (omega arith) (sym (p .is-next) ∙ e) in
+      let rest : Gone (y / 2 ∷ ds₁) (next y / 2 ∷ ds₂) (Steps.wiped l N m k u s₀ g flag r (next y) (Steps.wiped l N m k u s₀ g flag r y M)) y₀ f (t .words) (at + 1) z (suc n) =
+      gone n f (y / 2 ∷ ds₁) (next y / 2 ∷ ds₂) (Steps.wiped l N m k u s₀ g flag r (next y) (Steps.wiped l N m k u s₀ g flag r y M)) y₀ (t .words) (at + 1) z
+      (omega (arith, e₁)) (omega (arith, e₂)) (omega arith) (omega arith) (p .going) (p .half) back
+      (λ j lo hi. not (suc j) (omega arith) (omega arith)) in
+      let here : twoRoundM l y₀ (suc f) s at y ≡ twoRoundM l y₀ f (t .words) (at + 1) z =
+      two-round-on l y₀ (suc f) f s at y t refl refl on ∙ ap (twoRoundM l y₀ f (t .words) (at + 1)) (p .is-next) in
+      record {
+        fits = (p .fits-first, p .fits-second, λ x. subst (Two-rounds l y₀ f (t .words) (at + 1)) (sym (p .is-next)) (rest .fits));
+        going = rw here (rest .going);
+        number = ap (λ (x : Told). x .number) here ∙ rest .number ∙ omega arith;
+      }
+
+  -- ── all rounds ──
+
+  module _ (side : ℕ → ℕ) (slant : total (aslant side) r ≡ 0) (copies : (i : ℕ) → i < m → Fill.C l N m k u s₀ g i ≤ 2) where
+    abbrev pn : ℕ → Pair
+    pn e = Ends.pn E flag es e
+
+    abbrev early : ℕ → ℕ
+    early v = Ends.early E flag es v
+
+    abbrev ps : List ℕ
+    ps = Fill.evens-of l N m k u s₀ g m
+
+    abbrev Rounded : ℕ → Tour → Type 0
+    Rounded v t =
+        Tours.Rounded r Ends.mate E pr early late Half (Steps.ended l N m k u s₀ g flag r two) side slant (two .even)
+        (Ends.first-is E flag es r two) v t
+
+    abbrev Num : ℕ → Type 0
+    Num e = Fill.Num l N m k u s₀ g e
+
+    -- the pairs of one half: those of 2 copies, and every other along the cycles
+    abbrev Dealt-so : Bool → List ℕ → Tour → Type 0
+    Dealt-so b ds t = map pn (reverse ds) ≡ map pn (reverse ps) ++ every-other b (along (t .cycles))
+
+    pub record Walked (v : ℕ) (w : Told) : Type 0 where
+      pub tour : Tour
+      pub rounded : Rounded v tour
+      pub firsts : List ℕ
+      pub seconds : List ℕ
+      pub marks : ℕ → ℕ
+      pub going : Going firsts seconds marks (w .words)
+      pub spent : (x : ℕ) → x < N → total (ends x) (tour .left) ≡ 0 → marks x ≡ 0
+      pub alive : (x : ℕ) → x < N → total (ends x) (tour .left) ≡ 2 → marks x ≡ late x + 1
+      pub first-count : length firsts ≡ w .number
+      pub second-count : length seconds ≡ w .number
+      pub size : 2 * w .number ≡ 2 * length ps + length (along (tour .cycles))
+      pub first-pairs : Dealt-so true firsts tour
+      pub second-pairs : Dealt-so false seconds tour
+      pub first-nums : All Num firsts
+      pub second-nums : All Num seconds
+
+    -- no more than the graph has
+    split-length : (j : ℕ) → j ≤ m → length (Fill.evens-of l N m k u s₀ g j) + length (Fill.odds-of l N m k u s₀ g j) ≤ j
+    unfolding Fill.evens-of Fill.odds-of
+    split-length zero b = omega arith
+    split-length (suc j) b =
+        let c : ℕ = Fill.C l N m k u s₀ g j in
+        let before : length (Fill.evens-of l N m k u s₀ g j) + length (Fill.odds-of l N m k u s₀ g j) ≤ j = split-length j (omega arith) in
+        elim (decLt c 2) [
+          | yes q ↦ rw (lt-leb 2 c q) (one (eqb (c % 2) 1) before)
+          | no q ↦
+              let t : 2 ≤ c = omega arith in
+              rw (le-leb 2 c t, ne-eqb (c % 2) 1 (λ e. omega (arith, copies j (omega arith)))) (omega arith)
+        ]
+      where
+        one :
+            (q : Bool) → length (Fill.evens-of l N m k u s₀ g j) + length (Fill.odds-of l N m k u s₀ g j) ≤ j →
+            length (Fill.evens-of l N m k u s₀ g j)
+            + length (pick q (Fill.num l N m k u s₀ g j ∷ Fill.odds-of l N m k u s₀ g j) (Fill.odds-of l N m k u s₀ g j))
+            ≤ suc j
+        one true h = omega arith
+        one false h = omega arith
+
+    few-along : (t : Tour) (v : ℕ) → Rounded v t → length (along (t .cycles)) ≤ length es
+    few-along t v h =
+        omega (
+          arith,
+          h .toured .whole (λ p. 1),
+          Tours.along-total (λ p. 1) (t .cycles),
+          total-const 1 (along (t .cycles)),
+          total-const 1 r,
+          ap length (two .places),
+          length-reverse r,
+          length-map es pn,
+        )
+
+    pub walked-few : (v : ℕ) (w : Told) → Walked v w → w .number ≤ m
+    walked-few v w h = omega (arith, h .size, few-along (h .tour) v (h .rounded), split-length m (omega arith))
+
+    -- the pairs of one half with a round dealt to it
+    dealt-pairs :
+        (b : Bool) (hs ds : List ℕ) (t t' : Tour) (cycle : List Pair) → length (along (t .cycles)) % 2 ≡ 0 → map pr hs ≡ cycle →
+        along (t' .cycles) ≡ along (t .cycles) ++ cycle → Dealt-so b ds t → Dealt-so b (dealt b hs ds) t'
+    dealt-pairs b hs ds t t' cycle even e more h =
+        ap (map pn) (reverse-onto (numbers (others b hs)) ds)
+        ∙ map-onto pn (reverse ds) (numbers (others b hs))
+        ∙ rw (h, map-numbers pn (others b hs), others-map pr b hs, e, more, every-other-even b (along (t .cycles)) cycle even)
+        (append-assoc (map pn (reverse ps)) (every-other b (along (t .cycles))) (every-other b cycle))
+
+    dealt-count : (b : Bool) (n : ℕ) (hs ds : List ℕ) → length hs ≡ double n → length (dealt b hs ds) ≡ length ds + n
+    dealt-count b n hs ds e =
+        omega (arith, onto-length (numbers (others b hs)) ds, length-map (others b hs) (λ y. y / 2), others-length n hs e b)
+
+    half-num : (y : ℕ) → Half y → Num (y / 2)
+    half-num y i = all-counted Num (y / 2) es (Fill.odds-nums l N m k u s₀ g m (omega arith)) i
+
+    dealt-nums : (b : Bool) (hs ds : List ℕ) → All Half hs → All Num ds → All Num (dealt b hs ds)
+    dealt-nums b hs ds h k =
+        onto-all Num (numbers (others b hs)) ds (numbers-all Half Num half-num (others b hs) (others-all Half b hs h)) k
+
+    -- the tour's next party
+    abbrev Turned : ℕ → Tour → Type 0
+    Turned v t =
+        Tours.Turned r Ends.mate E pr early late Half (Steps.ended l N m k u s₀ g flag r two) side slant (two .even)
+        (Ends.first-is E flag es r two) v t
+
+    turned : (v : ℕ) (t : Tour) → Rounded v t → Turned v t
+    turned v t h =
+        Tours.turned r Ends.mate E pr early late Half (Steps.ended l N m k u s₀ g flag r two) side slant (two .even)
+        (Ends.first-is E flag es r two) v t h
+
+    abbrev Passed : Tour → Tour → Type 0
+    Passed t t' =
+        Tours.Passed r Ends.mate E pr early late Half (Steps.ended l N m k u s₀ g flag r two) side slant (two .even)
+        (Ends.first-is E flag es r two) t t'
+
+    abbrev One-more : ℕ → Tour → Tour → Type 0
+    One-more v t t' =
+        Tours.One-more r Ends.mate E pr early late Half (Steps.ended l N m k u s₀ g flag r two) side slant (two .even)
+        (Ends.first-is E flag es r two) v t t'
+
+    -- what the outer loop needs at the party v
+    pub record Onward (v : ℕ) (w : Told) : Type 0 where
+      pub fits : Two-froms l m w v
+      pub walked : Walked (suc v) (twoFromM l m w v)
+
+    passed : (v : ℕ) (w : Told) → v < N → (h : Walked v w) (t' : Tour) → Rounded (suc v) t' → total (ends v) (h .tour .left) ≡ 0 → Passed (h .tour) t' → Onward v w
+    passed v w b h t' k z p =
+        let none : word (w .words) (l .b + 2 * v) ≡ 0 = h .going .marks v b ∙ h .spent v b z in
+        let here : w ≡ twoFromM l m w v = two-from-none l m w v (word (w .words) (l .b + 2 * v)) refl none in
+        record {
+          fits =
+              record {
+                party = omega (arith, h .going .keeps .len, g .room, g .parties, g .few);
+                round = λ n. absurd (n none);
+              };
+          walked =
+              subst (Walked (suc v)) here
+              (record {
+                tour = t';
+                rounded = k;
+                firsts = h .firsts;
+                seconds = h .seconds;
+                marks = h .marks;
+                going = h .going;
+                spent = λ x c e. h .spent x c (sym (p .left-same (ends x)) ∙ e);
+                alive = λ x c e. h .alive x c (sym (p .left-same (ends x)) ∙ e);
+                first-count = h .first-count;
+                second-count = h .second-count;
+                size = h .size ∙ ap (λ (q : List Pair). 2 * length ps + length q) (sym (p .along-same));
+                first-pairs =
+                    h .first-pairs ∙ ap (λ (q : List Pair). map pn (reverse ps) ++ every-other true q) (sym (p .along-same));
+                second-pairs =
+                    h .second-pairs ∙ ap (λ (q : List Pair). map pn (reverse ps) ++ every-other false q) (sym (p .along-same));
+                first-nums = h .first-nums;
+                second-nums = h .second-nums;
+              });
+        }
+
+    gone-round : (v : ℕ) (w : Told) → v < N → (h : Walked v w) (t' : Tour) → Rounded (suc v) t' → total (ends v) (h .tour .left) ≡ 2 → One-more v (h .tour) t' → Onward v w
+    gone-round v w b h t' after left o =
+        let t : Tour = h .tour in
+        let d : (n : ℕ) × (length (o .cycle) ≡ double (suc n)) = even-double (length (o .cycle)) (o .size) (o .some) in
+        let n : ℕ = d .0 in
+        let y : ℕ = late v in
+        let hs : List ℕ = trace next (double (suc n)) y in
+        let some : 0 < total (ends v) r = omega (arith, h .rounded .toured .whole (ends v)) in
+        let twice : double (suc n) ≡ 2 * suc n = double-is (suc n) in
+        let grown : length (along (t' .cycles)) ≡ length (along (t .cycles)) + length (o .cycle) =
+        ap length (o .along-more) ∙ length-append (along (t .cycles)) (o .cycle) in
+        let room : w .number + suc n ≤ m =
+        omega (arith, h .size, grown, d .1, twice, few-along t' (suc v) after, split-length m (omega arith)) in
+        let half : Half y = Steps.ended l N m k u s₀ g flag r two .late-half v some .0 in
+        let back : iterate (double (suc n)) next y ≡ y = ap (λ (c : ℕ). iterate c next y) (sym (d .1)) ∙ o .round .closes in
+        let not : (j : ℕ) → 0 < j → j < suc n → (iterate (double j) next y ≡ y → ⊥) =
+        λ j lo hi e. o .round .inner (double j) (omega (arith, double-is j)) (omega (arith, double-is j, d .1, twice)) e in
+        let q : Gone (h .firsts) (h .seconds) (h .marks) y m (w .words) (w .number) y (suc n) =
+        gone n m (h .firsts) (h .seconds) (h .marks) y (w .words) (w .number) y (h .first-count) (h .second-count) room (omega arith) (h .going)
+        half back not in
+        let pairs : map pr hs ≡ o .cycle = ap (λ (c : ℕ). map pr (trace next c y)) (sym (d .1)) ∙ o .round .pairs in
+        let all-half : All Half hs = subst (λ (c : ℕ). All Half (trace next c y)) (d .1) (o .round .halves) in
+        let seen : (x : ℕ) → total (ends x) (o .cycle) ≡ 2 * total (λ z. is x (Steps.leads-to l N m k u s₀ g flag r z)) hs =
+        λ x.
+        o .round .visits x
+        ∙ ap (λ (c : ℕ). 2 * total (λ z. is x (Steps.leads-to l N m k u s₀ g flag r z)) (trace next c y)) (d .1) in
+        let long : length hs ≡ double (suc n) = trace-length next (double (suc n)) y in
+        let even : length (along (t .cycles)) % 2 ≡ 0 = omega (arith, h .size) in
+        let mark : word (w .words) (l .b + 2 * v) ≡ y + 1 = h .going .marks v b ∙ h .alive v b left in
+        let first : word (w .words) (l .b + 2 * v) - 1 ≡ y = omega arith in
+        let is-round : twoFromM l m w v ≡ twoRoundM l y m (w .words) (w .number) y =
+        sym (two-from-some l m w v (word (w .words) (l .b + 2 * v)) refl (λ z. omega arith))
+        ∙ ap (λ (z : ℕ). twoRoundM l z m (w .words) (w .number) z) first in
+        record {
+          fits =
+              record {
+                party = omega (arith, h .going .keeps .len, g .room, g .parties, g .few);
+                round = λ z. subst (λ (x : ℕ). Two-rounds l x m (w .words) (w .number) x) (sym first) (q .fits);
+              };
+          walked =
+              subst (Walked (suc v)) (sym is-round)
+              (record {
+                tour = t';
+                rounded = after;
+                firsts = dealt true hs (h .firsts);
+                seconds = dealt false hs (h .seconds);
+                marks = wipe hs (h .marks);
+                going = q .going;
+                spent = λ x c e.
+                    elim (ℕ-discrete (total (ends x) (t .left)) 0) [
+                      | yes z ↦ Steps.wipe-zero l N m k u s₀ g flag r hs (h .marks) x (h .spent x c z)
+                      | no z ↦
+                          Steps.wipe-hit l N m k u s₀ g flag r hs (h .marks) x (omega (arith, o .left-less (ends x), seen x))
+                    ];
+                alive = λ x c e.
+                    let full : total (ends x) (t .left) ≡ 2 =
+                    omega (arith, o .left-less (ends x), h .rounded .toured .whole (ends x), two .few x) in
+                    Steps.wipe-miss l N m k u s₀ g flag r hs (h .marks) x (omega (arith, o .left-less (ends x), seen x)) ∙ h .alive x c full;
+                first-count = dealt-count true (suc n) hs (h .firsts) long ∙ omega (arith, h .first-count, q .number);
+                second-count = dealt-count false (suc n) hs (h .seconds) long ∙ omega (arith, h .second-count, q .number);
+                size = omega (arith, q .number, h .size, grown, d .1, twice);
+                first-pairs = dealt-pairs true hs (h .firsts) t t' (o .cycle) even pairs (o .along-more) (h .first-pairs);
+                second-pairs = dealt-pairs false hs (h .seconds) t t' (o .cycle) even pairs (o .along-more) (h .second-pairs);
+                first-nums = dealt-nums true hs (h .firsts) all-half (h .first-nums);
+                second-nums = dealt-nums false hs (h .seconds) all-half (h .second-nums);
+              });
+        }
+
+    onward : (v : ℕ) (w : Told) → v < N → Walked v w → Onward v w
+    onward v w b h =
+        let t : Turned v (h .tour) = turned v (h .tour) (h .rounded) in
+        ⊎-elim (λ p. passed v w b h (t .after) (t .rounded) (p .0) (p .1))
+        (λ p. gone-round v w b h (t .after) (t .rounded) (p .0) (p .1)) (t .by)
+
+    -- all parties below v
+    pub walked-all : (v : ℕ) (w : Told) → v ≤ N → Walked 0 w → Walked v (twoWalkM l m v w)
+    unfolding twoWalkM
+    walked-all zero w b h = h
+    walked-all (suc v) w b h = onward v (twoWalkM l m v w) (omega arith) (walked-all v w (omega arith) h) .walked
+
+    pub walks-on : (w : Told) → Walked 0 w → Two-walks l m N w
+    walks-on w h =
+        record {
+          froms = λ v b. onward v (twoWalkM l m v w) b (walked-all v w (omega arith) h) .fits;
+          few = λ v b.
+              omega (arith, walked-few v (twoWalkM l m v w) (walked-all v w (omega arith) h), g .room, g .small, g .entries);
+        }

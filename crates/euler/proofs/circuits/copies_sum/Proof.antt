@@ -1,0 +1,65 @@
+use native.Mathlib.Omega.{arith}
+use Prim.Native.Nat.{ℕ, _+_, _*_, _-_, _≤_}
+use mathlib.Core.Path.{_≡_, refl, sym, _∙_, ap}
+use Rattle.euler.specs.RoundModel.{copiesSumM}
+use Rattle.euler.proofs.RoundModelLaws.{copies-sum-more, few-sum-none, few-sum-some}
+use borrow.Author.Needs.{needs}
+use Rattle.euler.proofs.circuits.copies_sum.Statement.{statement}
+use Rattle.euler.proofs.circuits.copies_sum.Tie as tie
+
+abbrev Inv-loop : tie.InvT-loop
+Inv-loop s g m parties sum₀ i₀ sum i =
+    (i ≤ m) × (sum ≤ i * 4294967296) × (sum ≡ copiesSumM g i s)
+
+abbrev μ-loop : tie.MeasureT-loop
+μ-loop s g m parties sum₀ i₀ sum i = m - i
+
+returns : tie.Need-returns Inv-loop μ-loop
+returns c =
+    let a = c .before .before .args in
+    few-sum-none (a .g) (a .m) (a .parties) (a .s .now) (c .if1 .taken)
+
+loop-holds : tie.Need-loop-holds Inv-loop μ-loop
+unfolding copiesSumM
+loop-holds c = (omega arith, omega arith, refl)
+
+add-sum : tie.Need-add-sum Inv-loop μ-loop
+add-sum c =
+    let inv = c .before .before .loop .inv in
+    let pre = c .before .before .before .before .before .pre in
+    omega (arith, inv .0, inv .1, c .word-at .ensures .1, pre .1, c .before .before .before .if1 .left)
+
+loop-again : tie.Need-loop-again Inv-loop μ-loop
+loop-again c =
+    let inv = c .before .before .loop .inv in
+    let a = c .before .before .before .before .before .args in
+    let i : ℕ = c .before .before .loop .i in (
+      omega (arith, c .before .loop-test .taken),
+      omega (arith, inv .1, c .word-at .ensures .1),
+      ap (λ (x : ℕ). x + c .word-at .result) (inv .2) ∙ ap (λ (x : ℕ). copiesSumM (a .g) i (a .s .now) + x) (c .word-at .ensures .0) ∙ sym (copies-sum-more (a .g) i (a .s .now)),
+    )
+
+returns-2 : tie.Need-returns-2 Inv-loop μ-loop
+returns-2 c =
+    let inv = c .before .loop .inv in
+    let a = c .before .before .before .before .args in
+    let e : c .before .loop .i ≡ a .m = omega arith in
+    (rw e at (inv .2)) ∙ few-sum-some (a .g) (a .m) (a .parties) (a .s .now) (c .before .before .if1 .left)
+
+pub copies-sum-spec : {M : Type 1} → statement M
+copies-sum-spec =
+    tie.close
+    (tie.spec
+    Inv-loop
+    μ-loop
+    returns
+    loop-holds
+    (λ c. search needs)
+    (λ c. search needs)
+    (λ c. search needs)
+    (λ c κs. search needs)
+    add-sum
+    (λ c. search needs)
+    (λ c. search needs)
+    loop-again
+    returns-2)

@@ -1,0 +1,15 @@
+use Prim.Native.Nat.{ℕ, _+_}
+use mathlib.Core.Path.{_∙_, ap}
+use mathlib.Core.List.{List}
+use Rattle.words.specs.Words.{put-word}
+use borrow.Author.Needs.{needs}
+use Rattle.euler.proofs.circuits.two_head.Statement.{statement}
+use Rattle.euler.proofs.circuits.two_head.Tie as tie
+
+returns : tie.Need-returns
+returns c =
+    let a = c .before .before .before .before .before .before .before .before .before .args in
+    c .before .before .put2 .ensures ∙ ap (λ (t : List ℕ). put-word t (a .h + 1) (a .n)) (c .before .before .before .before .before .before .put .ensures)
+
+pub two-head-spec : {M : Type 1} → statement M
+two-head-spec = tie.close (tie.spec (λ c κs. search needs) (λ c. search needs) (λ c κs. search needs) (λ c. search needs) returns)

@@ -1,0 +1,59 @@
+use native.Mathlib.Omega.{arith}
+use Prim.Native.Nat.{ℕ, _+_, _*_, _-_, _≤_}
+use mathlib.Core.Path.{_≡_, refl, sym, _∙_, ap}
+use mathlib.Core.List.{List}
+use lib.ListN.{length}
+use Rattle.words.specs.Words.{put-word}
+use Rattle.euler.specs.RoundModel.{twoStartM}
+use Rattle.euler.proofs.RoundModelLaws.{two-start-more}
+use borrow.Author.Needs.{needs}
+use Rattle.euler.proofs.circuits.two_start.Statement.{statement}
+use Rattle.euler.proofs.circuits.two_start.Tie as tie
+
+abbrev Inv-loop : tie.InvT-loop
+Inv-loop s₀ l parties v₀ s v = (v ≤ parties) × (length s ≡ length s₀) × (s ≡ twoStartM l v s₀)
+
+abbrev μ-loop : tie.MeasureT-loop
+μ-loop s₀ l parties v₀ s v = parties - v
+
+loop-holds : tie.Need-loop-holds Inv-loop μ-loop
+unfolding twoStartM
+loop-holds c = (search needs, refl, refl)
+
+loop-again : tie.Need-loop-again Inv-loop μ-loop
+loop-again c =
+    let inv = c .before .before .before .before .before .before .before .before .before .before .before .loop .inv in
+    let a = c .before .before .before .before .before .before .before .before .before .before .before .before .before .args in
+    let v : ℕ = c .before .before .before .before .before .before .before .before .before .before .before .loop .v in (
+      search needs,
+      search needs,
+      c .before .before .set-word2 .ensures
+          ∙ ap (λ (t : List ℕ). put-word t (a .l .b + 2 * v + 1) 0) (c .before .before .before .before .before .before .before .set-word .ensures ∙ ap (λ (t : List ℕ). put-word t (a .l .b + 2 * v) 0) (inv .2))
+          ∙ sym (two-start-more (a .l) v (a .s .now)),
+    )
+
+returns : tie.Need-returns Inv-loop μ-loop
+returns c =
+    let inv = c .before .loop .inv in
+    let e : c .before .loop .v ≡ c .before .before .before .args .parties = omega arith in
+    rw e at (inv .2)
+
+pub two-start-spec : {M : Type 1} → statement M
+two-start-spec =
+    tie.close
+    (tie.spec
+    Inv-loop
+    μ-loop
+    loop-holds
+    (λ c. search needs)
+    (λ c. search needs)
+    (λ c κs. search needs)
+    (λ c. search needs)
+    (λ c. search needs)
+    (λ c. search needs)
+    (λ c κs. search needs)
+    (λ c. search needs)
+    (λ c. search needs)
+    loop-again
+    (λ c. search needs)
+    returns)
