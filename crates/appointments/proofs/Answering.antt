@@ -15,8 +15,8 @@ use Rattle.words.specs.Basics.{count}
 use Rattle.words.specs.Words.{word}
 use Rattle.words.proofs.Sums.{count-le}
 use Rattle.appointments.specs.Appointments.{Appt, appt, appts, load, largest-load, scratch-words}
-use Rattle.appointments.specs.Checks.{First, at, nowhere, first-from, has-blank, has-unlisted, Check, passed, refused, bar, bar-at, checks-1-to-5, checks}
-use Rattle.appointments.specs.Checked.{found, checked, largest-word, check-ends}
+use Rattle.appointments.specs.Checks.{First, at, nowhere, first-from, has-blank, has-unlisted, Check, passed, refused, bar, bar-at, checks-1-to-5, checks, check-ends}
+use Rattle.appointments.specs.Checked.{found, checked, largest-word}
 use Rattle.appointments.specs.declared.Found.{Found}
 use Rattle.appointments.specs.declared.Found.the-variants.{At, Nowhere}
 use Rattle.appointments.specs.declared.Checked.{Checked}

@@ -2,8 +2,7 @@
 use Prim.Native.Nat.{ℕ, zero, suc, max}
 use mathlib.Core.List.{List}
 use Rattle.words.specs.Words.{word}
-use Rattle.appointments.specs.Appointments.{appts}
-use Rattle.appointments.specs.Checks.{First, at, nowhere, first-from, has-blank, has-unlisted, Check, passed, refused, bar-at}
+use Rattle.appointments.specs.Checks.{First, at, nowhere, Check, passed, refused}
 use Rattle.appointments.specs.declared.Found.{Found}
 use Rattle.appointments.specs.declared.Found.the-variants.{At, Nowhere}
 use Rattle.appointments.specs.declared.Checked.{Checked}
@@ -23,8 +22,3 @@ checked (refused number place) D = Refused number place
 unfoldable pub largest-word : ℕ → List ℕ → ℕ
 largest-word zero s = 0
 largest-word (suc p) s = max (largest-word p s) (word s p)
-
--- checks 4 and 5
-abbrev pub check-ends : ℕ → List ℕ → Check → Check
-check-ends P list next =
-    bar-at (first-from 0 has-blank (appts list)) 4 (bar-at (first-from 0 (has-unlisted P) (appts list)) 5 next)

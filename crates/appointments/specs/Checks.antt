@@ -44,15 +44,20 @@ abbrev pub bar-at : First → ℕ → Check → Check
 bar-at (at i) number next = refused number i
 bar-at nowhere number next = next
 
--- Checks 1 to 5, those of the list alone. 4 covers the whole list before 5 begins.
+-- Checks 4 and 5, those of the ends. 4 covers the whole list before 5 begins.
+abbrev pub check-ends : ℕ → List ℕ → Check → Check
+check-ends P list next =
+    bar-at (first-from 0 has-blank (appts list)) 4
+    (bar-at (first-from 0 (has-unlisted P) (appts list)) 5
+    next)
+
+-- Checks 1 to 5, those of the list alone.
 unfoldable pub checks-1-to-5 : ℕ → List ℕ → Check → Check
 checks-1-to-5 P list next =
     bar (ltb 1024 P) 1
     (bar (eqb (length list % 2) 1) 2
     (bar (ltb 4096 (length (appts list))) 3
-    (bar-at (first-from 0 has-blank (appts list)) 4
-    (bar-at (first-from 0 (has-unlisted P) (appts list)) 5
-    next))))
+    (check-ends P list next)))
 
 -- Checks 1 to 8, of P, the list and the lengths of the slot buffer and of scratch.
 unfoldable pub checks : ℕ → List ℕ → ℕ → ℕ → Check

@@ -5,8 +5,8 @@ ghost use lib.ListN.{length};
 ghost use Rattle.words.specs.Basics.{count};
 ghost use Rattle.words.specs.Words.{word, «put-word»};
 ghost use Rattle.appointments.specs.Appointments.{appts, «largest-load»};
-ghost use Rattle.appointments.specs.Checks.{«first-from», «has-unlisted», «checks-1-to-5», checks, passed};
-ghost use Rattle.appointments.specs.Checked.{found, checked, «largest-word», «check-ends»};
+ghost use Rattle.appointments.specs.Checks.{«first-from», «has-unlisted», «check-ends», «checks-1-to-5», checks, passed};
+ghost use Rattle.appointments.specs.Checked.{found, checked, «largest-word»};
 
 // A first position, or none.
 pub enum Found {

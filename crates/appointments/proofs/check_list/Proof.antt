@@ -2,8 +2,8 @@ use Prim.Native.Nat.{ℕ, _+_, _-_, _≤_}
 use mathlib.Core.Path.{_≡_, refl, sym, _∙_, ap}
 use native.Mathlib.Omega.{arith}
 use Rattle.appointments.specs.Appointments.{appts, largest-load}
-use Rattle.appointments.specs.Checks.{passed, checks-1-to-5}
-use Rattle.appointments.specs.Checked.{checked, check-ends}
+use Rattle.appointments.specs.Checks.{passed, checks-1-to-5, check-ends}
+use Rattle.appointments.specs.Checked.{checked}
 use Rattle.appointments.specs.declared.Checked.the-variants.{Passed}
 use Rattle.appointments.proofs.Answering.{refuses-1, refuses-2, refuses-3, goes-on, checked-refused, checked-passed}
 use borrow.Author.Needs.{needs}
