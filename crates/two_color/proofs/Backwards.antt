@@ -9,8 +9,7 @@ use lib.ListN.{length}
 use Rattle.words.specs.Basics.{pick, is, total}
 use Rattle.words.specs.Words.{word}
 use Rattle.appointments.specs.Appointments.{Appt, appt, appts, names, load}
-use Rattle.two_color.specs.TwoColor.{second-ends, first-ends}
-use Rattle.two_color.proofs.NeighbourLaws.{Far-ends, seconds, firsts}
+use Rattle.two_color.specs.TwoColor.{far-ends, second-ends, first-ends}
 
 -- the first n appointments, the last of them first
 unfoldable pub backwards : List ℕ → ℕ → List Appt
@@ -47,12 +46,20 @@ kept-length : (t : Bool) (w : ℕ) (rest : List ℕ) → length (pick t (w ∷ r
 kept-length true w rest = omega arith
 kept-length false w rest = omega arith
 
-ends-length : {v : ℕ} {near far : Appt → ℕ} {ends : List Appt → List ℕ} → Far-ends v near far ends → (x : Appt) (xs : List Appt) → length (ends (x ∷ xs)) ≡ is v (near x) + length (ends xs)
-unfolding is
-ends-length {v} {near} {far} {ends} f x xs = rw (f .more x xs) (kept-length (eqb v (near x)) (far x) (ends xs))
+ends-length :
+    (near far : Appt → ℕ) (v : ℕ) (x : Appt) (xs : List Appt) →
+    length (far-ends near far v (x ∷ xs)) ≡ is v (near x) + length (far-ends near far v xs)
+unfolding is far-ends
+ends-length near far v x xs = kept-length (eqb v (near x)) (far x) (far-ends near far v xs)
 
 -- A party has as many neighbours as its load.
 pub ends-load : (v : ℕ) (xs : List Appt) → length (second-ends v xs) + length (first-ends v xs) ≡ load v xs
-unfolding load total names
-ends-load v [] = rw (seconds v .none, firsts v .none)
-ends-load v (x ∷ xs) = omega (arith, ends-length (seconds v) x xs, ends-length (firsts v) x xs, ends-load v xs)
+unfolding load total names far-ends
+ends-load v [] = refl
+ends-load v (x ∷ xs) =
+    omega (
+      arith,
+      ends-length (λ x. x .first) (λ x. x .second) v x xs,
+      ends-length (λ x. x .second) (λ x. x .first) v x xs,
+      ends-load v xs,
+    )

@@ -17,7 +17,6 @@ use Rattle.appointments.proofs.Loads.{Listed, load-reverse}
 use Rattle.two_color.specs.TwoColor.{colour-of, second-ends, first-ends, neighbours, side}
 use Rattle.two_color.specs.Model.{Small, right-place, colour-place, refused-place, next-place, stack-count, left-count, right-count, row-count, row-start, row-place, clearStateM, startPartyM, startPartiesM, fillRowsM, prepareM}
 use Rattle.two_color.specs.Contract.{Can-color}
-use Rattle.two_color.proofs.NeighbourLaws.{seconds, firsts}
 use Rattle.two_color.proofs.Held.{newest, held-none, Rows}
 use Rattle.two_color.proofs.Showing.{within-refl, Shows}
 use Rattle.two_color.proofs.Backwards.{backwards, reverse-appts, ends-load}
@@ -143,22 +142,20 @@ module _ (u p d : ℕ) (small : Small u p) (narrow : d * p ≤ 8192) (s : List �
 
 -- ── the rows ──
 
-first-ends-of : (p : ℕ) (list : List ℕ) → Ends p list 0 1 (λ x. x .first) (λ x. x .second) second-ends
+first-ends-of : (p : ℕ) (list : List ℕ) → Ends p list 0 1 (λ x. x .first) (λ x. x .second)
 first-ends-of p list =
     record {
       near-is = λ i. rw (add-zero (2 * i));
       far-is = λ i. refl;
-      far-ends = seconds;
       near-low = λ x h. h .0;
       far-low = λ x h. h .1;
     }
 
-second-ends-of : (p : ℕ) (list : List ℕ) → Ends p list 1 0 (λ x. x .second) (λ x. x .first) first-ends
+second-ends-of : (p : ℕ) (list : List ℕ) → Ends p list 1 0 (λ x. x .second) (λ x. x .first)
 second-ends-of p list =
     record {
       near-is = λ i. refl;
       far-is = λ i. rw (add-zero (2 * i));
-      far-ends = firsts;
       near-low = λ x h. h .1;
       far-low = λ x h. h .0;
     }
@@ -213,9 +210,9 @@ module _ (u p d : ℕ) (list s : List ℕ) (can : Can-color p d u list s) (some 
   unfolding prepareM parties cleared ys
   full-rows =
       let fits : u + 6 * p + 5 + d * p ≤ length parties = omega (arith, started .len, cleared-length, can .room) in
-      fill-filled u p d small parties fits (can .narrow) list 1 0 _ _ first-ends (second-ends-of p list) (length list / 2)
+      fill-filled u p d small parties fits (can .narrow) list 1 0 _ _ (second-ends-of p list) (length list / 2)
       (λ v. second-ends v ys) (fillRowsM u p list 0 1 (length list / 2) parties) listed loads
-      (fill-filled u p d small parties fits (can .narrow) list 0 1 _ _ second-ends (first-ends-of p list) (length list / 2)
+      (fill-filled u p d small parties fits (can .narrow) list 0 1 _ _ (first-ends-of p list) (length list / 2)
       (λ v. []) parties listed (λ v h. omega (arith, loads v h)) empty-rows)
 
   rows-are : (v : ℕ) → second-ends v ys ++ first-ends v ys ≡ neighbours v (appts list)

@@ -16,10 +16,10 @@ use Rattle.words.specs.Frames.{Keeps}
 use Rattle.words.proofs.Frames.{keeps-trans}
 use Rattle.appointments.specs.Appointments.{Appt, appt}
 use Rattle.appointments.proofs.Loads.{Listed}
+use Rattle.two_color.specs.TwoColor.{far-ends}
 use Rattle.two_color.specs.Model.{Small, row-count, row-start, row-place, appendM, pushEndM, fillRowsM}
 use Rattle.two_color.proofs.Regions.{Same}
 use Rattle.two_color.proofs.Held.{Held, held-same, held-more, Appended, append-does, Rows}
-use Rattle.two_color.proofs.NeighbourLaws.{Far-ends}
 use Rattle.two_color.proofs.Backwards.{backwards}
 
 -- a row of d words ends before the next begins
@@ -39,10 +39,9 @@ pub filled-as : {u p d : ℕ} {s₀ s : List ℕ} (f g : ℕ → List ℕ) → (
 filled-as f g e x = record { frame = x .frame; rows = record { starts = x .rows .starts; held = λ v h. rw (e v) at (x .rows .held v h) } }
 
 -- `near` and `far` are the places of an appointment's ends
-pub record Ends (p : ℕ) (list : List ℕ) (near far : ℕ) (nearOf farOf : Appt → ℕ) (ends : ℕ → List Appt → List ℕ) : Type 0 where
+pub record Ends (p : ℕ) (list : List ℕ) (near far : ℕ) (nearOf farOf : Appt → ℕ) : Type 0 where
   pub near-is : (i : ℕ) → word list (2 * i + near) ≡ nearOf (appt (word list (2 * i)) (word list (2 * i + 1)))
   pub far-is : (i : ℕ) → word list (2 * i + far) ≡ farOf (appt (word list (2 * i)) (word list (2 * i + 1)))
-  pub far-ends : (v : ℕ) → Far-ends v nearOf farOf (ends v)
   pub near-low : (x : Appt) → Listed p x → nearOf x < p
   pub far-low : (x : Appt) → Listed p x → farOf x < p
 
@@ -92,13 +91,16 @@ module _ (u p d : ℕ) (small : Small u p) (s₀ : List ℕ) (fits : u + 6 * p +
 
   -- ── all appointments ──
 
-  module _ (list : List ℕ) (near far : ℕ) (nearOf farOf : Appt → ℕ) (ends : ℕ → List Appt → List ℕ) (q : Ends p list near far nearOf farOf ends) where
+  module _ (list : List ℕ) (near far : ℕ) (nearOf farOf : Appt → ℕ) (q : Ends p list near far nearOf farOf) where
+    abbrev ends : ℕ → List Appt → List ℕ
+    ends v xs = far-ends nearOf farOf v xs
+
     pub fill-filled :
         (n : ℕ) (f : ℕ → List ℕ) (s : List ℕ) → All (Listed p) (backwards list n) →
         ((v : ℕ) → v < p → length (f v) + length (ends v (backwards list n)) ≤ d) → Filled u p d s₀ f s →
         Filled u p d s₀ (λ v. f v ++ ends v (backwards list n)) (fillRowsM u p list near far n s)
-    unfolding fillRowsM backwards pushEndM
-    fill-filled zero f s listed wide x = filled-as f _ (λ v. rw (q .far-ends v .none) (sym (append-nil (f v)))) x
+    unfolding fillRowsM backwards pushEndM far-ends
+    fill-filled zero f s listed wide x = filled-as f _ (λ v. sym (append-nil (f v))) x
     fill-filled (suc i) f s listed wide x =
         let m : Appt = appt (word list (2 * i)) (word list (2 * i + 1)) in
         let rest : List Appt = backwards list i in
@@ -107,7 +109,7 @@ module _ (u p d : ℕ) (small : Small u p) (s₀ : List ℕ) (fits : u + 6 * p +
         let below : v < p = q .near-low m (listed .0) in
         let w-low : w < p = q .far-low m (listed .0) in
         let g : ℕ → List ℕ = λ y. f y ++ pick (eqb y v) (w ∷ []) [] in
-        let same : (y : ℕ) → g y ++ ends y rest ≡ f y ++ ends y (m ∷ rest) = λ y. fed (f y) (eqb y v) w (ends y rest) ∙ ap (λ l. f y ++ l) (sym (q .far-ends y .more m rest)) in
+        let same : (y : ℕ) → g y ++ ends y rest ≡ f y ++ ends y (m ∷ rest) = λ y. fed (f y) (eqb y v) w (ends y rest) in
         let lengths : (y : ℕ) → y < p → length (g y) + length (ends y rest) ≤ d =
         λ y h. omega (arith, wide y h, length-append (g y) (ends y rest), length-append (f y) (ends y (m ∷ rest)), ap length (same y)) in
         let room : length (f v) < d = own v w f (ends v rest) (lengths v below) in

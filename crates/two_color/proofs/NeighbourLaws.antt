@@ -10,7 +10,7 @@ use Rattle.words.proofs.Bools.{never-true}
 use Rattle.words.proofs.Sums.{all-append, all-left, all-right, all-reverse, all-map, all-both}
 use Rattle.appointments.specs.Appointments.{Appt}
 use Rattle.appointments.specs.Rounds.{Joined}
-use Rattle.two_color.specs.TwoColor.{second-ends, first-ends, neighbours}
+use Rattle.two_color.specs.TwoColor.{far-ends, second-ends, first-ends, neighbours}
 use Rattle.two_color.proofs.Walks.{all-joined, joined-all}
 
 -- ── a list that keeps an element where a test passes ──
@@ -25,30 +25,18 @@ all-kept Q false w rest h = (λ e. never-true e, h)
 
 -- ── the other ends of a party's appointments ──
 
--- `ends` gives the far ends of the appointments whose near end is v
-pub record Far-ends (v : ℕ) (near far : Appt → ℕ) (ends : List Appt → List ℕ) : Type 0 where
-  pub none : ends [] ≡ []
-  pub more : (x : Appt) (xs : List Appt) → ends (x ∷ xs) ≡ pick (eqb v (near x)) (far x ∷ ends xs) (ends xs)
-
-pub seconds : (v : ℕ) → Far-ends v (λ x. x .first) (λ x. x .second) (second-ends v)
-unfolding second-ends
-seconds v = record { none = refl; more = λ x xs. refl }
-
-pub firsts : (v : ℕ) → Far-ends v (λ x. x .second) (λ x. x .first) (first-ends v)
-unfolding first-ends
-firsts v = record { none = refl; more = λ x xs. refl }
-
-module _ (Q : ℕ → Type 0) {v : ℕ} {near far : Appt → ℕ} {ends : List Appt → List ℕ} (f : Far-ends v near far ends) where
-  all-ends : (xs : List Appt) → All (λ x. v ≡ near x → Q (far x)) xs → All Q (ends xs)
-  all-ends [] h = rw (f .none) tt
+module _ (Q : ℕ → Type 0) (near far : Appt → ℕ) (v : ℕ) where
+  all-ends : (xs : List Appt) → All (λ x. v ≡ near x → Q (far x)) xs → All Q (far-ends near far v xs)
+  unfolding far-ends
+  all-ends [] h = tt
   all-ends (x ∷ xs) h =
-      rw (f .more x xs)
-      (kept-all Q (eqb v (near x)) (far x) (ends xs) (λ t. h .0 (eqb-true v (near x) t)) (all-ends xs (h .1)))
+      kept-all Q (eqb v (near x)) (far x) (far-ends near far v xs) (λ t. h .0 (eqb-true v (near x) t)) (all-ends xs (h .1))
 
-  ends-all : (xs : List Appt) → All Q (ends xs) → All (λ x. v ≡ near x → Q (far x)) xs
+  ends-all : (xs : List Appt) → All Q (far-ends near far v xs) → All (λ x. v ≡ near x → Q (far x)) xs
+  unfolding far-ends
   ends-all [] h = tt
   ends-all (x ∷ xs) h =
-      let k = all-kept Q (eqb v (near x)) (far x) (ends xs) (rw (f .more x xs) at h) in
+      let k = all-kept Q (eqb v (near x)) (far x) (far-ends near far v xs) h in
       (λ e. k .0 (eq-eqb v (near x) e), ends-all xs (k .1))
 
 -- ── the neighbours ──
@@ -60,14 +48,14 @@ module _ (Q : ℕ → Type 0) (v : ℕ) (xs : List Appt) where
   all-neighbours h =
       let ways = all-reverse _ xs (joined-all (λ u w. v ≡ u → Q w) xs (λ u w j e. h w (rw (← e) at j))) in
       all-append Q (second-ends v (reverse xs)) (first-ends v (reverse xs))
-      (all-ends Q (seconds v) (reverse xs) (all-map (λ x k. k .0) (reverse xs) ways))
-      (all-ends Q (firsts v) (reverse xs) (all-map (λ x k. k .1) (reverse xs) ways))
+      (all-ends Q (λ x. x .first) (λ x. x .second) v (reverse xs) (all-map (λ x k. k .0) (reverse xs) ways))
+      (all-ends Q (λ x. x .second) (λ x. x .first) v (reverse xs) (all-map (λ x k. k .1) (reverse xs) ways))
 
   -- and the other way round
   pub neighbours-all : All Q (neighbours v xs) → (w : ℕ) → Joined xs v w → Q w
   unfolding neighbours
   neighbours-all h w j =
-      let seconds-hold = ends-all Q (seconds v) (reverse xs) (all-left Q (second-ends v (reverse xs)) (first-ends v (reverse xs)) h) in
-      let firsts-hold = ends-all Q (firsts v) (reverse xs) (all-right Q (second-ends v (reverse xs)) (first-ends v (reverse xs)) h) in
+      let seconds-hold = ends-all Q (λ x. x .first) (λ x. x .second) v (reverse xs) (all-left Q (second-ends v (reverse xs)) (first-ends v (reverse xs)) h) in
+      let firsts-hold = ends-all Q (λ x. x .second) (λ x. x .first) v (reverse xs) (all-right Q (second-ends v (reverse xs)) (first-ends v (reverse xs)) h) in
       let ways = all-reverse _ (reverse xs) (all-both _ _ (reverse xs) seconds-hold firsts-hold) in
       all-joined (λ u z. v ≡ u → Q z) xs (rw (reverse-reverse xs) at ways) v w j refl

@@ -1,9 +1,9 @@
 -- Opens every definition of this crate and of those below it: an example that is computed says `unfolding computing`.
 -- Assumes nothing.
 use Rattle.appointments.specs.Computing as Appointments
-use Rattle.two_color.specs.TwoColor.{colour-of, second-ends, first-ends, neighbours, touch, touch-all, pop, start, search-below, side, two-color}
+use Rattle.two_color.specs.TwoColor.{colour-of, far-ends, neighbours, touch, touch-all, pop, start, search-below, side, two-color}
 use Rattle.two_color.specs.Contract.{region}
 
 unfoldable pub computing : Unit {0}
-unfolding Appointments.computing colour-of second-ends first-ends neighbours touch touch-all pop start search-below side two-color region
+unfolding Appointments.computing colour-of far-ends neighbours touch touch-all pop start search-below side two-color region
 computing = tt

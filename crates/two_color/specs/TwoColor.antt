@@ -22,14 +22,17 @@ unfoldable pub colour-of : ℕ → Colouring → ℕ
 colour-of v [] = 2
 colour-of v (m ∷ cs) = pick (eqb v (m .party)) (m .colour) (colour-of v cs)
 
--- the other ends of a party's appointments: of those where it is first end, or where it is second end
-unfoldable pub second-ends : ℕ → List Appt → List ℕ
-second-ends v [] = []
-second-ends v (x ∷ xs) = let rest = second-ends v xs in pick (eqb v (x .first)) (x .second ∷ rest) rest
+-- The far ends of the appointments whose near end is v; `near` and `far` read the two ends off an appointment.
+unfoldable pub far-ends : (Appt → ℕ) → (Appt → ℕ) → ℕ → List Appt → List ℕ
+far-ends near far v [] = []
+far-ends near far v (x ∷ xs) = let rest = far-ends near far v xs in pick (eqb v (near x)) (far x ∷ rest) rest
 
-unfoldable pub first-ends : ℕ → List Appt → List ℕ
-first-ends v [] = []
-first-ends v (x ∷ xs) = let rest = first-ends v xs in pick (eqb v (x .second)) (x .first ∷ rest) rest
+-- the other ends of a party's appointments: of those where it is first end, or where it is second end
+abbrev pub second-ends : ℕ → List Appt → List ℕ
+second-ends v xs = far-ends (λ x. x .first) (λ x. x .second) v xs
+
+abbrev pub first-ends : ℕ → List Appt → List ℕ
+first-ends v xs = far-ends (λ x. x .second) (λ x. x .first) v xs
 
 -- The neighbours of a party, taken over single appointments: those where it is first end come newest first, then those
 -- where it is second end, newest first.
