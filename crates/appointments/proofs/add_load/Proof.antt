@@ -1,3 +1,4 @@
+-- `appointments::add_load` meets its contract: one word read and put. Assumes nothing.
 use borrow.Author.Needs.{needs}
 use Rattle.appointments.proofs.add_load.Statement.{statement}
 use Rattle.appointments.proofs.add_load.Tie as tie

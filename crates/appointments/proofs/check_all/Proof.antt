@@ -1,3 +1,5 @@
+-- `appointments::check_all` meets its contract: checks 6 to 8 after the list's own, each refusal by the tests that led to it.
+-- Assumes nothing.
 use Prim.Native.Nat.{ℕ, _+_, _-_, _≤_}
 use mathlib.Core.Path.{_≡_, refl, sym, _∙_, ap}
 use native.Mathlib.Omega.{arith}

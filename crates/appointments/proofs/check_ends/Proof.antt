@@ -1,3 +1,4 @@
+-- `appointments::check_ends` meets its contract: a 16-bit number is blank exactly if it is not below 65,535. Assumes nothing.
 use Prim.Native.Nat.{ℕ, _+_, _-_, _≤_}
 use mathlib.Core.Path.{_≡_, refl, sym, _∙_, ap}
 use native.Mathlib.Omega.{arith}

@@ -1,3 +1,5 @@
+-- `appointments::check_list` meets its contract: checks 1 to 3, then those of the ends, each refusal by the tests that led to
+-- it. Assumes nothing.
 use Prim.Native.Nat.{ℕ, _+_, _-_, _≤_}
 use mathlib.Core.Path.{_≡_, refl, sym, _∙_, ap}
 use native.Mathlib.Omega.{arith}

@@ -1,3 +1,5 @@
+-- `appointments::count_loads` meets its contract: the counters hold how often the part of the list that was passed names each
+-- party; the measure is what is left of it. Assumes nothing.
 use Prim.Native.Nat.{ℕ, _+_, _-_, _≤_, _<_}
 use mathlib.Core.Path.{_≡_, refl, _∙_, ap}
 use native.Mathlib.Omega.{arith}

@@ -1,3 +1,5 @@
+-- `appointments::first_not_below` meets its contract: no appointment passed has such an end; the measure is what is left of
+-- them. Assumes nothing.
 use Prim.Native.Nat.{ℕ, _+_, _*_, _-_, _≤_, _<_}
 use mathlib.Core.Path.{_≡_, refl, sym, _∙_, ap}
 use mathlib.Core.List.{[]}

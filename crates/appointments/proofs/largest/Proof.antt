@@ -1,3 +1,5 @@
+-- `appointments::largest` meets its contract: the number so far is the largest of the counters passed; the measure is what is
+-- left of them. Assumes nothing.
 use Prim.Native.Nat.{ℕ, _+_, _-_, _≤_}
 use mathlib.Core.Path.{_≡_, refl, _∙_, ap}
 use mathlib.Core.Logic.{⊎-elim}

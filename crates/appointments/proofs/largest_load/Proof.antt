@@ -1,3 +1,4 @@
+-- `appointments::largest_load` meets its contract: the counters hold the loads, and the largest of them is D. Assumes nothing.
 use Prim.Native.Nat.{ℕ, _+_, _-_, _≤_}
 use mathlib.Core.Path.{_≡_, refl, sym, _∙_, ap}
 use native.Mathlib.Omega.{arith}

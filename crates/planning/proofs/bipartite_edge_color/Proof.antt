@@ -1,3 +1,5 @@
+-- `planning::bipartite_edge_color` meets its contract: by the checks, and past them by what is worked out on the first W
+-- words; demand 3 is the definitions' law. Assumes nothing.
 use mathlib.Core.Path.{sym, _∙_}
 use native.Mathlib.Omega.{arith}
 use Rattle.planning.proofs.WorkingOut.{refused-stated, words-there, taken-length, figures, ready, slot-room, planned-stated}

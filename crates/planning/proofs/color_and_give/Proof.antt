@@ -1,3 +1,5 @@
+-- `planning::color_and_give` meets its contract: the colouring has its room, and its matchings are what the slots are given
+-- from. Assumes nothing.
 use Rattle.planning.proofs.Giving.{can-color, small, slots-planned}
 use borrow.Author.Needs.{needs}
 use Rattle.planning.proofs.color_and_give.Statement.{statement}

@@ -1,3 +1,4 @@
+-- `planning::work_out` meets its contract: no parties, two neighbours on one side, or a plan. Assumes nothing.
 use mathlib.Core.Path.{_∙_}
 use native.Mathlib.Omega.{arith}
 use Rattle.two_color.proofs.Passing.{passed-can-color}

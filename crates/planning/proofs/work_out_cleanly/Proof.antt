@@ -1,3 +1,4 @@
+-- `planning::work_out_cleanly` meets its contract: the answer is worked out, and then all words are 0. Assumes nothing.
 use Rattle.planning.proofs.WorkingOut.{worked-cleanly}
 use borrow.Author.Needs.{needs}
 use Rattle.planning.proofs.work_out_cleanly.Statement.{statement}

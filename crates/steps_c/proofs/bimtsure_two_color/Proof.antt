@@ -1,3 +1,4 @@
+-- `steps_c::bimtsure_two_color` meets its contract: the checks, then the two sides. Assumes nothing.
 use Prim.Native.Nat.{_%_}
 use mathlib.Core.Path.{refl, sym, _∙_, ap}
 use native.Mathlib.Omega.{arith}

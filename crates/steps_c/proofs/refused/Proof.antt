@@ -1,3 +1,4 @@
+-- `steps_c::refused` meets its contract: the answer's number and place. Assumes nothing.
 use Prim.Native.Nat.{_%_}
 use mathlib.Core.Path.{refl, sym, ap}
 use Rattle.steps_c.specs.Compared.{refusal-number}

@@ -1,3 +1,4 @@
+-- `words::clear` meets its contract: the words passed are 0; the measure is what is left of them. Assumes nothing.
 use mathlib.Core.Path.{_≡_, refl, sym, _∙_, ap}
 use Prim.Native.Nat.{_≤_, _<_, _-_}
 use native.Mathlib.Omega.{arith}

@@ -1,3 +1,4 @@
+-- `words::get` meets its contract: inside the word, past the end 0. Assumes nothing.
 use mathlib.Core.Path.{refl, sym}
 use Prim.Native.Nat.{_≤_}
 use native.Mathlib.Omega.{arith}

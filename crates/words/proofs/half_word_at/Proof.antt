@@ -1,3 +1,4 @@
+-- `words::half_word_at` meets its contract: the word itself. Assumes nothing.
 use native.Mathlib.Omega.{arith}
 use mathlib.Core.Path.{refl}
 use borrow.Author.Needs.{needs}

@@ -1,3 +1,4 @@
+-- `words::put16` meets its contract: inside one store, past the end none. Assumes nothing.
 use mathlib.Core.Path.{sym}
 use Prim.Native.Nat.{_≤_}
 use native.Mathlib.Omega.{arith}
