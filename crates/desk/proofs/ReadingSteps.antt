@@ -104,9 +104,10 @@ module _ (bytes list slots : List ℕ) where
             (rw (le-ltb (length bytes) 4 h, ← f, eq-eqb (length bytes) (4 + 6 * count) is-whole, ← e, le-ltb 1024 p few, lt-ltb 4096 count k))
 
         module _ (k : count ≤ 4096) where
-          pub list-13 : length list < 2 * count → Barred 13
+          -- the list or the slots are too short
+          barred-13 : (ltb (length list) (2 * count) || ltb (length slots) count) ≡ true → Barred 13
           unfolding reading-answer header
-          list-13 s =
+          barred-13 short =
               barred 13
               (rw (
                 le-ltb (length bytes) 4 h,
@@ -115,23 +116,14 @@ module _ (bytes list slots : List ℕ) where
                 ← e,
                 le-ltb 1024 p few,
                 le-ltb 4096 count k,
-                lt-ltb (length list) (2 * count) s,
+                short,
               ))
 
+          pub list-13 : length list < 2 * count → Barred 13
+          list-13 s = barred-13 (rw (lt-ltb (length list) (2 * count) s))
+
           pub slots-13 : length slots < count → Barred 13
-          unfolding reading-answer header
-          slots-13 s =
-              barred 13
-              (rw (
-                le-ltb (length bytes) 4 h,
-                ← f,
-                eq-eqb (length bytes) (4 + 6 * count) is-whole,
-                ← e,
-                le-ltb 1024 p few,
-                le-ltb 4096 count k,
-                lt-ltb (length slots) count s,
-                or-true (ltb (length list) (2 * count)),
-              ))
+          slots-13 s = barred-13 (rw (lt-ltb (length slots) count s, or-true (ltb (length list) (2 * count))))
 
           -- read: P and A, and the list and the slots filled with the plan's
           pub was-read :

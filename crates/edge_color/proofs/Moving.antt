@@ -53,28 +53,24 @@ full r pos = record { regular = r; positive = pos }
 pub full-sound : (N : ℕ) (side : ℕ → ℕ) (d : ℕ) (g : Graph) → Full N side d g → Sound N side g
 full-sound N side d g f = record { across = f .regular .across; apart = f .regular .apart; positive = f .positive }
 
+pub sound-full :
+    {N : ℕ} {side : ℕ → ℕ} {d : ℕ} {g : Graph} → ((v : ℕ) → v < N → degree v g ≡ d) → Sound N side g → Full N side d g
+sound-full even s = full (record { even = even; across = s .across; apart = s .apart }) (s .positive)
+
 -- each matching that is moved to a graph raises its degree by 1
 pub add-matchings-law :
     (N : ℕ) (side : ℕ → ℕ) (k : ℕ) (g : Graph) (ms : List Graph) → Full N side k g → All (Perfect N side) ms →
     Full N side (k + length ms) (add-matchings g ms)
 add-matchings-law N side k g ms f h =
-    let sound = add-matchings-sound N side g ms (full-sound N side k g f) h in
-    record {
-      regular =
-          record {
-            even =
-                λ v below.
-                omega (
-                  arith,
-                  weigh-add-matchings (names v) (names-symmetric v) N side g ms h,
-                  f .regular .even v below,
-                  perfect-degrees N side v below ms h,
-                );
-            across = sound .across;
-            apart = sound .apart;
-          };
-      positive = sound .positive;
-    }
+    sound-full
+    (λ v below.
+    omega (
+      arith,
+      weigh-add-matchings (names v) (names-symmetric v) N side g ms h,
+      f .regular .even v below,
+      perfect-degrees N side v below ms h,
+    ))
+    (add-matchings-sound N side g ms (full-sound N side k g f) h)
 
 -- ── over words ──
 

@@ -17,7 +17,7 @@ use Rattle.matching.specs.Matching.{rbmg-find-perfect-matching}
 use Rattle.matching.specs.Perfect.{Full, Perfect, Matching-of}
 use Rattle.matching.proofs.MatchingLaws.{perfect-weigh, perfect-single, matching-law}
 use Rattle.edge_color.specs.EdgeColor.{Set-aside, set-aside}
-use Rattle.edge_color.proofs.Moving.{full-sound}
+use Rattle.edge_color.proofs.Moving.{full-sound, sound-full}
 
 -- What is set aside, and the graph of even degree that is left: copies add up.
 pub record Aside-of (N : ℕ) (side : ℕ → ℕ) (d : ℕ) (g : Graph) (s : Set-aside) : Type 0 where
@@ -45,23 +45,15 @@ without-full :
     (N : ℕ) (side : ℕ → ℕ) (d : ℕ) (g m : Graph) → Full N side (d + 1) g → Matching-of N side g m →
     Full N side d (remove-matching g m)
 without-full N side d g m f k =
-    let sound = own-removed N side (d + 1) g m f k .sound in
-    record {
-      regular =
-          record {
-            even =
-                λ v below.
-                omega (
-                  arith,
-                  without-copies N side (d + 1) g m f k (names v) (names-symmetric v),
-                  f .regular .even v below,
-                  k .perfect .regular .even v below,
-                );
-            across = sound .across;
-            apart = sound .apart;
-          };
-      positive = sound .positive;
-    }
+    sound-full
+    (λ v below.
+    omega (
+      arith,
+      without-copies N side (d + 1) g m f k (names v) (names-symmetric v),
+      f .regular .even v below,
+      k .perfect .regular .even v below,
+    ))
+    (own-removed N side (d + 1) g m f k .sound)
 
 -- one matching is set aside where the degree is odd, none where it is even
 pub set-aside-law :
