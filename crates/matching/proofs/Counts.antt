@@ -21,7 +21,7 @@ use Rattle.multigraph.specs.Stored.{entry, graph-at}
 use Rattle.multigraph.specs.Places.{size, number, copies-of}
 use Rattle.multigraph.proofs.Spans.{graph-span, total-span}
 use Rattle.matching.specs.Matching.{power-above, flagged-pairs, flagged-copies}
-use Rattle.matching.specs.Choosing.{flagged-by, flagged-entry, fewer, Chooses, Inside-both, Side-by-side}
+use Rattle.matching.specs.Choosing.{flagged-by, flagged-entry, Whole, fewer, Chooses, Inside-both, Side-by-side}
 use Rattle.matching.proofs.Powers.{power-above-law}
 
 -- ── entry by entry ──
@@ -66,8 +66,15 @@ module _ (by : Bool) (s : List ℕ) (pairs g i e : ℕ) (is : e ≡ number s g i
 abbrev pub part : List ℕ → ℕ → ℕ → List ℕ
 part s a w = take w (drop a s)
 
+pub part-length : (s : List ℕ) (a w : ℕ) → a + w ≤ length s → length (part s a w) ≡ w
+part-length s a w h = simp (length-take, length-drop) (omega arith)
+
 pub part-word : (s : List ℕ) (a w i : ℕ) → i < w → word (part s a w) i ≡ word s (a + i)
 part-word s a w i h = rw (getD-take, getD-drop)
+
+-- A graph with room for its words in a part has them there.
+pub part-whole : (s : List ℕ) (a w : ℕ) → a + w ≤ length s → 2 + 2 * size s a ≤ w → Whole (part s a w)
+part-whole s a w h k = omega (arith, part-length s a w h, part-word s a w 1 (omega arith))
 
 -- A graph in a part of the words has as many flagged as where it lies.
 pub part-flagged :
@@ -136,9 +143,6 @@ chosen-inside first room pairs h by s r halves is =
     (fewer-is (λ (x : ℕ). Inside-both x h (size s x) s) by (graph-at s 0 pairs first) (graph-at s 0 pairs (first + room))
     (word s first) (word s (first + room)) (rw (halves .first-base) (omega (arith, halves)))
     (rw (halves .second-base) (omega (arith, halves))))
-
-pub part-length : (s : List ℕ) (a w : ℕ) → a + w ≤ length s → length (part s a w) ≡ w
-part-length s a w h = simp (length-take, length-drop) (omega arith)
 
 -- ── the least power of two ──
 

@@ -21,6 +21,10 @@ flagged-by false = flagged-pairs
 abbrev pub flagged-entry : Bool → List ℕ → ℕ → ℕ → ℕ → ℕ
 flagged-entry by s pairs g i = pick (leb pairs (number s g i)) (pick by (copies-of s g i) 1) 0
 
+-- the words of a graph of its own are all there
+abbrev pub Whole : List ℕ → Type 0
+Whole g = 2 + 2 * size g 0 ≤ length g
+
 -- The chooser's answer, of any two things that stand for two graphs: the first unless the second has fewer flagged.
 abbrev pub fewer {ℓ} : {A : Type ℓ} → Bool → Graph → Graph → A → A → A
 fewer by g h a b = pick (leb (flagged-by by g) (flagged-by by h)) a b

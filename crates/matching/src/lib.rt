@@ -8,7 +8,7 @@ ghost use Rattle.words.specs.Words.{word, «put-word»};
 ghost use Rattle.multigraph.specs.Stored.{«graph-at»};
 ghost use Rattle.multigraph.specs.Places.{size, «Adds-edge»};
 ghost use Rattle.matching.specs.Matching.{«power-above», «flagged-pairs»};
-ghost use Rattle.matching.specs.Choosing.{«flagged-by», «flagged-entry», fewer, Chooses, Copies, «Copying», «Can-copy», «Inside-both», «Side-by-side», «Goes-on»};
+ghost use Rattle.matching.specs.Choosing.{«flagged-by», «flagged-entry», Whole, fewer, Chooses, Copies, «Copying», «Can-copy», «Inside-both», «Side-by-side», «Goes-on»};
 ghost use Rattle.matching.specs.Searched.{«Adds-diagonal», «Builds-graph», «Can-halve», Halved, «Can-halve-all», «Halved-all»};
 ghost use Rattle.matching.specs.Searched.{«Can-search», «Search-done», «Searches-done», «Reads-matching», «Can-find», «Matching-found»};
 use mark::Mark;
@@ -41,24 +41,25 @@ pub fn power_above(m: usize) -> usize
 
 // What entry `i` of a graph's own words counts: nothing if it isn't flagged, else 1, or its copies.
 fn flagged_at(g: &[u32], pairs: usize, by_copies: bool, i: usize) -> usize
-    requires { ⌜ i < 4294967296 ⌝ }
+    requires { ⌜ (i < 4294967296) × (3 + 2 * i < length (now g)) ⌝ }
     ensures { λ r. ⌜ (r ≡ flagged-entry «by_copies» (now (g .entry)) pairs 0 i) × (r < 4294967296) ⌝ }
 {
-    let e = get(g, 2 + 2 * i);
+    let e = word_at(g, 2 + 2 * i);
     if e < pairs {
         return 0;
     }
     if by_copies {
-        return get(g, 3 + 2 * i);
+        return word_at(g, 3 + 2 * i);
     }
     1
 }
 
 // How many pairs of a graph are flagged, or how many copies these have. The slice holds the graph's own words.
 fn flagged(g: &[u32], pairs: usize, by_copies: bool) -> usize
+    requires { ⌜ Whole (now g) ⌝ }
     ensures { λ r. ⌜ ((ends : ℕ) → r ≡ flagged-by «by_copies» (graph-at (now (g .entry)) ends pairs 0)) ⌝ }
 {
-    let m = get(g, 1);
+    let m = word_at(g, 1);
     let mut c: usize = 0;
     let mut i = 0;
     while i < m {
@@ -75,6 +76,7 @@ pub fn fewer_flagged<'a>(
     pairs: usize,
     by_copies: bool,
 ) -> &'a [u32]
+    requires { ⌜ Whole (now first) × Whole (now second) ⌝ }
     ensures { λ r. ⌜ ((ends : ℕ) → r ≡ fewer «by_copies» (graph-at (now (first .entry)) ends pairs 0) (graph-at (now (second .entry)) ends pairs 0) (first .entry) (second .entry)) ⌝ }
 {
     let x = flagged(first, pairs, by_copies);
@@ -87,8 +89,7 @@ pub fn fewer_flagged<'a>(
 
 // The base of the half that goes on, where the two lie side by side.
 fn chosen(s: &[u32], first: usize, room: usize, pairs: usize, by_copies: bool) -> usize
-    requires { ⌜ 0 < room ⌝ }
-    requires { ⌜ first + room + room ≤ length (now s) ⌝ }
+    requires { ⌜ (0 < room) × (first + room + room ≤ length (now s)) × (2 + 2 * size (now s) first ≤ room) × (2 + 2 * size (now s) (first + room) ≤ room) ⌝ }
     ensures { λ r. ⌜ Chooses first room pairs «by_copies» (now (s .entry)) r × (r < 4294967296) ⌝ }
 {
     let middle = first + room;
@@ -233,11 +234,15 @@ fn halve_all(
     halve_all(s, m, t, h, n, width, degree / 2, by_copies);
 }
 
-// How many pairs of the graph at `h`, which has so much room, are flagged.
+// How many pairs of the graph at `h`, which has so much room, are flagged; 0 if it would need more.
 fn flagged_in(s: &[u32], h: usize, room: usize, pairs: usize) -> usize
     requires { ⌜ h + room ≤ length (now s) ⌝ }
     ensures { λ r. ⌜ ((ends : ℕ) → 2 + 2 * size (now (s .entry)) h ≤ room → r ≡ flagged-pairs (graph-at (now (s .entry)) ends pairs h)) ⌝ }
 {
+    let m = get(s, h + 1);
+    if room < 2 + 2 * m {
+        return 0;
+    }
     let end = h + room;
     flagged(&s[h..end], pairs, false)
 }

@@ -8,7 +8,7 @@ use denote.Ref.{RefT}
 use lib.ListN.{length}
 use Rattle.multigraph.specs.Stored.{graph-at}
 use Rattle.matching.specs.Choosing.{fewer}
-use Rattle.matching.proofs.Counts.{part, part-length, fewer-map, fewer-is, chooses}
+use Rattle.matching.proofs.Counts.{part, part-length, part-whole, fewer-map, fewer-is, chooses}
 use borrow.Author.Needs.{needs}
 use Rattle.matching.proofs.chosen.Statement.{statement}
 use Rattle.matching.proofs.chosen.Tie as tie
@@ -41,6 +41,16 @@ part-some c =
     (omega (arith, part-length (a .s .now) (a .first) (a .room) (omega arith), fits .0))
     (omega (arith, part-length (a .s .now) (a .first + a .room) (a .room) (fits .1), fits .0)))
 
+-- both parts have all words of their half
+fewer-flagged-requires : tie.Need-fewer-flagged-requires
+fewer-flagged-requires c κs =
+    let a = c .before .before .before .args in
+    let fits = c .before .before .before .pre in
+    rw (add-sub-cancel-left, add-sub-cancel-left) (
+      part-whole (a .s .now) (a .first) (a .room) (omega (arith, fits .1)) (fits .2),
+      part-whole (a .s .now) (a .first + a .room) (a .room) (fits .1) (fits .3),
+    )
+
 shared-slice-read-x : tie.Need-shared-slice-read-x
 shared-slice-read-x c = omega (arith, part-some c)
 
@@ -66,7 +76,7 @@ chosen-spec =
     (λ c. search needs)
     (λ c. search needs)
     (λ c. search needs)
-    (λ c κs. search needs)
+    fewer-flagged-requires
     shared-slice-read-x
     cast-result
     returns)

@@ -24,7 +24,7 @@ loop-holds c =
 
 add-c : tie.Need-add-c Inv-loop μ-loop
 add-c c =
-    omega (arith, c .before .before .loop .inv .1, c .flagged-at .ensures .1, c .before .before .before .get .ensures .1)
+    omega (arith, c .before .before .loop .inv .1, c .flagged-at .ensures .1, c .before .before .before .word-at .ensures .1)
 
 loop-again : tie.Need-loop-again Inv-loop μ-loop
 loop-again c =
@@ -36,8 +36,8 @@ returns : tie.Need-returns Inv-loop μ-loop
 returns c =
     let a = c .before .before .before .before .args in
     let lp = c .before .loop in
-    let e : lp .i ≡ c .before .before .get .result = omega arith in
-    let done : lp .c ≡ sum-below (flagged-entry (a .by-copies) (a .g .now) (a .pairs) 0) (word (a .g .now) 1) = rw (e, c .before .before .get .ensures .0) at (lp .inv .2) in
+    let e : lp .i ≡ c .before .before .word-at .result = omega arith in
+    let done : lp .c ≡ sum-below (flagged-entry (a .by-copies) (a .g .now) (a .pairs) 0) (word (a .g .now) 1) = rw (e, c .before .before .word-at .ensures .0) at (lp .inv .2) in
     λ ends. done ∙ sym (flagged-sum (a .by-copies) (a .g .now) ends (a .pairs) 0)
 
 pub flagged-spec : {M : Type 1} → statement M
