@@ -16,6 +16,7 @@ use Rattle.appointments.specs.Appointments.{Appt, appts, load}
 use Rattle.appointments.proofs.Loads.{Listed, load-reverse}
 use Rattle.two_color.specs.TwoColor.{colour-of, second-ends, first-ends, neighbours, side}
 use Rattle.two_color.specs.Model.{Small, right-place, colour-place, refused-place, next-place, stack-count, left-count, right-count, row-count, row-start, row-place, clearStateM, startPartyM, startPartiesM, fillRowsM, prepareM}
+use Rattle.two_color.specs.Bounds.{Fills, Prepares}
 use Rattle.two_color.specs.Contract.{Can-color}
 use Rattle.two_color.proofs.Held.{newest, held-none, Rows}
 use Rattle.two_color.proofs.Showing.{within-refl, Shows}
@@ -206,14 +207,33 @@ module _ (u p d : ℕ) (list s : List ℕ) (can : Can-color p d u list s) (some 
       let e : load v ys ≡ load v (appts list) = ap (load v) (sym (reverse-appts list)) ∙ load-reverse v (appts list) in
       omega (arith, ends-load v ys, can .loads v h)
 
-  full-rows : Filled u p d parties (λ v. second-ends v ys ++ first-ends v ys) (prepareM u p d list s)
+  fits : u + 6 * p + 5 + d * p ≤ length parties
+  fits = omega (arith, started .len, cleared-length, can .room)
+
+  abbrev after-firsts : List ℕ
+  after-firsts = fillRowsM u p list 0 1 (length list / 2) parties
+
+  firsts : Filled u p d parties (λ v. second-ends v ys) after-firsts × Fills u p list 0 1 (length list / 2) parties
+  unfolding ys
+  firsts =
+      fill-filled u p d small parties fits (can .narrow) list 0 1 _ _ (first-ends-of p list) (length list / 2)
+      (λ v. []) parties listed (λ v h. omega (arith, loads v h)) empty-rows
+
+  seconds :
+      Filled u p d parties (λ v. second-ends v ys ++ first-ends v ys) (prepareM u p d list s)
+      × Fills u p list 1 0 (length list / 2) after-firsts
   unfolding prepareM parties cleared ys
-  full-rows =
-      let fits : u + 6 * p + 5 + d * p ≤ length parties = omega (arith, started .len, cleared-length, can .room) in
+  seconds =
       fill-filled u p d small parties fits (can .narrow) list 1 0 _ _ (second-ends-of p list) (length list / 2)
-      (λ v. second-ends v ys) (fillRowsM u p list 0 1 (length list / 2) parties) listed loads
-      (fill-filled u p d small parties fits (can .narrow) list 0 1 _ _ (first-ends-of p list) (length list / 2)
-      (λ v. []) parties listed (λ v h. omega (arith, loads v h)) empty-rows)
+      (λ v. second-ends v ys) after-firsts listed loads (firsts .0)
+
+  full-rows : Filled u p d parties (λ v. second-ends v ys ++ first-ends v ys) (prepareM u p d list s)
+  full-rows = seconds .0
+
+  -- The rows have room for all that they get.
+  pub prepared-fits : Prepares u p d list s
+  unfolding parties cleared
+  prepared-fits = record { firsts = firsts .1; seconds = seconds .1 }
 
   rows-are : (v : ℕ) → second-ends v ys ++ first-ends v ys ≡ neighbours v (appts list)
   unfolding neighbours ys

@@ -1,5 +1,5 @@
 -- The rows of neighbours as the code fills them: from the newest appointment down, first the second ends into the rows of the
--- first ends, then the other way round. That is document 01's order itself. Assumes nothing.
+-- first ends, then the other way round. That is document 01's order itself, and each row has room for what it gets. Assumes nothing.
 use Prim.Native.Nat.{ℕ, zero, suc, _+_, _*_, _≤_, _<_}
 use mathlib.Core.Path.{_≡_, refl, sym, _∙_, ap}
 use mathlib.Core.Bool.{Bool, true, false}
@@ -18,6 +18,7 @@ use Rattle.appointments.specs.Appointments.{Appt, appt}
 use Rattle.appointments.proofs.Loads.{Listed}
 use Rattle.two_color.specs.TwoColor.{far-ends}
 use Rattle.two_color.specs.Model.{Small, row-count, row-start, row-place, appendM, pushEndM, fillRowsM}
+use Rattle.two_color.specs.Bounds.{Pushes, Fills}
 use Rattle.two_color.proofs.Regions.{Same}
 use Rattle.two_color.proofs.Held.{Held, held-same, held-more, Appended, append-does, Rows}
 use Rattle.two_color.proofs.Backwards.{backwards}
@@ -57,6 +58,16 @@ module _ (u p d : ℕ) (small : Small u p) (s₀ : List ℕ) (fits : u + 6 * p +
     appended =
         let e : d * v + d ≤ d * p = row-end d v p below in
         append-does (row-count u p v) (row-place u p d v) (length (f v)) w s (x .rows .held v below .count) (omega (arith, x .frame .len)) (omega (arith, x .frame .len)) (λ q. omega arith) (omega arith) w-low
+
+    -- it has a place in its row
+    pushes : Pushes u p v s
+    pushes =
+        let len : length s ≡ length s₀ = x .frame .len in
+        let end : d * v + d ≤ d * p = row-end d v p below in
+        record {
+          start = omega arith;
+          appends = record { count = omega arith; next = omega (arith, x .rows .starts v below, x .rows .held v below .count) };
+        }
 
     -- another row is not met
     row-other : (y : ℕ) → y < p → (y ≡ v → ⊥) → Same (row-place u p d y) (length (f y)) s (pushed u p d v w s)
@@ -98,9 +109,9 @@ module _ (u p d : ℕ) (small : Small u p) (s₀ : List ℕ) (fits : u + 6 * p +
     pub fill-filled :
         (n : ℕ) (f : ℕ → List ℕ) (s : List ℕ) → All (Listed p) (backwards list n) →
         ((v : ℕ) → v < p → length (f v) + length (ends v (backwards list n)) ≤ d) → Filled u p d s₀ f s →
-        Filled u p d s₀ (λ v. f v ++ ends v (backwards list n)) (fillRowsM u p list near far n s)
+        Filled u p d s₀ (λ v. f v ++ ends v (backwards list n)) (fillRowsM u p list near far n s) × Fills u p list near far n s
     unfolding fillRowsM backwards pushEndM far-ends
-    fill-filled zero f s listed wide x = filled-as f _ (λ v. sym (append-nil (f v))) x
+    fill-filled zero f s listed wide x = (filled-as f _ (λ v. sym (append-nil (f v))) x, tt)
     fill-filled (suc i) f s listed wide x =
         let m : Appt = appt (word list (2 * i)) (word list (2 * i + 1)) in
         let rest : List Appt = backwards list i in
@@ -113,10 +124,14 @@ module _ (u p d : ℕ) (small : Small u p) (s₀ : List ℕ) (fits : u + 6 * p +
         let lengths : (y : ℕ) → y < p → length (g y) + length (ends y rest) ≤ d =
         λ y h. omega (arith, wide y h, length-append (g y) (ends y rest), length-append (f y) (ends y (m ∷ rest)), ap length (same y)) in
         let room : length (f v) < d = own v w f (ends v rest) (lengths v below) in
-        let more : Filled u p d s₀ g (pushed u p d v w s) =
-        push-filled f s x (λ y h. omega (arith, wide y h)) v w below room (omega (arith, small .few)) in
-        rw (q .near-is i, q .far-is i, x .rows .starts v below)
-        (filled-as (λ y. g y ++ ends y rest) _ same (fill-filled i g (pushed u p d v w s) (listed .1) lengths more))
+        let short : (y : ℕ) → y < p → length (f y) ≤ d = λ y h. omega (arith, wide y h) in
+        let low : w < 4294967296 = omega (arith, small .few) in
+        let more : Filled u p d s₀ g (pushed u p d v w s) = push-filled f s x short v w below room low in
+        let later = fill-filled i g (pushed u p d v w s) (listed .1) lengths more in
+        rw (q .near-is i, q .far-is i, x .rows .starts v below) (
+          filled-as (λ y. g y ++ ends y rest) _ same (later .0),
+          (pushes f s x short v w below room low, later .1),
+        )
       where
         own : (v w : ℕ) (f : ℕ → List ℕ) (later : List ℕ) → length (f v ++ pick (eqb v v) (w ∷ []) []) + length later ≤ d → length (f v) < d
         own v w f later h = omega (arith, length-append (f v) (w ∷ []), rw (eq-eqb v v refl) at h)

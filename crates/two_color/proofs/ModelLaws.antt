@@ -1,11 +1,13 @@
 -- The cases of each step of the code's model, and its loops one turn further. Assumes nothing.
-use Prim.Native.Nat.{ℕ, _+_, _*_, _-_, _%_, _<_, _≤_}
-use mathlib.Core.Path.{_≡_}
+use Prim.Native.Nat.{ℕ, zero, suc, _+_, _*_, _-_, _%_, _<_, _≤_}
+use mathlib.Core.Path.{_≡_, refl}
 use mathlib.Core.List.{List}
+use native.Mathlib.Omega.{arith}
 use native.Mathlib.Numerals.{add-one}
 use borrow.Author.Tests.{eq-eqb, ne-eqb, lt-ltb, le-ltb}
 use Rattle.words.specs.Words.{word, put-word}
 use Rattle.two_color.specs.Model.{right-place, stack-place, colour-place, refused-place, next-place, stack-count, left-count, right-count, appendM, startPartyM, startPartiesM, pushEndM, fillRowsM, colorPartyM, touchM, lookM, looksM, takeOffM, nextPartyM, stepM, stepsM}
+use Rattle.two_color.specs.Bounds.{Pushes, Fills}
 
 -- what color_party does before it chooses the side
 abbrev pub stacked : ℕ → ℕ → ℕ → ℕ → List ℕ → List ℕ
@@ -72,6 +74,14 @@ module _ (u p : ℕ) (s : List ℕ) where
   unfolding stepsM
   steps-more k = rw (add-one k)
 
-  pub fill-more : (list : List ℕ) (near far i : ℕ) → fillRowsM u p list near far (i + 1) s ≡ fillRowsM u p list near far i (pushEndM u p list (2 * i + near) (2 * i + far) s)
+  -- the loop of `fill_rows`: its next push has room, and what is left after it is left of the same whole
+  pub fill-asks : (list : List ℕ) (near far i : ℕ) → 0 < i → Fills u p list near far i s → Pushes u p (word list (2 * (i - 1) + near)) s
+  fill-asks list near far zero h f = absurd (omega arith)
+  fill-asks list near far (suc i) h f = let e : suc i - 1 ≡ i = omega arith in rw e (f .0)
+
+  pub fill-on :
+      (list : List ℕ) (near far i : ℕ) (t : List ℕ) → 0 < i → Fills u p list near far i s → t ≡ pushEndM u p list (2 * (i - 1) + near) (2 * (i - 1) + far) s →
+      Fills u p list near far (i - 1) t × (fillRowsM u p list near far (i - 1) t ≡ fillRowsM u p list near far i s)
   unfolding fillRowsM
-  fill-more list near far i = rw (add-one i)
+  fill-on list near far zero t h f e = absurd (omega arith)
+  fill-on list near far (suc i) t h f e = let q : suc i - 1 ≡ i = omega arith in rw (e, q) (f .1, refl)

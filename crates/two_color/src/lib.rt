@@ -1,6 +1,7 @@
 // `two_color`, module 2 of document 01: puts the parties of a list of appointments on two sides, left and right, such that the
 // two ends of every appointment are on different sides; or finds that this cannot be done. Its meaning is the definition
-// `two-color` in specs/TwoColor.antt; what each function here does to the words is its model in specs/Model.antt.
+// `two-color` in specs/TwoColor.antt; what each function here does to the words is its model in specs/Model.antt, and what it asks of
+// the words where it doesn't test a place is in specs/Bounds.antt.
 //
 // The words that it takes start at `u`, p words for each of the first four, d words for each row:
 //   u          left, the parties of colour 0 in order of first colouring
@@ -13,10 +14,16 @@
 // All that the search reads only lies above all that it writes.
 ghost use mathlib.Core.Path.{_≡_};
 ghost use Prim.Native.Nat.{_+_, _*_, _/_, _<_, _≤_};
+ghost use lib.ListN.{length};
+ghost use Rattle.words.specs.Words.{word};
 ghost use Rattle.two_color.specs.Model.{Small, appendM, clearStateM, startPartyM, startPartiesM, pushEndM, fillRowsM, colorPartyM, touchM, lookM, touchAllM, takeOffM, nextPartyM, stepM, stepsM, prepareM};
+ghost use Rattle.two_color.specs.Bounds.{Appends, Pushes, Fills, Prepares};
 ghost use Rattle.mark.specs.Taking.{«taken-more»};
 ghost use Rattle.two_color.specs.Contract.{«Can-color», Colored};
 use mark::Mark;
+use words::half_word_at;
+use words::set_word;
+use words::word_at;
 
 // The sides, with the number of parties on the left; or some closed round of appointments has odd length.
 pub enum TwoColoring {
@@ -72,15 +79,28 @@ fn start_parties(s: &mut [u32], u: usize, p: usize, d: usize)
     }
 }
 
+// `append`, where both places are places: no test.
+fn append_at(s: &mut [u32], k: usize, a: usize, w: usize)
+    requires { ⌜ a < 1099511627776 ⌝ }
+    requires { ⌜ Appends k a (now s) ⌝ }
+    ensures { λ r. ⌜ now (s .exit) ≡ appendM k a w (now (s .entry)) ⌝ }
+{
+    let n = word_at(s, k);
+    set_word(s, a + n, w);
+    set_word(s, k, n + 1);
+}
+
 // The number at `j` goes into the row of the party at `i`.
 fn push_end(s: &mut [u32], u: usize, p: usize, list: &[u16], i: usize, j: usize)
     requires { ⌜ Small u p ⌝ }
+    requires { ⌜ (i < length (now list)) × (j < length (now list)) ⌝ }
+    requires { ⌜ Pushes u p (word (now list) i) (now s) ⌝ }
     ensures { λ r. ⌜ now (s .exit) ≡ pushEndM u p (now (list .entry)) i j (now (s .entry)) ⌝ }
 {
-    let v = words::get16(list, i);
-    let w = words::get16(list, j);
-    let row = words::get(s, u + 4 * p + 6 + 2 * v);
-    append(s, u + 4 * p + 5 + 2 * v, row, w);
+    let v = half_word_at(list, i);
+    let w = half_word_at(list, j);
+    let row = word_at(s, u + 4 * p + 6 + 2 * v);
+    append_at(s, u + 4 * p + 5 + 2 * v, row, w);
 }
 
 // Each appointment, from the newest down: its end `far` goes into the row of its end `near` (0 the first end, 1 the second).
@@ -88,6 +108,7 @@ fn fill_rows(s: &mut [u32], u: usize, p: usize, list: &[u16], near: usize, far: 
     requires { ⌜ Small u p ⌝ }
     requires { do ⌜ (← ⟦list.len()⟧) ≤ 8192 ⌝ }
     requires { ⌜ (near ≤ 1) × (far ≤ 1) ⌝ }
+    requires { do ⌜ Fills u p (now list) near far ((← ⟦list.len()⟧) / 2) (now s) ⌝ }
     ensures { λ r. do ⌜ now (s .exit) ≡ fillRowsM u p (now (list .entry)) near far ((← ⟦list.len()⟧ .entry) / 2) (now (s .entry)) ⌝ }
 {
     let mut i = list.len() / 2;
@@ -221,6 +242,7 @@ fn prepare(s: &mut [u32], u: usize, p: usize, d: usize, list: &[u16])
     requires { ⌜ Small u p ⌝ }
     requires { do ⌜ (← ⟦list.len()⟧) ≤ 8192 ⌝ }
     requires { ⌜ d * p ≤ 8192 ⌝ }
+    requires { ⌜ Prepares u p d (now list) (now s) ⌝ }
     ensures { λ r. ⌜ now (s .exit) ≡ prepareM u p d (now (list .entry)) (now (s .entry)) ⌝ }
 {
     clear_state(s, u, p);

@@ -3,6 +3,7 @@ use mathlib.Core.Path.{_≡_, refl, _∙_, ap}
 use native.Mathlib.Omega.{arith}
 use Rattle.words.specs.Words.{word}
 use Rattle.two_color.specs.Model.{stepsM}
+use Rattle.two_color.proofs.Beginning.{prepared-fits}
 use Rattle.two_color.proofs.Finishing.{none-colored, last-words, refused-colored, found-colored}
 use borrow.Author.Needs.{needs}
 use Rattle.two_color.proofs.color_at.Statement.{statement}
@@ -12,6 +13,13 @@ returns : tie.Need-returns
 returns c =
     let a = c .before .before .before .args in
     none-colored (a .u) (a .list .now) (a .s .now) (a .p) (a .u + 2 * a .p) (c .if1 .taken) refl
+
+prepare-requires : tie.Need-prepare-requires
+prepare-requires c κs =
+    let a = c .before .before .before .before .args in
+    let can = c .before .before .before .before .pre in
+    let some : 0 < a .p = omega (arith, c .before .if1 .left) in
+    (record { low = can .low; few = can .few }, (can .short, (can .narrow, prepared-fits (a .u) (a .p) (a .d) (a .list .now) (a .s .now) can some)))
 
 returns-2 : tie.Need-returns-2
 returns-2 c =
@@ -40,7 +48,7 @@ color-at-spec =
     tie.close
     (tie.spec
     returns
-    (λ c κs. search needs)
+    prepare-requires
     (λ c κs. search needs)
     (λ c. search needs)
     (λ c. search needs)

@@ -1,7 +1,17 @@
-use Rattle.two_color.specs.Model.{pushEndM}
+use mathlib.Core.Path.{_≡_}
+use native.Mathlib.Omega.{arith}
+use Rattle.words.specs.Words.{word}
+use Rattle.two_color.specs.Model.{row-start, pushEndM}
 use borrow.Author.Needs.{needs}
 use Rattle.two_color.proofs.push_end.Statement.{statement}
 use Rattle.two_color.proofs.push_end.Tie as tie
+
+append-at-requires : tie.Need-append-at-requires
+append-at-requires c κs =
+    let a = c .before .before .before .before .before .before .before .args in
+    let e : c .before .before .before .before .half-word-at .result ≡ word (a .list .now) (a .i) = c .before .before .before .before .half-word-at .ensures .0 in
+    let r : c .before .word-at .result ≡ word (a .s .now) (row-start (a .u) (a .p) (word (a .list .now) (a .i))) = rw e at (c .before .word-at .ensures .0) in
+    (omega (arith, c .before .word-at .ensures .1), rw (e, r) (c .before .before .before .before .before .before .before .pre .1 .1 .appends))
 
 returns : tie.Need-returns
 unfolding pushEndM
@@ -24,6 +34,6 @@ push-end-spec =
     (λ c. search needs)
     (λ c. search needs)
     (λ c. search needs)
-    (λ c κs. search needs)
+    append-at-requires
     (λ c. search needs)
     returns)

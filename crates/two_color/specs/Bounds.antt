@@ -1,0 +1,29 @@
+-- What the functions that read and write without a test ask of the words: that each place they touch is one. Assumes nothing.
+use Prim.Native.Nat.{ℕ, zero, suc, _+_, _*_, _/_, _<_}
+use mathlib.Core.List.{List}
+use lib.ListN.{length}
+use Rattle.words.specs.Words.{word}
+use Rattle.two_color.specs.Model.{row-count, row-start, clearStateM, startPartiesM, pushEndM, fillRowsM}
+
+-- the list whose length stands at k and whose words start at a can get one word more
+pub record Appends (k a : ℕ) (s : List ℕ) : Type 0 where
+  pub count : k < length s
+  pub next : a + word s k < length s
+
+-- the row of the party v can
+pub record Pushes (u p v : ℕ) (s : List ℕ) : Type 0 where
+  pub start : row-start u p v < length s
+  pub appends : Appends (row-count u p v) (word s (row-start u p v)) s
+
+-- the rows can get the far ends of the appointments below n, from the newest down
+abbrev pub Fills : ℕ → ℕ → List ℕ → ℕ → ℕ → ℕ → List ℕ → Type 0
+Fills u p list near far zero s = Unit {0}
+Fills u p list near far (suc i) s =
+    Pushes u p (word list (2 * i + near)) s × Fills u p list near far i (pushEndM u p list (2 * i + near) (2 * i + far) s)
+
+-- both passes over the list can be made, once the parties are started
+pub record Prepares (u p d : ℕ) (list s : List ℕ) : Type 0 where
+  pub firsts : Fills u p list 0 1 (length list / 2) (startPartiesM u p d p (clearStateM u p s))
+  pub seconds :
+      Fills u p list 1 0 (length list / 2)
+      (fillRowsM u p list 0 1 (length list / 2) (startPartiesM u p d p (clearStateM u p s)))
