@@ -6,7 +6,7 @@ use mathlib.Core.List.{List, [], _++_}
 use native.Mathlib.Omega.{arith}
 use native.Mathlib.Nat.{add-zero}
 use native.Mathlib.Decide.{ℕ-discrete}
-use lib.ListN.{length}
+use lib.ListN.{length, length-append}
 use Rattle.words.specs.Basics.{All}
 use Rattle.words.specs.Words.{word, put-word}
 use Rattle.words.specs.Frames.{Keeps}
@@ -167,6 +167,8 @@ second-ends-of p list =
 pub record Begun (u p d : ℕ) (list s t : List ℕ) : Type 0 where
   pub keeps : Keeps u s t
   pub rows : Rows u p d (λ v. neighbours v (appts list)) t
+  -- the rows end inside
+  pub inside : (v : ℕ) → v < p → row-place u p d v + length (neighbours v (appts list)) ≤ length t
   pub shows : Shows u p t t [] [] 0
 
 module _ (u p d : ℕ) (list s : List ℕ) (can : Can-color p d u list s) (some : 0 < p) where
@@ -259,6 +261,16 @@ module _ (u p d : ℕ) (list s : List ℕ) (can : Can-color p d u list s) (some 
           same = λ i h. full-rows .frame .same i (omega arith) ∙ started .under i h ∙ ap (λ l. word l i) (state-zeroed u p s) ∙ zeroed-under s (refused-place u p) 5 i (omega arith);
         };
         rows = filled .rows;
+        inside = λ v h.
+            omega (
+              arith,
+              fits,
+              full-rows .frame .len,
+              row-end d v p h,
+              loads v h,
+              ap length (rows-are v),
+              length-append (second-ends v ys) (first-ends v ys),
+            );
         shows = record {
           core = record {
             each-once = tt;

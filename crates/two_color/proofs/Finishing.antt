@@ -5,7 +5,7 @@ use mathlib.Core.List.{List, [], _∷_}
 use native.Mathlib.Omega.{arith}
 use native.Mathlib.Nat.{le-refl}
 use lib.ListN.{length}
-use Rattle.words.specs.Basics.{iterate}
+use Rattle.words.specs.Basics.{All, iterate}
 use Rattle.words.specs.Words.{word}
 use Rattle.words.specs.Frames.{Keeps}
 use Rattle.words.proofs.Frames.{keeps-refl, keeps-trans}
@@ -14,13 +14,14 @@ use Rattle.appointments.specs.Appointments.{Appt, appts}
 use Rattle.two_color.specs.TwoColor.{Colouring, neighbours, Search, going, refused, search-below, side, sides, two-color}
 use Rattle.two_color.specs.Contract.{region, Can-color, Colored}
 use Rattle.two_color.specs.Model.{Small, right-place, refused-place, left-count, prepareM, stepsM}
+use Rattle.two_color.specs.Bounds.{Steps-all}
 use Rattle.two_color.specs.declared.TwoColoring.the-variants.{Sides, NotBipartite}
 use Rattle.two_color.proofs.Colouring.{sides-length, coloured-all}
 use Rattle.two_color.proofs.Search.{neighbours-below}
 use Rattle.two_color.proofs.Starts.{Ended, search-ends}
 use Rattle.two_color.proofs.Turns.{Stage, stage, turn, turns-whole}
 use Rattle.two_color.proofs.Showing.{Shows, Shown, shown-within}
-use Rattle.two_color.proofs.Stepping.{steps-show}
+use Rattle.two_color.proofs.Stepping.{steps-show, steps-fit}
 use Rattle.two_color.proofs.Beginning.{Begun, prepared-begun}
 
 -- nobody is to be put on a side
@@ -48,14 +49,26 @@ module _ (u p d : ℕ) (list s : List ℕ) (can : Can-color p d u list s) (some 
   begun : Begun u p d list s (first-words u p d list s)
   begun = prepared-begun u p d list s can some
 
+  small : Small u p
+  small = record { low = can .low; few = can .few }
+
+  fits : u + 4 * p + 5 ≤ length (first-words u p d list s)
+  fits = omega (arith, can .room, begun .keeps .len)
+
+  met : (v : ℕ) → All (λ w. w < p) (neighbours v xs)
+  unfolding xs
+  met v = all-map (λ w h. h .1) (neighbours v (appts list)) (neighbours-below p (appts list) 0 (can .listed) v)
+
+  -- Every step can be made.
+  pub all-fit : Steps-all u p (2 * p) (first-words u p d list s)
+  unfolding xs
+  all-fit = steps-fit u p small (first-words u p d list s) fits d xs (begun .rows) met (begun .inside) (2 * p) (begun .shows)
+
   whole : Shown u p (first-words u p d list s) (last-words u p d list s) (search-below p xs p) (last .next)
   unfolding xs last
   whole =
-      let small : Small u p = record { low = can .low; few = can .few } in
       let shown : Shown u p (first-words u p d list s) (last-words u p d list s) (last .search) (last .next) =
-      steps-show u p small (first-words u p d list s) (omega (arith, can .room, begun .keeps .len)) d xs (begun .rows)
-      (λ v. all-map (λ w h. h .1) (neighbours v xs) (neighbours-below p xs 0 (can .listed) v))
-      (2 * p) (begun .shows) in
+      steps-show u p small (first-words u p d list s) fits d xs (begun .rows) met (begun .inside) (2 * p) (begun .shows) in
       rw (turns-whole p xs (can .listed)) at shown
 
   keeps : Keeps u s (last-words u p d list s)

@@ -6,8 +6,8 @@ use native.Mathlib.Omega.{arith}
 use native.Mathlib.Numerals.{add-one}
 use borrow.Author.Tests.{eq-eqb, ne-eqb, lt-ltb, le-ltb}
 use Rattle.words.specs.Words.{word, put-word}
-use Rattle.two_color.specs.Model.{right-place, stack-place, colour-place, refused-place, next-place, stack-count, left-count, right-count, appendM, startPartyM, startPartiesM, pushEndM, fillRowsM, colorPartyM, touchM, lookM, looksM, takeOffM, nextPartyM, stepM, stepsM}
-use Rattle.two_color.specs.Bounds.{Pushes, Fills}
+use Rattle.two_color.specs.Model.{right-place, stack-place, colour-place, refused-place, next-place, stack-count, left-count, right-count, row-count, row-start, appendM, startPartyM, startPartiesM, pushEndM, fillRowsM, colorPartyM, touchM, lookM, looksM, takeOffM, nextPartyM, stepM, stepsM}
+use Rattle.two_color.specs.Bounds.{Pushes, Fills, Looks, Looks-all}
 
 -- what color_party does before it chooses the side
 abbrev pub stacked : ℕ → ℕ → ℕ → ℕ → List ℕ → List ℕ
@@ -22,21 +22,21 @@ module _ (u p : ℕ) (s : List ℕ) where
   unfolding colorPartyM
   color-right w color h = rw (ne-eqb color 0 h)
 
-  pub touch-rests : (color w : ℕ) → (word s (refused-place u p) ≡ 0 → ⊥) → touchM u p color w s ≡ s
+  pub touch-passes : (other w : ℕ) → word s (colour-place u p w) ≡ other → touchM u p other w s ≡ s
   unfolding touchM
-  touch-rests color w h = rw (ne-eqb (word s (refused-place u p)) 0 h)
+  touch-passes other w h = rw (eq-eqb (word s (colour-place u p w)) other h)
 
-  pub touch-refuses : (color w : ℕ) → word s (refused-place u p) ≡ 0 → word s (colour-place u p w) ≡ color → touchM u p color w s ≡ put-word s (refused-place u p) 1
+  pub touch-refuses : (other w : ℕ) → (word s (colour-place u p w) ≡ other → ⊥) → (word s (colour-place u p w) ≡ 2 → ⊥) → touchM u p other w s ≡ put-word s (refused-place u p) 1
   unfolding touchM
-  touch-refuses color w h e = rw (eq-eqb (word s (refused-place u p)) 0 h, eq-eqb (word s (colour-place u p w)) color e)
+  touch-refuses other w n m = rw (ne-eqb (word s (colour-place u p w)) other n, ne-eqb (word s (colour-place u p w)) 2 m)
 
-  pub touch-colors : (color w : ℕ) → word s (refused-place u p) ≡ 0 → (word s (colour-place u p w) ≡ color → ⊥) → word s (colour-place u p w) ≡ 2 → touchM u p color w s ≡ colorPartyM u p w (1 - color % 2) s
+  pub touch-colors : (other w : ℕ) → (word s (colour-place u p w) ≡ other → ⊥) → word s (colour-place u p w) ≡ 2 → word s (refused-place u p) ≡ 0 → touchM u p other w s ≡ colorPartyM u p w other s
   unfolding touchM
-  touch-colors color w h n e = rw (eq-eqb (word s (refused-place u p)) 0 h, ne-eqb (word s (colour-place u p w)) color n, eq-eqb (word s (colour-place u p w)) 2 e)
+  touch-colors other w n e h = rw (ne-eqb (word s (colour-place u p w)) other n, eq-eqb (word s (colour-place u p w)) 2 e, eq-eqb (word s (refused-place u p)) 0 h)
 
-  pub touch-passes : (color w : ℕ) → word s (refused-place u p) ≡ 0 → (word s (colour-place u p w) ≡ color → ⊥) → (word s (colour-place u p w) ≡ 2 → ⊥) → touchM u p color w s ≡ s
+  pub touch-rests : (other w : ℕ) → (word s (colour-place u p w) ≡ other → ⊥) → word s (colour-place u p w) ≡ 2 → (word s (refused-place u p) ≡ 0 → ⊥) → touchM u p other w s ≡ s
   unfolding touchM
-  touch-passes color w h n m = rw (eq-eqb (word s (refused-place u p)) 0 h, ne-eqb (word s (colour-place u p w)) color n, ne-eqb (word s (colour-place u p w)) 2 m)
+  touch-rests other w n e h = rw (ne-eqb (word s (colour-place u p w)) other n, eq-eqb (word s (colour-place u p w)) 2 e, ne-eqb (word s (refused-place u p)) 0 h)
 
   pub next-none : p ≤ word s (next-place u p) → nextPartyM u p s ≡ s
   unfolding nextPartyM
@@ -66,9 +66,16 @@ module _ (u p : ℕ) (s : List ℕ) where
   unfolding startPartiesM
   parties-more d v = rw (add-one v)
 
-  pub looks-more : (color row t : ℕ) → looksM u p color row (t + 1) s ≡ lookM u p color (row + t) (looksM u p color row t s)
+  -- the loop of `touch_all`: its next neighbour can be looked at, and one turn further
+  pub looks-ask :
+      (v color n row t : ℕ) (x : List ℕ) → color ≡ word s (colour-place u p v) → n ≡ word s (row-count u p v) → row ≡ word s (row-start u p v) →
+      x ≡ looksM u p (1 - color % 2) row t s → t < n → Looks-all u p v s → Looks u p (row + t) x
+  looks-ask v color n row t x ec en er ex l h = rw (ex, er, ec) (h .looks t (omega arith))
+
+  pub looks-more :
+      (other row t : ℕ) (x y : List ℕ) → x ≡ looksM u p other row t s → y ≡ lookM u p other (row + t) x → y ≡ looksM u p other row (t + 1) s
   unfolding looksM
-  looks-more color row t = rw (add-one t)
+  looks-more other row t x y e q = rw (q, e, add-one t)
 
   pub steps-more : (k : ℕ) → stepsM u p (k + 1) s ≡ stepM u p (stepsM u p k s)
   unfolding stepsM

@@ -1,5 +1,5 @@
 -- One step of the code's model is one turn of the search, on the words that stand for it, with the neighbours of each party in
--- its row. Assumes nothing.
+-- its row; and every neighbour that a step looks at stands at a place. Assumes nothing.
 use Prim.Native.Nat.{ℕ, zero, suc, _+_, _*_, _-_, _%_, _≤_, _<_}
 use mathlib.Core.Path.{_≡_, refl, sym, _∙_}
 use mathlib.Core.List.{List, [], _∷_, _++_}
@@ -10,16 +10,17 @@ use lib.ListN.{length}
 use Rattle.words.specs.Basics.{All, iterate}
 use Rattle.words.specs.Words.{word, put-word}
 use Rattle.words.proofs.Frames.{here, away}
-use Rattle.words.proofs.Sums.{all-left, all-right}
 use Rattle.words.proofs.Runs.{iterate-suc-out}
 use Rattle.appointments.specs.Appointments.{Appt}
 use Rattle.two_color.specs.TwoColor.{Colouring, colour-of, neighbours, Search, going, refused, touch, touch-all, pop, side}
 use Rattle.two_color.specs.Contract.{region}
-use Rattle.two_color.specs.Model.{Small, stack-place, colour-place, refused-place, next-place, stack-count, left-count, right-count, row-count, row-start, touchM, lookM, looksM, touchAllM, takeOffM, nextPartyM, stepM, stepsM}
+use Rattle.two_color.specs.Model.{Small, stack-place, colour-place, refused-place, next-place, stack-count, left-count, right-count, row-count, row-start, row-place, touchM, lookM, looksM, touchAllM, takeOffM, nextPartyM, stepM, stepsM}
+use Rattle.two_color.specs.Bounds.{Looks, Looks-all, Takes-off, Steps, Steps-all}
 use Rattle.two_color.proofs.ModelLaws.{touch-rests, touch-refuses, touch-colors, touch-passes, next-none, next-colors, next-passes, step-rests, step-next, step-off}
-use Rattle.two_color.proofs.Colouring.{sides-length, coloured-le}
+use Rattle.two_color.proofs.Colouring.{colour-le, sides-length, coloured-le}
+use Rattle.two_color.proofs.Regions.{region-all}
 use Rattle.two_color.proofs.Held.{newest, newest-same, held-same, Rows}
-use Rattle.two_color.proofs.Showing.{within-trans, within-put, Shows, Shown, shown-within, color-shows}
+use Rattle.two_color.proofs.Showing.{Within, within-trans, within-put, Shows, Shown, shown-within, color-shows}
 use Rattle.two_color.proofs.Turns.{Stage, stage, begun, turn-from, turn}
 
 touch-all-snoc : (c : ℕ) (ws : List ℕ) (w : ℕ) (r : Search) → touch-all c (ws ++ (w ∷ [])) r ≡ touch c w (touch-all c ws r)
@@ -30,40 +31,54 @@ touch-all-snoc c (v ∷ ws) w r = touch-all-snoc c ws w (touch c v r)
 module _ (u p : ℕ) (small : Small u p) (s₀ : List ℕ) (fits : u + 4 * p + 5 ≤ length s₀) where
   -- ── neighbours ──
 
-  touch-shows : (c w : ℕ) → c ≤ 1 → w < p → (s : List ℕ) (r : Search) (k : ℕ) → Shown u p s₀ s r k → Shown u p s₀ (touchM u p c w s) (touch c w r) k
+  refuse-shows : (s : List ℕ) → Within u (u + 4 * p + 5) s₀ s → (word (put-word s (refused-place u p) 1) (refused-place u p) ≡ 1) × Within u (u + 4 * p + 5) s₀ (put-word s (refused-place u p) 1)
+  refuse-shows s f = (
+    here s (refused-place u p) 1 (omega (arith, f .len)) (omega arith),
+    within-trans f (within-put u (u + 4 * p + 5) s (refused-place u p) 1 (omega arith) (omega arith)),
+  )
+
+  touch-shows : (c w : ℕ) → c ≤ 1 → w < p → (s : List ℕ) (r : Search) (k : ℕ) → Shown u p s₀ s r k → Shown u p s₀ (touchM u p (1 - c) w s) (touch c w r) k
   unfolding touch
-  touch-shows c w two below s refused k h = rw (touch-rests u p s c w (λ e. omega (arith, h .0))) h
+  touch-shows c w two below s refused k h = go (ℕ-discrete (word s (colour-place u p w)) (1 - c)) (ℕ-discrete (word s (colour-place u p w)) 2)
+    where
+      go : Dec (word s (colour-place u p w) ≡ 1 - c) → Dec (word s (colour-place u p w) ≡ 2) → Shown u p s₀ (touchM u p (1 - c) w s) refused k
+      go (yes e) d = rw (touch-passes u p s (1 - c) w e) h
+      go (no n) (yes e) = rw (touch-rests u p s (1 - c) w n e (λ z. omega (arith, h .0))) h
+      go (no n) (no m) = rw (touch-refuses u p s (1 - c) w n m) (refuse-shows s (h .1))
   touch-shows c w two below s (going so-far stack) k x = go (ℕ-discrete (colour-of w so-far) c) (ℕ-discrete (colour-of w so-far) 2)
     where
       e : word s (colour-place u p w) ≡ colour-of w so-far
       e = x .core .colours w below
 
-      other : 1 - c % 2 ≡ 1 - c
-      other = omega arith
-
-      go : Dec (colour-of w so-far ≡ c) → Dec (colour-of w so-far ≡ 2) → Shown u p s₀ (touchM u p c w s) (touch c w (going so-far stack)) k
+      go : Dec (colour-of w so-far ≡ c) → Dec (colour-of w so-far ≡ 2) → Shown u p s₀ (touchM u p (1 - c) w s) (touch c w (going so-far stack)) k
       go (yes q) d =
-          rw (touch-refuses u p s c w (x .core .refusal) (e ∙ q), eq-eqb (colour-of w so-far) c q) (
-            here s (refused-place u p) 1 (omega (arith, x .core .frame .len)) (omega arith),
-            within-trans (x .core .frame) (within-put u (u + 4 * p + 5) s (refused-place u p) 1 (omega arith) (omega arith)),
-          )
+          rw (touch-refuses u p s (1 - c) w (λ g. omega (arith, e)) (λ g. omega (arith, e)), eq-eqb (colour-of w so-far) c q)
+          (refuse-shows s (x .core .frame))
       go (no q) (yes z) =
-          rw (touch-colors u p s c w (x .core .refusal) (λ g. q (sym e ∙ g)) (e ∙ z), ne-eqb (colour-of w so-far) c q, eq-eqb (colour-of w so-far) 2 z, other)
+          rw (touch-colors u p s (1 - c) w (λ g. omega (arith, e)) (e ∙ z) (x .core .refusal), ne-eqb (colour-of w so-far) c q, eq-eqb (colour-of w so-far) 2 z)
           (color-shows u p small s₀ fits s so-far stack k w (1 - c) below (omega arith) z x)
       go (no q) (no z) =
-          rw (touch-passes u p s c w (x .core .refusal) (λ g. q (sym e ∙ g)) (λ g. z (sym e ∙ g)), ne-eqb (colour-of w so-far) c q, ne-eqb (colour-of w so-far) 2 z) x
+          rw (touch-passes u p s (1 - c) w (omega (arith, e, colour-le p so-far (x .core .each-once) w)), ne-eqb (colour-of w so-far) c q, ne-eqb (colour-of w so-far) 2 z) x
 
   -- the first n words of a row, which the search doesn't change
-  looks-show : (c : ℕ) → c ≤ 1 → (row : ℕ) → u + 4 * p + 5 ≤ row → (n : ℕ) (s : List ℕ) (r : Search) (k : ℕ) → All (λ w. w < p) (region s₀ row n) → Shown u p s₀ s r k → Shown u p s₀ (looksM u p c row n s) (touch-all c (region s₀ row n) r) k
-  unfolding looksM lookM region touch-all
-  looks-show c two row h zero s r k a x = x
-  looks-show c two row h (suc n) s r k a x =
-      let ws : List ℕ = region s₀ row n in
-      let w : ℕ = word s₀ (row + n) in
-      let t : List ℕ = looksM u p c row n s in
-      let old : Shown u p s₀ t (touch-all c ws r) k = looks-show c two row h n s r k (all-left _ ws (w ∷ []) a) x in
-      let e : word t (row + n) ≡ w = shown-within u p s₀ t (touch-all c ws r) k old .over (row + n) (omega arith) in
-      rw (touch-all-snoc c ws w r, e) (touch-shows c w two (all-right _ ws (w ∷ []) a .0) t (touch-all c ws r) k old)
+  module _ (c : ℕ) (two : c ≤ 1) (row : ℕ) (above : u + 4 * p + 5 ≤ row) (s : List ℕ) (r : Search) (k : ℕ) (x : Shown u p s₀ s r k) where
+    looks-show : (n : ℕ) → ((i : ℕ) → i < n → word s₀ (row + i) < p) → Shown u p s₀ (looksM u p (1 - c) row n s) (touch-all c (region s₀ row n) r) k
+    unfolding looksM lookM region touch-all
+    looks-show zero a = x
+    looks-show (suc n) a =
+        let ws : List ℕ = region s₀ row n in
+        let w : ℕ = word s₀ (row + n) in
+        let t : List ℕ = looksM u p (1 - c) row n s in
+        let old : Shown u p s₀ t (touch-all c ws r) k = looks-show n (λ i l. a i (omega arith)) in
+        let e : word t (row + n) ≡ w = shown-within u p s₀ t (touch-all c ws r) k old .over (row + n) (omega arith) in
+        rw (touch-all-snoc c ws w r, e) (touch-shows c w two (a n (omega arith)) t (touch-all c ws r) k old)
+
+    -- each of them can be looked at
+    looks-fit : (n : ℕ) → row + n ≤ length s₀ → ((i : ℕ) → i < n → word s₀ (row + i) < p) → (t : ℕ) → t < n → Looks u p (row + t) (looksM u p (1 - c) row t s)
+    looks-fit n inside a t l =
+        let y : List ℕ = looksM u p (1 - c) row t s in
+        let f : Within u (u + 4 * p + 5) s₀ y = shown-within u p s₀ y (touch-all c (region s₀ row t) r) k (looks-show t (λ i m. a i (omega arith))) in
+        record { here = omega (arith, f .len); colour = omega (arith, f .len, f .over (row + t) (omega arith), a t l) }
 
   -- ── a word of the state ──
 
@@ -94,24 +109,31 @@ module _ (u p : ℕ) (small : Small u p) (s₀ : List ℕ) (fits : u + 4 * p + 5
         rights = held-same t (away s i (right-count u p) x (λ e. omega arith)) (λ j l h. same j (omega arith)) (g .rights);
       }
 
-  module _ (d : ℕ) (xs : List Appt) (rows : Rows u p d (λ v. neighbours v xs) s₀) (met : (v : ℕ) → All (λ w. w < p) (neighbours v xs)) where
+  module _ (d : ℕ) (xs : List Appt) (rows : Rows u p d (λ v. neighbours v xs) s₀) (met : (v : ℕ) → All (λ w. w < p) (neighbours v xs)) (inside : (v : ℕ) → v < p → row-place u p d v + length (neighbours v xs) ≤ length s₀) where
     -- ── a party comes off ──
 
-    row-shows : (v : ℕ) → v < p → (s : List ℕ) (so-far : Colouring) (stack : List ℕ) (k : ℕ) → colour-of v so-far ≤ 1 → Shows u p s₀ s so-far stack k → Shown u p s₀ (touchAllM u p v s) (touch-all (colour-of v so-far) (neighbours v xs) (going so-far stack)) k
+    row-shows : (v : ℕ) → v < p → (s : List ℕ) (so-far : Colouring) (stack : List ℕ) (k : ℕ) → colour-of v so-far ≤ 1 → Shows u p s₀ s so-far stack k → Shown u p s₀ (touchAllM u p v s) (touch-all (colour-of v so-far) (neighbours v xs) (going so-far stack)) k × Looks-all u p v s
     unfolding touchAllM
     row-shows v below s so-far stack k two x =
         let row : ℕ = u + 6 * p + 5 + d * v in
         let n : ℕ = length (neighbours v xs) in
-        let c1 : word s (colour-place u p v) ≡ colour-of v so-far = x .core .colours v below in
+        let c : ℕ = colour-of v so-far in
+        let c1 : word s (colour-place u p v) ≡ c = x .core .colours v below in
         let r1 : word s (row-start u p v) ≡ row = x .core .frame .over (row-start u p v) (omega arith) ∙ rows .starts v below in
         let n1 : word s (row-count u p v) ≡ n = x .core .frame .over (row-count u p v) (omega arith) ∙ rows .held v below .count in
         let is-row : region s₀ row n ≡ neighbours v xs = rows .held v below .words in
         let members : All (λ w. w < p) (region s₀ row n) = rw is-row (met v) in
-        let done : Shown u p s₀ (looksM u p (colour-of v so-far) row n s) (touch-all (colour-of v so-far) (neighbours v xs) (going so-far stack)) k =
-        rw is-row at (looks-show (colour-of v so-far) two row (omega arith) n s (going so-far stack) k members x) in
-        rw (c1, r1, n1) done
+        let each : (i : ℕ) → i < n → word s₀ (row + i) < p = region-all (λ w. w < p) s₀ row n members in
+        let other : 1 - c % 2 ≡ 1 - c = omega arith in
+        let done : Shown u p s₀ (looksM u p (1 - c) row n s) (touch-all c (neighbours v xs) (going so-far stack)) k =
+        rw is-row at (looks-show c two row (omega arith) s (going so-far stack) k x n each) in (
+          rw (c1, other, r1, n1) done,
+          record {
+            looks = λ t l. rw (c1, other, r1) (looks-fit c two row (omega arith) s (going so-far stack) k x n (inside v below) each t (omega (arith, n1)));
+          },
+        )
 
-    off-shows : (s : List ℕ) (so-far : Colouring) (v : ℕ) (stack : List ℕ) (k : ℕ) → Shows u p s₀ s so-far (v ∷ stack) k → Shown u p s₀ (takeOffM u p (suc (length stack)) s) (pop xs (going so-far (v ∷ stack))) k
+    off-shows : (s : List ℕ) (so-far : Colouring) (v : ℕ) (stack : List ℕ) (k : ℕ) → Shows u p s₀ s so-far (v ∷ stack) k → Shown u p s₀ (takeOffM u p (suc (length stack)) s) (pop xs (going so-far (v ∷ stack))) k × Takes-off u p (suc (length stack)) s
     unfolding takeOffM pop newest
     off-shows s so-far v stack k x =
         let all : word s (u + 2 * p + length stack) ∷ newest s (stack-place u p) (length stack) ≡ v ∷ stack = x .core .waiting in
@@ -153,13 +175,19 @@ module _ (u p : ℕ) (small : Small u p) (s₀ : List ℕ) (fits : u + 4 * p + 5
     unfolding turn-from
     step-shows s refused k h = rw (step-rests u p s (λ e. omega (arith, h .0))) h
     step-shows s (going so-far (v ∷ stack)) k x =
-        rw (step-off u p s (x .core .refusal) (λ e. omega (arith, x .core .height)), x .core .height) (off-shows s so-far v stack k x)
+        rw (step-off u p s (x .core .refusal) (λ e. omega (arith, x .core .height)), x .core .height) (off-shows s so-far v stack k x .0)
     step-shows s (going so-far []) k x =
         let e : stepM u p s ≡ nextPartyM u p s = step-next u p s (x .core .refusal) (x .core .height) in
         elim (decLt k p) [
           | yes h ↦ rw (e, lt-ltb k p h) (next-shows s so-far k h x)
           | no h ↦ rw (e, next-none u p s (omega (arith, x .core .party)), le-ltb k p (omega arith)) x
         ]
+
+    -- it can be made
+    step-fits : (s : List ℕ) (r : Search) (k : ℕ) → Shown u p s₀ s r k → Steps u p s
+    step-fits s refused k h = record { off = λ z n. absurd (omega (arith, h .0)) }
+    step-fits s (going so-far (v ∷ stack)) k x = record { off = λ z n. rw (x .core .height) (off-shows s so-far v stack k x .1) }
+    step-fits s (going so-far []) k x = record { off = λ z n. absurd (n (x .core .height)) }
 
     -- n steps are n turns
     pub steps-show : (n : ℕ) → Shows u p s₀ s₀ [] [] 0 → At (stepsM u p n s₀) (iterate n (turn p xs) (stage (going [] []) 0))
@@ -169,3 +197,11 @@ module _ (u p : ℕ) (small : Small u p) (s₀ : List ℕ) (fits : u + 4 * p + 5
         let last : Stage = iterate n (turn p xs) (stage (going [] []) 0) in
         let more : At (stepM u p (stepsM u p n s₀)) (turn p xs last) = step-shows (stepsM u p n s₀) (last .search) (last .next) (steps-show n x) in
         rw (iterate-suc-out n (turn p xs) (stage (going [] []) 0)) more
+
+    pub steps-fit : (n : ℕ) → Shows u p s₀ s₀ [] [] 0 → Steps-all u p n s₀
+    steps-fit n x =
+        record {
+          steps = λ k l.
+              let t : Stage = iterate k (turn p xs) (stage (going [] []) 0) in
+              step-fits (stepsM u p k s₀) (t .search) (t .next) (steps-show k x);
+        }

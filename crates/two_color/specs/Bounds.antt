@@ -1,9 +1,10 @@
 -- What the functions that read and write without a test ask of the words: that each place they touch is one. Assumes nothing.
-use Prim.Native.Nat.{ℕ, zero, suc, _+_, _*_, _/_, _<_}
+use Prim.Native.Nat.{ℕ, zero, suc, _+_, _*_, _-_, _/_, _%_, _<_}
+use mathlib.Core.Path.{_≡_}
 use mathlib.Core.List.{List}
 use lib.ListN.{length}
-use Rattle.words.specs.Words.{word}
-use Rattle.two_color.specs.Model.{row-count, row-start, clearStateM, startPartiesM, pushEndM, fillRowsM}
+use Rattle.words.specs.Words.{word, put-word}
+use Rattle.two_color.specs.Model.{stack-place, colour-place, refused-place, stack-count, row-count, row-start, clearStateM, startPartiesM, pushEndM, fillRowsM, looksM, stepsM}
 
 -- the list whose length stands at k and whose words start at a can get one word more
 pub record Appends (k a : ℕ) (s : List ℕ) : Type 0 where
@@ -27,3 +28,28 @@ pub record Prepares (u p d : ℕ) (list s : List ℕ) : Type 0 where
   pub seconds :
       Fills u p list 1 0 (length list / 2)
       (fillRowsM u p list 0 1 (length list / 2) (startPartiesM u p d p (clearStateM u p s)))
+
+-- the neighbour whose number stands at `at` can be looked at
+pub record Looks (u p at : ℕ) (s : List ℕ) : Type 0 where
+  pub here : at < length s
+  pub colour : colour-place u p (word s at) < length s
+
+-- all neighbours of the party v can, in the order of its row
+pub record Looks-all (u p v : ℕ) (s : List ℕ) : Type 0 where
+  pub looks :
+      (t : ℕ) → t < word s (row-count u p v) →
+      Looks u p (word s (row-start u p v) + t)
+      (looksM u p (1 - word s (colour-place u p v) % 2) (word s (row-start u p v)) t s)
+
+-- the last party on a stack of h can come off
+abbrev pub Takes-off : ℕ → ℕ → ℕ → List ℕ → Type 0
+Takes-off u p h s = Looks-all u p (word s (stack-place u p + (h - 1))) (put-word s (stack-count u p) (h - 1))
+
+-- a step can be made
+pub record Steps (u p : ℕ) (s : List ℕ) : Type 0 where
+  pub off :
+      word s (refused-place u p) ≡ 0 → (word s (stack-count u p) ≡ 0 → ⊥) → Takes-off u p (word s (stack-count u p)) s
+
+-- n steps can
+pub record Steps-all (u p n : ℕ) (s : List ℕ) : Type 0 where
+  pub steps : (k : ℕ) → k < n → Steps u p (stepsM u p k s)

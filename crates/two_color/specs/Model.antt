@@ -92,24 +92,26 @@ colorPartyM u p w color s =
     let t : List ℕ = appendM (stack-count u p) (stack-place u p) w (put-word s (colour-place u p w) color) in
     pick (eqb color 0) (appendM (left-count u p) u w t) (appendM (right-count u p) (right-place u p) w t)
 
+-- a neighbour that is to have the colour `other`; a colour that is neither this nor 2 refuses
 unfoldable pub touchM : ℕ → ℕ → ℕ → ℕ → List ℕ → List ℕ
-touchM u p color w s =
+touchM u p other w s =
     let have : ℕ = word s (colour-place u p w) in
-    pick (eqb (word s (refused-place u p)) 0)
-    (pick (eqb have color) (put-word s (refused-place u p) 1)
-    (pick (eqb have 2) (colorPartyM u p w (1 - color % 2) s) s))
-    s
+    pick (eqb have other) s
+    (pick (eqb have 2)
+    (pick (eqb (word s (refused-place u p)) 0) (colorPartyM u p w other s) s)
+    (put-word s (refused-place u p) 1))
 
 unfoldable pub lookM : ℕ → ℕ → ℕ → ℕ → List ℕ → List ℕ
-lookM u p color at s = touchM u p color (word s at) s
+lookM u p other at s = touchM u p other (word s at) s
 
 -- the loop of `touch_all`: the first n words of the row that starts at row
 unfoldable pub looksM : ℕ → ℕ → ℕ → ℕ → ℕ → List ℕ → List ℕ
-looksM u p color row zero s = s
-looksM u p color row (suc t) s = lookM u p color (row + t) (looksM u p color row t s)
+looksM u p other row zero s = s
+looksM u p other row (suc t) s = lookM u p other (row + t) (looksM u p other row t s)
 
 unfoldable pub touchAllM : ℕ → ℕ → ℕ → List ℕ → List ℕ
-touchAllM u p v s = looksM u p (word s (colour-place u p v)) (word s (row-start u p v)) (word s (row-count u p v)) s
+touchAllM u p v s =
+    looksM u p (1 - word s (colour-place u p v) % 2) (word s (row-start u p v)) (word s (row-count u p v)) s
 
 unfoldable pub takeOffM : ℕ → ℕ → ℕ → List ℕ → List ℕ
 takeOffM u p h s = touchAllM u p (word s (stack-place u p + (h - 1))) (put-word s (stack-count u p) (h - 1))

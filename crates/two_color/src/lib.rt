@@ -16,8 +16,8 @@ ghost use mathlib.Core.Path.{_≡_};
 ghost use Prim.Native.Nat.{_+_, _*_, _/_, _<_, _≤_};
 ghost use lib.ListN.{length};
 ghost use Rattle.words.specs.Words.{word};
-ghost use Rattle.two_color.specs.Model.{Small, appendM, clearStateM, startPartyM, startPartiesM, pushEndM, fillRowsM, colorPartyM, touchM, lookM, touchAllM, takeOffM, nextPartyM, stepM, stepsM, prepareM};
-ghost use Rattle.two_color.specs.Bounds.{Appends, Pushes, Fills, Prepares};
+ghost use Rattle.two_color.specs.Model.{Small, «colour-place», appendM, clearStateM, startPartyM, startPartiesM, pushEndM, fillRowsM, colorPartyM, touchM, lookM, touchAllM, takeOffM, nextPartyM, stepM, stepsM, prepareM};
+ghost use Rattle.two_color.specs.Bounds.{Appends, Pushes, Fills, Prepares, Looks, «Looks-all», «Takes-off», Steps, «Steps-all»};
 ghost use Rattle.mark.specs.Taking.{«taken-more»};
 ghost use Rattle.two_color.specs.Contract.{«Can-color», Colored};
 use mark::Mark;
@@ -133,47 +133,52 @@ fn color_party(s: &mut [u32], u: usize, p: usize, w: usize, color: usize)
     append(s, u + 4 * p + 4, u + p, w);
 }
 
-// A neighbour of a party of that colour: refuses if it has the same, gets the other if it has none.
-fn touch(s: &mut [u32], u: usize, p: usize, color: usize, w: usize)
+// A neighbour that is to have the colour `other`: nothing happens if it has, it gets it if it has none, and else it refuses.
+// Once it is refused nobody gets a colour.
+fn touch(s: &mut [u32], u: usize, p: usize, other: usize, w: usize)
     requires { ⌜ Small u p ⌝ }
     requires { ⌜ w < 4294967296 ⌝ }
-    ensures { λ r. ⌜ now (s .exit) ≡ touchM u p color w (now (s .entry)) ⌝ }
+    requires { ⌜ colour-place u p w < length (now s) ⌝ }
+    ensures { λ r. ⌜ now (s .exit) ≡ touchM u p other w (now (s .entry)) ⌝ }
 {
-    let refused = words::get(s, u + 4 * p);
-    if refused != 0 {
+    let have = word_at(s, u + 3 * p + w);
+    if have == other {
         return;
     }
-    let have = words::get(s, u + 3 * p + w);
-    if have == color {
+    if have != 2 {
         words::put(s, u + 4 * p, 1);
         return;
     }
-    if have == 2 {
-        color_party(s, u, p, w, 1 - color % 2);
+    let refused = words::get(s, u + 4 * p);
+    if refused == 0 {
+        color_party(s, u, p, w, other);
     }
 }
 
 // The neighbour whose number stands at `at`.
-fn look(s: &mut [u32], u: usize, p: usize, color: usize, at: usize)
+fn look(s: &mut [u32], u: usize, p: usize, other: usize, at: usize)
     requires { ⌜ Small u p ⌝ }
-    ensures { λ r. ⌜ now (s .exit) ≡ lookM u p color at (now (s .entry)) ⌝ }
+    requires { ⌜ Looks u p at (now s) ⌝ }
+    ensures { λ r. ⌜ now (s .exit) ≡ lookM u p other at (now (s .entry)) ⌝ }
 {
-    let w = words::get(s, at);
-    touch(s, u, p, color, w);
+    let w = word_at(s, at);
+    touch(s, u, p, other, w);
 }
 
 // All neighbours of a party, in the order of its row.
 fn touch_all(s: &mut [u32], u: usize, p: usize, v: usize)
     requires { ⌜ Small u p ⌝ }
     requires { ⌜ v < 4294967296 ⌝ }
+    requires { ⌜ Looks-all u p v (now s) ⌝ }
     ensures { λ r. ⌜ now (s .exit) ≡ touchAllM u p v (now (s .entry)) ⌝ }
 {
     let color = words::get(s, u + 3 * p + v);
     let n = words::get(s, u + 4 * p + 5 + 2 * v);
     let row = words::get(s, u + 4 * p + 6 + 2 * v);
+    let other = 1 - color % 2;
     let mut t = 0;
     while t < n {
-        look(s, u, p, color, row + t);
+        look(s, u, p, other, row + t);
         t += 1;
     }
 }
@@ -182,6 +187,7 @@ fn touch_all(s: &mut [u32], u: usize, p: usize, v: usize)
 fn take_off(s: &mut [u32], u: usize, p: usize, h: usize)
     requires { ⌜ Small u p ⌝ }
     requires { ⌜ (0 < h) × (h < 4294967296) ⌝ }
+    requires { ⌜ Takes-off u p h (now s) ⌝ }
     ensures { λ r. ⌜ now (s .exit) ≡ takeOffM u p h (now (s .entry)) ⌝ }
 {
     let v = words::get(s, u + 2 * p + (h - 1));
@@ -209,6 +215,7 @@ fn next_party(s: &mut [u32], u: usize, p: usize)
 // refused nothing happens.
 fn step(s: &mut [u32], u: usize, p: usize)
     requires { ⌜ Small u p ⌝ }
+    requires { ⌜ Steps u p (now s) ⌝ }
     ensures { λ r. ⌜ now (s .exit) ≡ stepM u p (now (s .entry)) ⌝ }
 {
     let refused = words::get(s, u + 4 * p);
@@ -226,6 +233,7 @@ fn step(s: &mut [u32], u: usize, p: usize)
 // Each party is passed once and comes off once: 2·p steps suffice, and one after the end does nothing.
 fn all_steps(s: &mut [u32], u: usize, p: usize)
     requires { ⌜ Small u p ⌝ }
+    requires { ⌜ Steps-all u p (2 * p) (now s) ⌝ }
     ensures { λ r. ⌜ now (s .exit) ≡ stepsM u p (2 * p) (now (s .entry)) ⌝ }
 {
     let n = 2 * p;

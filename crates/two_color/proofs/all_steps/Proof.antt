@@ -1,8 +1,9 @@
 use Prim.Native.Nat.{_≤_, _*_, _-_}
-use mathlib.Core.Path.{_≡_, refl, sym, _∙_, ap}
+use mathlib.Core.Path.{_≡_, refl, sym, _∙_, ap, subst}
 use native.Mathlib.Omega.{arith}
 use lib.ListN.{length}
 use Rattle.two_color.specs.Model.{stepM, stepsM}
+use Rattle.two_color.specs.Bounds.{Steps}
 use Rattle.two_color.proofs.ModelLaws.{steps-more}
 use borrow.Author.Needs.{needs}
 use Rattle.two_color.proofs.all_steps.Statement.{statement}
@@ -17,6 +18,13 @@ abbrev μ-loop : tie.MeasureT-loop
 loop-holds : tie.Need-loop-holds Inv-loop μ-loop
 unfolding stepsM
 loop-holds c = (omega arith, refl, refl)
+
+step-requires : tie.Need-step-requires Inv-loop μ-loop
+step-requires c κs =
+    let a = c .before .before .before .before .args in
+    let pre = c .before .before .before .before .pre in
+    let l = c .before .before .loop in
+    (pre .0, subst (Steps (a .u) (a .p)) (sym (l .inv .2)) (pre .1 .steps (l .k) (c .before .loop-test .taken)))
 
 loop-again : tie.Need-loop-again Inv-loop μ-loop
 loop-again c =
@@ -37,7 +45,7 @@ all-steps-spec =
     μ-loop
     (λ c. search needs)
     loop-holds
-    (λ c κs. search needs)
+    step-requires
     (λ c. search needs)
     (λ c. search needs)
     loop-again

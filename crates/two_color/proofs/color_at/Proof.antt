@@ -1,10 +1,11 @@
 use Prim.Native.Nat.{_+_, _*_, _<_}
-use mathlib.Core.Path.{_≡_, refl, _∙_, ap}
+use mathlib.Core.Path.{_≡_, refl, sym, _∙_, ap, subst}
 use native.Mathlib.Omega.{arith}
 use Rattle.words.specs.Words.{word}
-use Rattle.two_color.specs.Model.{stepsM}
+use Rattle.two_color.specs.Model.{prepareM, stepsM}
+use Rattle.two_color.specs.Bounds.{Steps-all}
 use Rattle.two_color.proofs.Beginning.{prepared-fits}
-use Rattle.two_color.proofs.Finishing.{none-colored, last-words, refused-colored, found-colored}
+use Rattle.two_color.proofs.Finishing.{none-colored, last-words, all-fit, refused-colored, found-colored}
 use borrow.Author.Needs.{needs}
 use Rattle.two_color.proofs.color_at.Statement.{statement}
 use Rattle.two_color.proofs.color_at.Tie as tie
@@ -20,6 +21,14 @@ prepare-requires c κs =
     let can = c .before .before .before .before .pre in
     let some : 0 < a .p = omega (arith, c .before .if1 .left) in
     (record { low = can .low; few = can .few }, (can .short, (can .narrow, prepared-fits (a .u) (a .p) (a .d) (a .list .now) (a .s .now) can some)))
+
+all-steps-requires : tie.Need-all-steps-requires
+all-steps-requires c κs =
+    let a = c .before .before .before .before .before .before .before .before .args in
+    let can = c .before .before .before .before .before .before .before .before .pre in
+    let some : 0 < a .p = omega (arith, c .before .before .before .before .before .if1 .left) in
+    let fit : Steps-all (a .u) (a .p) (2 * a .p) (prepareM (a .u) (a .p) (a .d) (a .list .now) (a .s .now)) = all-fit (a .u) (a .p) (a .d) (a .list .now) (a .s .now) can some in
+    (record { low = can .low; few = can .few }, subst (Steps-all (a .u) (a .p) (2 * a .p)) (sym (c .before .before .before .prepare .ensures)) fit)
 
 returns-2 : tie.Need-returns-2
 returns-2 c =
@@ -49,7 +58,7 @@ color-at-spec =
     (tie.spec
     returns
     prepare-requires
-    (λ c κs. search needs)
+    all-steps-requires
     (λ c. search needs)
     (λ c. search needs)
     (λ c κs. search needs)

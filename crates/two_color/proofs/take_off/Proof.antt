@@ -3,6 +3,12 @@ use borrow.Author.Needs.{needs}
 use Rattle.two_color.proofs.take_off.Statement.{statement}
 use Rattle.two_color.proofs.take_off.Tie as tie
 
+touch-all-requires : tie.Need-touch-all-requires
+touch-all-requires c κs =
+    let pre = c .before .before .before .before .before .before .before .before .pre in
+    let v = c .before .before .before .before .before .get in
+    (pre .0, (v .ensures .1, rw (v .ensures .0, c .before .before .before .put .ensures) (pre .1 .1)))
+
 returns : tie.Need-returns
 unfolding takeOffM
 returns c = cc
@@ -21,6 +27,6 @@ take-off-spec =
     (λ c. search needs)
     (λ c. search needs)
     (λ c κs. search needs)
-    (λ c κs. search needs)
+    touch-all-requires
     (λ c. search needs)
     returns)

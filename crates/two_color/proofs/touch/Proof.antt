@@ -2,7 +2,7 @@ use Prim.Native.Nat.{_+_, _*_}
 use mathlib.Core.Path.{_≡_, sym, _∙_}
 use native.Mathlib.Omega.{arith}
 use Rattle.words.specs.Words.{word}
-use Rattle.two_color.proofs.ModelLaws.{touch-rests, touch-refuses, touch-colors, touch-passes}
+use Rattle.two_color.proofs.ModelLaws.{touch-passes, touch-refuses, touch-colors, touch-rests}
 use borrow.Author.Needs.{needs}
 use Rattle.two_color.proofs.touch.Statement.{statement}
 use Rattle.two_color.proofs.touch.Tie as tie
@@ -10,27 +10,27 @@ use Rattle.two_color.proofs.touch.Tie as tie
 returns : tie.Need-returns
 returns c =
     let a = c .before .before .before .before .args in
-    sym (touch-rests (a .u) (a .p) (a .s .now) (a .color) (a .w) (λ e. c .if1 .taken (c .before .get .ensures .0 ∙ e)))
+    sym (touch-passes (a .u) (a .p) (a .s .now) (a .other) (a .w) (sym (c .before .word-at .ensures .0) ∙ c .if1 .taken))
 
 returns-2 : tie.Need-returns-2
 returns-2 c =
-    let a = c .before .before .before .before .before .before .before .before .before .before .before .args in
-    let h : word (a .s .now) (a .u + 4 * a .p) ≡ 0 = omega (arith, c .before .before .before .before .before .before .before .before .get .ensures .0, c .before .before .before .before .before .before .before .if1 .left) in
-    cc (touch-refuses (a .u) (a .p) (a .s .now) (a .color) (a .w) h (sym (c .before .before .before .before .before .get2 .ensures .0) ∙ c .before .before .before .before .if2 .taken))
+    let a = c .before .before .before .before .before .before .before .before .before .args in
+    let e = c .before .before .before .before .before .before .word-at .ensures .0 in
+    c .before .before .put .ensures ∙ sym (touch-refuses (a .u) (a .p) (a .s .now) (a .other) (a .w) (λ k. c .before .before .before .before .before .if1 .left (e ∙ k)) (λ k. c .before .before .before .before .if2 .taken (e ∙ k)))
 
 returns-3 : tie.Need-returns-3
 returns-3 c =
     let a = c .before .before .before .before .before .before .before .before .before .before .before .before .args in
-    let h : word (a .s .now) (a .u + 4 * a .p) ≡ 0 = omega (arith, c .before .before .before .before .before .before .before .before .before .get .ensures .0, c .before .before .before .before .before .before .before .before .if1 .left) in
-    let e = c .before .before .before .before .before .before .get2 .ensures .0 in
-    c .before .before .color-party .ensures ∙ sym (touch-colors (a .u) (a .p) (a .s .now) (a .color) (a .w) h (λ k. c .before .before .before .before .before .if2 .left (e ∙ k)) (sym e ∙ c .before .before .before .before .if3 .taken))
+    let e = c .before .before .before .before .before .before .before .before .before .word-at .ensures .0 in
+    let two : word (a .s .now) (a .u + 3 * a .p + a .w) ≡ 2 = omega (arith, e, c .before .before .before .before .before .before .before .if2 .left) in
+    c .before .before .color-party .ensures ∙ sym (touch-colors (a .u) (a .p) (a .s .now) (a .other) (a .w) (λ k. c .before .before .before .before .before .before .before .before .if1 .left (e ∙ k)) two (sym (c .before .before .before .before .before .get .ensures .0) ∙ c .before .before .before .before .if3 .taken))
 
 returns-4 : tie.Need-returns-4
 returns-4 c =
     let a = c .before .before .before .before .before .before .before .before .args in
-    let h : word (a .s .now) (a .u + 4 * a .p) ≡ 0 = omega (arith, c .before .before .before .before .before .get .ensures .0, c .before .before .before .before .if1 .left) in
-    let e = c .before .before .get2 .ensures .0 in
-    sym (touch-passes (a .u) (a .p) (a .s .now) (a .color) (a .w) h (λ k. c .before .if2 .left (e ∙ k)) (λ k. c .if3 .left (e ∙ k)))
+    let e = c .before .before .before .before .before .word-at .ensures .0 in
+    let two : word (a .s .now) (a .u + 3 * a .p + a .w) ≡ 2 = omega (arith, e, c .before .before .before .if2 .left) in
+    sym (touch-rests (a .u) (a .p) (a .s .now) (a .other) (a .w) (λ k. c .before .before .before .before .if1 .left (e ∙ k)) two (λ k. c .if3 .left (c .before .get .ensures .0 ∙ k)))
 
 pub touch-spec : {M : Type 1} → statement M
 touch-spec =
@@ -38,19 +38,18 @@ touch-spec =
     (tie.spec
     (λ c. search needs)
     (λ c. search needs)
+    (λ c. search needs)
     (λ c κs. search needs)
     (λ c. search needs)
     returns
-    (λ c. search needs)
-    (λ c. search needs)
-    (λ c. search needs)
-    (λ c κs. search needs)
     (λ c. search needs)
     (λ c. search needs)
     (λ c κs. search needs)
     (λ c. search needs)
     returns-2
     (λ c. search needs)
+    (λ c. search needs)
+    (λ c κs. search needs)
     (λ c κs. search needs)
     (λ c. search needs)
     returns-3
