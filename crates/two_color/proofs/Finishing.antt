@@ -39,6 +39,9 @@ first-words u p d list s = prepareM u p d list s
 abbrev pub last-words : ℕ → ℕ → ℕ → List ℕ → List ℕ → List ℕ
 last-words u p d list s = stepsM u p (2 * p) (first-words u p d list s)
 
+pub last-is : (u p d : ℕ) (list s t z : List ℕ) → t ≡ first-words u p d list s → z ≡ stepsM u p (2 * p) t → z ≡ last-words u p d list s
+last-is u p d list s t z e h = rw e at h
+
 module _ (u p d : ℕ) (list s : List ℕ) (can : Can-color p d u list s) (some : 0 < p) where
   xs : List Appt
   xs = appts list
@@ -60,9 +63,9 @@ module _ (u p d : ℕ) (list s : List ℕ) (can : Can-color p d u list s) (some 
   met v = all-map (λ w h. h .1) (neighbours v (appts list)) (neighbours-below p (appts list) 0 (can .listed) v)
 
   -- Every step can be made.
-  pub all-fit : Steps-all u p (2 * p) (first-words u p d list s)
+  pub all-fit : (t : List ℕ) → t ≡ first-words u p d list s → Steps-all u p (2 * p) t
   unfolding xs
-  all-fit = steps-fit u p small (first-words u p d list s) fits d xs (begun .rows) met (begun .inside) (2 * p) (begun .shows)
+  all-fit t e = rw e (steps-fit u p small (first-words u p d list s) fits d xs (begun .rows) met (begun .inside) (2 * p) (begun .shows))
 
   whole : Shown u p (first-words u p d list s) (last-words u p d list s) (search-below p xs p) (last .next)
   unfolding xs last

@@ -1,11 +1,9 @@
 use Prim.Native.Nat.{_+_, _*_, _<_}
-use mathlib.Core.Path.{_≡_, refl, sym, _∙_, ap, subst}
+use mathlib.Core.Path.{_≡_, refl, _∙_}
 use native.Mathlib.Omega.{arith}
 use Rattle.words.specs.Words.{word}
-use Rattle.two_color.specs.Model.{prepareM, stepsM}
-use Rattle.two_color.specs.Bounds.{Steps-all}
 use Rattle.two_color.proofs.Beginning.{prepared-fits}
-use Rattle.two_color.proofs.Finishing.{none-colored, last-words, all-fit, refused-colored, found-colored}
+use Rattle.two_color.proofs.Finishing.{none-colored, last-words, last-is, all-fit, refused-colored, found-colored}
 use borrow.Author.Needs.{needs}
 use Rattle.two_color.proofs.color_at.Statement.{statement}
 use Rattle.two_color.proofs.color_at.Tie as tie
@@ -27,15 +25,15 @@ all-steps-requires c κs =
     let a = c .before .before .before .before .before .before .before .before .args in
     let can = c .before .before .before .before .before .before .before .before .pre in
     let some : 0 < a .p = omega (arith, c .before .before .before .before .before .if1 .left) in
-    let fit : Steps-all (a .u) (a .p) (2 * a .p) (prepareM (a .u) (a .p) (a .d) (a .list .now) (a .s .now)) = all-fit (a .u) (a .p) (a .d) (a .list .now) (a .s .now) can some in
-    (record { low = can .low; few = can .few }, subst (Steps-all (a .u) (a .p) (2 * a .p)) (sym (c .before .before .before .prepare .ensures)) fit)
+    let t = c .before .before .before .prepare in
+    (record { low = can .low; few = can .few }, all-fit (a .u) (a .p) (a .d) (a .list .now) (a .s .now) can some (t .last .0) (t .ensures))
 
 returns-2 : tie.Need-returns-2
 returns-2 c =
     let a = c .before .before .before .before .before .before .before .before .before .before .before .before .before .before .args in
     let some : 0 < a .p = omega (arith, c .before .before .before .before .before .before .before .before .before .before .before .if1 .left) in
     let e : c .before .before .before .before .before .all-steps .last .0 ≡ last-words (a .u) (a .p) (a .d) (a .list .now) (a .s .now) =
-    c .before .before .before .before .before .all-steps .ensures ∙ ap (stepsM (a .u) (a .p) (2 * a .p)) (c .before .before .before .before .before .before .before .before .before .prepare .ensures) in
+    last-is (a .u) (a .p) (a .d) (a .list .now) (a .s .now) (c .before .before .before .before .before .before .before .before .before .prepare .last .0) (c .before .before .before .before .before .all-steps .last .0) (c .before .before .before .before .before .before .before .before .before .prepare .ensures) (c .before .before .before .before .before .all-steps .ensures) in
     let n : word (c .before .before .before .before .before .all-steps .last .0) (a .u + 4 * a .p) ≡ 0 → ⊥ = λ z. c .if2 .taken (c .before .get .ensures .0 ∙ z) in
     let n' : word (last-words (a .u) (a .p) (a .d) (a .list .now) (a .s .now)) (a .u + 4 * a .p) ≡ 0 → ⊥ = rw e at n in
     rw e (refused-colored (a .u) (a .p) (a .d) (a .list .now) (a .s .now) (c .before .before .before .before .before .before .before .before .before .before .before .before .before .before .pre) some (a .u + 2 * a .p) refl n')
@@ -46,7 +44,7 @@ returns-3 c =
     let some : 0 < a .p = omega (arith, c .before .before .before .before .before .before .before .before .before .before .before .before .before .if1 .left) in
     let t = last-words (a .u) (a .p) (a .d) (a .list .now) (a .s .now) in
     let e : c .before .before .before .before .before .before .before .all-steps .last .0 ≡ t =
-    c .before .before .before .before .before .before .before .all-steps .ensures ∙ ap (stepsM (a .u) (a .p) (2 * a .p)) (c .before .before .before .before .before .before .before .before .before .before .before .prepare .ensures) in
+    last-is (a .u) (a .p) (a .d) (a .list .now) (a .s .now) (c .before .before .before .before .before .before .before .before .before .before .before .prepare .last .0) (c .before .before .before .before .before .before .before .all-steps .last .0) (c .before .before .before .before .before .before .before .before .before .before .before .prepare .ensures) (c .before .before .before .before .before .before .before .all-steps .ensures) in
     let z : word (c .before .before .before .before .before .before .before .all-steps .last .0) (a .u + 4 * a .p) ≡ 0 = omega (arith, c .before .before .before .get .ensures .0, c .before .before .if2 .left) in
     let z' : word t (a .u + 4 * a .p) ≡ 0 = rw e at z in
     let l : c .get2 .result ≡ word t (a .u + 4 * a .p + 3) = rw e at (c .get2 .ensures .0) in

@@ -23,7 +23,7 @@ returns-3 c =
     let a = c .before .before .before .before .before .before .before .before .before .before .before .before .args in
     let e = c .before .before .before .before .before .before .before .before .before .word-at .ensures .0 in
     let two : word (a .s .now) (a .u + 3 * a .p + a .w) ≡ 2 = omega (arith, e, c .before .before .before .before .before .before .before .if2 .left) in
-    c .before .before .color-party .ensures ∙ sym (touch-colors (a .u) (a .p) (a .s .now) (a .other) (a .w) (λ k. c .before .before .before .before .before .before .before .before .if1 .left (e ∙ k)) two (sym (c .before .before .before .before .before .get .ensures .0) ∙ c .before .before .before .before .if3 .taken))
+    rw (touch-colors (a .u) (a .p) (a .s .now) (a .other) (a .w) (λ k. c .before .before .before .before .before .before .before .before .if1 .left (e ∙ k)) two (sym (c .before .before .before .before .before .get .ensures .0) ∙ c .before .before .before .before .if3 .taken)) (c .before .before .color-party .ensures)
 
 returns-4 : tie.Need-returns-4
 returns-4 c =
