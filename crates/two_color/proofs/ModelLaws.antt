@@ -6,12 +6,8 @@ use native.Mathlib.Omega.{arith}
 use native.Mathlib.Numerals.{add-one}
 use borrow.Author.Tests.{eq-eqb, ne-eqb, lt-ltb, le-ltb}
 use Rattle.words.specs.Words.{word, put-word}
-use Rattle.two_color.specs.Model.{right-place, stack-place, colour-place, refused-place, next-place, stack-count, left-count, right-count, row-count, row-start, appendM, startPartyM, startPartiesM, pushEndM, fillRowsM, colorPartyM, touchM, lookM, looksM, takeOffM, nextPartyM, stepM, stepsM}
-use Rattle.two_color.specs.Bounds.{Pushes, Fills, Looks, Looks-all}
-
--- what color_party does before it chooses the side
-abbrev pub stacked : ℕ → ℕ → ℕ → ℕ → List ℕ → List ℕ
-stacked u p w color s = appendM (stack-count u p) (stack-place u p) w (put-word s (colour-place u p w) color)
+use Rattle.two_color.specs.Model.{right-place, colour-place, refused-place, next-place, stack-count, left-count, right-count, row-count, row-start, appendM, startPartyM, startPartiesM, pushEndM, fillRowsM, stacked, colorPartyM, touchM, lookM, looksM, takeOffM, nextPartyM, stepM, stepsM}
+use Rattle.two_color.specs.Bounds.{Pushes, Fills, Paints, Looks, Looks-all, Goes-on}
 
 module _ (u p : ℕ) (s : List ℕ) where
   pub color-left : (w color : ℕ) → color ≡ 0 → colorPartyM u p w color s ≡ appendM (left-count u p) u w (stacked u p w color s)
@@ -50,6 +46,9 @@ module _ (u p : ℕ) (s : List ℕ) where
   unfolding nextPartyM
   next-passes v e h k = rw (e, lt-ltb v p h, ne-eqb (word s (colour-place u p v)) 2 k)
 
+  pub next-paints : (v : ℕ) → word s (next-place u p) ≡ v → v < p → word s (colour-place u p v) ≡ 2 → Goes-on u p s → Paints u p v 1 (put-word s (next-place u p) (v + 1))
+  next-paints v e h k g = rw e at (g .paints) h k
+
   pub step-rests : (word s (refused-place u p) ≡ 0 → ⊥) → stepM u p s ≡ s
   unfolding stepM
   step-rests h = rw (ne-eqb (word s (refused-place u p)) 0 h)
@@ -69,7 +68,7 @@ module _ (u p : ℕ) (s : List ℕ) where
   -- the loop of `touch_all`: its next neighbour can be looked at, and one turn further
   pub looks-ask :
       (v color n row t : ℕ) (x : List ℕ) → color ≡ word s (colour-place u p v) → n ≡ word s (row-count u p v) → row ≡ word s (row-start u p v) →
-      x ≡ looksM u p (1 - color % 2) row t s → t < n → Looks-all u p v s → Looks u p (row + t) x
+      x ≡ looksM u p (1 - color % 2) row t s → t < n → Looks-all u p v s → Looks u p (1 - color % 2) (row + t) x
   looks-ask v color n row t x ec en er ex l h = rw (ex, er, ec) (h .looks t (omega arith))
 
   pub looks-more :

@@ -11,8 +11,9 @@ use Rattle.words.specs.Words.{word, put-word}
 use Rattle.words.proofs.Frames.{here, away, length-put}
 use Rattle.words.proofs.Sums.{all-map}
 use Rattle.two_color.specs.TwoColor.{Coloured-party, Colouring, coloured, colour-of, Search, going, refused, side}
-use Rattle.two_color.specs.Model.{Small, right-place, stack-place, colour-place, refused-place, next-place, stack-count, left-count, right-count, appendM, colorPartyM}
-use Rattle.two_color.proofs.ModelLaws.{stacked, color-left, color-right}
+use Rattle.two_color.specs.Model.{Small, right-place, stack-place, colour-place, refused-place, next-place, stack-count, left-count, right-count, appendM, stacked, colorPartyM}
+use Rattle.two_color.specs.Bounds.{Appends, Paints}
+use Rattle.two_color.proofs.ModelLaws.{color-left, color-right}
 use Rattle.two_color.proofs.Colouring.{colour-new, colour-other, still-coloured, Each-once, side-same, side-other, sides-length, coloured-le}
 use Rattle.two_color.proofs.Regions.{Same}
 use Rattle.two_color.proofs.Held.{newest, newest-same, Held, held-same, held-more, Appended, append-does}
@@ -46,6 +47,8 @@ record Painted (u p w c k a h n : ℕ) (s t : List ℕ) : Type 0 where
   top : word t (u + 2 * p + h) ≡ w
   count : word t k ≡ n + 1
   last : word t (a + n) ≡ w
+  stack-fits : Appends (stack-count u p) (stack-place u p) (put-word s (colour-place u p w) c)
+  side-fits : Appends k a (stacked u p w c s)
   other : (i : ℕ) → (i ≡ u + 3 * p + w → ⊥) → (i ≡ u + 4 * p + 2 → ⊥) → (i ≡ u + 2 * p + h → ⊥) → (i ≡ k → ⊥) → (i ≡ a + n → ⊥) → word t i ≡ word s i
 
 -- k counts a side, and a is where it stands
@@ -87,6 +90,8 @@ module _ (u p : ℕ) (small : Small u p) (s : List ℕ) (fits : u + 4 * p + 5 �
         top = B .other (u + 2 * p + h) (λ q. omega (arith, at .low)) (λ q. omega (arith, at .upto)) ∙ A .last;
         count = B .count;
         last = B .last;
+        stack-fits = record { count = omega arith; next = omega arith };
+        side-fits = record { count = omega (arith, at .high); next = omega (arith, at .upto) };
         other = λ i n1 n2 n3 n4 n5. B .other i n4 n5 ∙ A .other i n2 n3 ∙ away s (colour-place u p w) i c n1;
       }
 
@@ -174,8 +179,8 @@ module _ (u p : ℕ) (small : Small u p) (s₀ : List ℕ) (fits : u + 4 * p + 5
           waiting = rw (e .top, old);
         }
 
-    -- A party without a colour gets c and goes on the stack and to the end of its side.
-    pub color-shows : Shows u p s₀ s so-far stack next → Shows u p s₀ (colorPartyM u p w c s) (coloured w c ∷ so-far) (w ∷ stack) next
+    -- A party without a colour gets c and goes on the stack and to the end of its side, where there is a place for it.
+    pub color-shows : Shows u p s₀ s so-far stack next → Shows u p s₀ (colorPartyM u p w c s) (coloured w c ∷ so-far) (w ∷ stack) next × Paints u p w c s
     color-shows x =
         let inside : u + 4 * p + 5 ≤ length s = omega (arith, x .core .frame .len) in
         let coloured-low : suc (length so-far) ≤ p = coloured-le p (coloured w c ∷ so-far) (below, two, free, x .core .each-once) in
@@ -187,19 +192,23 @@ module _ (u p : ℕ) (small : Small u p) (s₀ : List ℕ) (fits : u + 4 * p + 5
           | yes e ↦
               let q = painted u p small s inside w c (left-count u p) u (length stack) (length (side 0 so-far)) below two (left-at u p) low l-low (x .core .height) (x .lefts .count) in
               let both = painted-sides (left-at u p) below low l-low q (right-count u p) (right-place u p) (side 0 so-far) (side 1 so-far) (right-at u p) (λ z. omega arith) (λ i j g h z. omega arith) refl (omega arith) (x .lefts) (x .rights) in
-              rw (color-left u p s w c e)
-              (record {
-                core = painted-core (left-count u p) u (length (side 0 so-far)) _ (left-at u p) l-low low (x .core) q;
-                lefts = rw (side-same 0 (coloured w c) so-far (sym e)) (both .0);
-                rights = rw (side-other 1 (coloured w c) so-far (λ z. omega arith)) (both .1);
-              })
+              rw (color-left u p s w c e) (
+                record {
+                  core = painted-core (left-count u p) u (length (side 0 so-far)) _ (left-at u p) l-low low (x .core) q;
+                  lefts = rw (side-same 0 (coloured w c) so-far (sym e)) (both .0);
+                  rights = rw (side-other 1 (coloured w c) so-far (λ z. omega arith)) (both .1);
+                },
+                record { colour = omega arith; stack = q .stack-fits; left = λ z. q .side-fits; right = λ n. absurd (n e) },
+              )
           | no e ↦
               let q = painted u p small s inside w c (right-count u p) (right-place u p) (length stack) (length (side 1 so-far)) below two (right-at u p) low r-low (x .core .height) (x .rights .count) in
               let both = painted-sides (right-at u p) below low r-low q (left-count u p) u (side 1 so-far) (side 0 so-far) (left-at u p) (λ z. omega arith) (λ i j g h z. omega arith) refl (omega arith) (x .rights) (x .lefts) in
-              rw (color-right u p s w c e)
-              (record {
-                core = painted-core (right-count u p) (right-place u p) (length (side 1 so-far)) _ (right-at u p) r-low low (x .core) q;
-                lefts = rw (side-other 0 (coloured w c) so-far (λ z. e (sym z))) (both .1);
-                rights = rw (side-same 1 (coloured w c) so-far (omega arith)) (both .0);
-              })
+              rw (color-right u p s w c e) (
+                record {
+                  core = painted-core (right-count u p) (right-place u p) (length (side 1 so-far)) _ (right-at u p) r-low low (x .core) q;
+                  lefts = rw (side-other 0 (coloured w c) so-far (λ z. e (sym z))) (both .1);
+                  rights = rw (side-same 1 (coloured w c) so-far (omega arith)) (both .0);
+                },
+                record { colour = omega arith; stack = q .stack-fits; left = λ z. absurd (e z); right = λ n. q .side-fits },
+              )
         ]

@@ -15,7 +15,7 @@ use Rattle.appointments.specs.Appointments.{Appt}
 use Rattle.two_color.specs.TwoColor.{Colouring, colour-of, neighbours, Search, going, refused, touch, touch-all, pop, side}
 use Rattle.two_color.specs.Contract.{region}
 use Rattle.two_color.specs.Model.{Small, stack-place, colour-place, refused-place, next-place, stack-count, left-count, right-count, row-count, row-start, row-place, touchM, lookM, looksM, touchAllM, takeOffM, nextPartyM, stepM, stepsM}
-use Rattle.two_color.specs.Bounds.{Looks, Looks-all, Takes-off, Steps, Steps-all}
+use Rattle.two_color.specs.Bounds.{Touches, Looks, Looks-all, Takes-off, Goes-on, Steps, Steps-all}
 use Rattle.two_color.proofs.ModelLaws.{touch-rests, touch-refuses, touch-colors, touch-passes, next-none, next-colors, next-passes, step-rests, step-next, step-off}
 use Rattle.two_color.proofs.Colouring.{colour-le, sides-length, coloured-le}
 use Rattle.two_color.proofs.Regions.{region-all}
@@ -56,9 +56,17 @@ module _ (u p : ℕ) (small : Small u p) (s₀ : List ℕ) (fits : u + 4 * p + 5
           (refuse-shows s (x .core .frame))
       go (no q) (yes z) =
           rw (touch-colors u p s (1 - c) w (λ g. omega (arith, e)) (e ∙ z) (x .core .refusal), ne-eqb (colour-of w so-far) c q, eq-eqb (colour-of w so-far) 2 z)
-          (color-shows u p small s₀ fits s so-far stack k w (1 - c) below (omega arith) z x)
+          (color-shows u p small s₀ fits s so-far stack k w (1 - c) below (omega arith) z x .0)
       go (no q) (no z) =
           rw (touch-passes u p s (1 - c) w (omega (arith, e, colour-le p so-far (x .core .each-once) w)), ne-eqb (colour-of w so-far) c q, ne-eqb (colour-of w so-far) 2 z) x
+
+  touch-fits : (c w : ℕ) → c ≤ 1 → w < p → (s : List ℕ) (r : Search) (k : ℕ) → Shown u p s₀ s r k → Touches u p (1 - c) w s
+  touch-fits c w two below s refused k h = record { colour = omega (arith, h .1 .len); paints = λ e z. absurd (omega (arith, h .0)) }
+  touch-fits c w two below s (going so-far stack) k x =
+      record {
+        colour = omega (arith, x .core .frame .len);
+        paints = λ e z. color-shows u p small s₀ fits s so-far stack k w (1 - c) below (omega arith) (sym (x .core .colours w below) ∙ e) x .1;
+      }
 
   -- the first n words of a row, which the search doesn't change
   module _ (c : ℕ) (two : c ≤ 1) (row : ℕ) (above : u + 4 * p + 5 ≤ row) (s : List ℕ) (r : Search) (k : ℕ) (x : Shown u p s₀ s r k) where
@@ -74,11 +82,13 @@ module _ (u p : ℕ) (small : Small u p) (s₀ : List ℕ) (fits : u + 4 * p + 5
         rw (touch-all-snoc c ws w r, e) (touch-shows c w two (a n (omega arith)) t (touch-all c ws r) k old)
 
     -- each of them can be looked at
-    looks-fit : (n : ℕ) → row + n ≤ length s₀ → ((i : ℕ) → i < n → word s₀ (row + i) < p) → (t : ℕ) → t < n → Looks u p (row + t) (looksM u p (1 - c) row t s)
+    looks-fit : (n : ℕ) → row + n ≤ length s₀ → ((i : ℕ) → i < n → word s₀ (row + i) < p) → (t : ℕ) → t < n → Looks u p (1 - c) (row + t) (looksM u p (1 - c) row t s)
     looks-fit n inside a t l =
         let y : List ℕ = looksM u p (1 - c) row t s in
-        let f : Within u (u + 4 * p + 5) s₀ y = shown-within u p s₀ y (touch-all c (region s₀ row t) r) k (looks-show t (λ i m. a i (omega arith))) in
-        record { here = omega (arith, f .len); colour = omega (arith, f .len, f .over (row + t) (omega arith), a t l) }
+        let old : Shown u p s₀ y (touch-all c (region s₀ row t) r) k = looks-show t (λ i m. a i (omega arith)) in
+        let f : Within u (u + 4 * p + 5) s₀ y = shown-within u p s₀ y (touch-all c (region s₀ row t) r) k old in
+        let e : word y (row + t) ≡ word s₀ (row + t) = f .over (row + t) (omega arith) in
+        record { here = omega (arith, f .len); touches = rw e (touch-fits c (word s₀ (row + t)) two (a t l) y (touch-all c (region s₀ row t) r) k old) }
 
   -- ── a word of the state ──
 
@@ -151,19 +161,29 @@ module _ (u p : ℕ) (small : Small u p) (s₀ : List ℕ) (fits : u + 4 * p + 5
 
     -- ── the next party ──
 
-    next-shows : (s : List ℕ) (so-far : Colouring) (k : ℕ) → k < p → Shows u p s₀ s so-far [] k → Shown u p s₀ (nextPartyM u p s) (begun k so-far) (suc k)
-    unfolding begun newest
-    next-shows s so-far k below x =
-        let passed : Shows u p s₀ (put-word s (next-place u p) (k + 1)) so-far [] (suc k) =
+    passed : (s : List ℕ) (so-far : Colouring) (k : ℕ) → k < p → Shows u p s₀ s so-far [] k → Shows u p s₀ (put-word s (next-place u p) (k + 1)) so-far [] (suc k)
+    unfolding newest
+    passed s so-far k below x =
         put-shows s so-far [] k x (next-place u p) (k + 1) (omega arith) (omega arith) [] (suc k) (omega arith) tt refl
         (here s (next-place u p) (k + 1) (omega (arith, x .core .frame .len)) (omega (arith, small .few)) ∙ omega arith)
-        (away s (next-place u p) (stack-count u p) (k + 1) (λ e. omega arith) ∙ x .core .height) in
+        (away s (next-place u p) (stack-count u p) (k + 1) (λ e. omega arith) ∙ x .core .height)
+
+    next-fits : (s : List ℕ) (so-far : Colouring) (k : ℕ) → Shows u p s₀ s so-far [] k → Goes-on u p s
+    next-fits s so-far k x =
+        record {
+          paints = rw (x .core .party) (λ below e.
+              color-shows u p small s₀ fits (put-word s (next-place u p) (k + 1)) so-far [] (suc k) k 1 below (omega arith) (sym (x .core .colours k below) ∙ e) (passed s so-far k below x) .1);
+        }
+
+    next-shows : (s : List ℕ) (so-far : Colouring) (k : ℕ) → k < p → Shows u p s₀ s so-far [] k → Shown u p s₀ (nextPartyM u p s) (begun k so-far) (suc k)
+    unfolding begun
+    next-shows s so-far k below x =
         let e : word s (colour-place u p k) ≡ colour-of k so-far = x .core .colours k below in
         elim (ℕ-discrete (colour-of k so-far) 2) [
           | yes q ↦
               rw (next-colors u p s k (x .core .party) below (e ∙ q), eq-eqb (colour-of k so-far) 2 q)
-              (color-shows u p small s₀ fits (put-word s (next-place u p) (k + 1)) so-far [] (suc k) k 1 below (omega arith) q passed)
-          | no q ↦ rw (next-passes u p s k (x .core .party) below (λ g. q (sym e ∙ g)), ne-eqb (colour-of k so-far) 2 q) passed
+              (color-shows u p small s₀ fits (put-word s (next-place u p) (k + 1)) so-far [] (suc k) k 1 below (omega arith) q (passed s so-far k below x) .0)
+          | no q ↦ rw (next-passes u p s k (x .core .party) below (λ g. q (sym e ∙ g)), ne-eqb (colour-of k so-far) 2 q) (passed s so-far k below x)
         ]
 
     -- ── a step ──
@@ -185,9 +205,10 @@ module _ (u p : ℕ) (small : Small u p) (s₀ : List ℕ) (fits : u + 4 * p + 5
 
     -- it can be made
     step-fits : (s : List ℕ) (r : Search) (k : ℕ) → Shown u p s₀ s r k → Steps u p s
-    step-fits s refused k h = record { off = λ z n. absurd (omega (arith, h .0)) }
-    step-fits s (going so-far (v ∷ stack)) k x = record { off = λ z n. rw (x .core .height) (off-shows s so-far v stack k x .1) }
-    step-fits s (going so-far []) k x = record { off = λ z n. absurd (n (x .core .height)) }
+    step-fits s refused k h = record { next = λ z e. absurd (omega (arith, h .0)); off = λ z n. absurd (omega (arith, h .0)) }
+    step-fits s (going so-far (v ∷ stack)) k x =
+        record { next = λ z e. absurd (omega (arith, x .core .height)); off = λ z n. rw (x .core .height) (off-shows s so-far v stack k x .1) }
+    step-fits s (going so-far []) k x = record { next = λ z e. next-fits s so-far k x; off = λ z n. absurd (n (x .core .height)) }
 
     -- n steps are n turns
     pub steps-show : (n : ℕ) → Shows u p s₀ s₀ [] [] 0 → At (stepsM u p n s₀) (iterate n (turn p xs) (stage (going [] []) 0))

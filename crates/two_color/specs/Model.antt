@@ -87,9 +87,13 @@ prepareM u p d list s =
 
 -- ── the search ──
 
+-- what color_party does before it chooses the side
+abbrev pub stacked : ℕ → ℕ → ℕ → ℕ → List ℕ → List ℕ
+stacked u p w color s = appendM (stack-count u p) (stack-place u p) w (put-word s (colour-place u p w) color)
+
 unfoldable pub colorPartyM : ℕ → ℕ → ℕ → ℕ → List ℕ → List ℕ
 colorPartyM u p w color s =
-    let t : List ℕ = appendM (stack-count u p) (stack-place u p) w (put-word s (colour-place u p w) color) in
+    let t : List ℕ = stacked u p w color s in
     pick (eqb color 0) (appendM (left-count u p) u w t) (appendM (right-count u p) (right-place u p) w t)
 
 -- a neighbour that is to have the colour `other`; a colour that is neither this nor 2 refuses

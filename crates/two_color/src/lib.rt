@@ -16,8 +16,8 @@ ghost use mathlib.Core.Path.{_≡_};
 ghost use Prim.Native.Nat.{_+_, _*_, _/_, _<_, _≤_};
 ghost use lib.ListN.{length};
 ghost use Rattle.words.specs.Words.{word};
-ghost use Rattle.two_color.specs.Model.{Small, «colour-place», appendM, clearStateM, startPartyM, startPartiesM, pushEndM, fillRowsM, colorPartyM, touchM, lookM, touchAllM, takeOffM, nextPartyM, stepM, stepsM, prepareM};
-ghost use Rattle.two_color.specs.Bounds.{Appends, Pushes, Fills, Prepares, Looks, «Looks-all», «Takes-off», Steps, «Steps-all»};
+ghost use Rattle.two_color.specs.Model.{Small, appendM, clearStateM, startPartyM, startPartiesM, pushEndM, fillRowsM, colorPartyM, touchM, lookM, touchAllM, takeOffM, nextPartyM, stepM, stepsM, prepareM};
+ghost use Rattle.two_color.specs.Bounds.{Appends, Pushes, Fills, Prepares, Paints, Touches, Looks, «Looks-all», «Takes-off», «Goes-on», Steps, «Steps-all»};
 ghost use Rattle.mark.specs.Taking.{«taken-more»};
 ghost use Rattle.two_color.specs.Contract.{«Can-color», Colored};
 use mark::Mark;
@@ -34,11 +34,12 @@ pub enum TwoColoring {
 // Puts `w` at the end of the list whose length stands at `k` and whose words start at `a`. Rows, stack and sides are such lists.
 fn append(s: &mut [u32], k: usize, a: usize, w: usize)
     requires { ⌜ a < 1099511627776 ⌝ }
+    requires { ⌜ Appends k a (now s) ⌝ }
     ensures { λ r. ⌜ now (s .exit) ≡ appendM k a w (now (s .entry)) ⌝ }
 {
-    let n = words::get(s, k);
-    words::put(s, a + n, w);
-    words::put(s, k, n + 1);
+    let n = word_at(s, k);
+    set_word(s, a + n, w);
+    set_word(s, k, n + 1);
 }
 
 // Nothing is refused, party 0 is next, and the stack and both sides are empty.
@@ -79,17 +80,6 @@ fn start_parties(s: &mut [u32], u: usize, p: usize, d: usize)
     }
 }
 
-// `append`, where both places are places: no test.
-fn append_at(s: &mut [u32], k: usize, a: usize, w: usize)
-    requires { ⌜ a < 1099511627776 ⌝ }
-    requires { ⌜ Appends k a (now s) ⌝ }
-    ensures { λ r. ⌜ now (s .exit) ≡ appendM k a w (now (s .entry)) ⌝ }
-{
-    let n = word_at(s, k);
-    set_word(s, a + n, w);
-    set_word(s, k, n + 1);
-}
-
 // The number at `j` goes into the row of the party at `i`.
 fn push_end(s: &mut [u32], u: usize, p: usize, list: &[u16], i: usize, j: usize)
     requires { ⌜ Small u p ⌝ }
@@ -100,7 +90,7 @@ fn push_end(s: &mut [u32], u: usize, p: usize, list: &[u16], i: usize, j: usize)
     let v = half_word_at(list, i);
     let w = half_word_at(list, j);
     let row = word_at(s, u + 4 * p + 6 + 2 * v);
-    append_at(s, u + 4 * p + 5 + 2 * v, row, w);
+    append(s, u + 4 * p + 5 + 2 * v, row, w);
 }
 
 // Each appointment, from the newest down: its end `far` goes into the row of its end `near` (0 the first end, 1 the second).
@@ -122,9 +112,10 @@ fn fill_rows(s: &mut [u32], u: usize, p: usize, list: &[u16], near: usize, far: 
 fn color_party(s: &mut [u32], u: usize, p: usize, w: usize, color: usize)
     requires { ⌜ Small u p ⌝ }
     requires { ⌜ w < 4294967296 ⌝ }
+    requires { ⌜ Paints u p w color (now s) ⌝ }
     ensures { λ r. ⌜ now (s .exit) ≡ colorPartyM u p w color (now (s .entry)) ⌝ }
 {
-    words::put(s, u + 3 * p + w, color);
+    set_word(s, u + 3 * p + w, color);
     append(s, u + 4 * p + 2, u + 2 * p, w);
     if color == 0 {
         append(s, u + 4 * p + 3, u, w);
@@ -138,7 +129,7 @@ fn color_party(s: &mut [u32], u: usize, p: usize, w: usize, color: usize)
 fn touch(s: &mut [u32], u: usize, p: usize, other: usize, w: usize)
     requires { ⌜ Small u p ⌝ }
     requires { ⌜ w < 4294967296 ⌝ }
-    requires { ⌜ colour-place u p w < length (now s) ⌝ }
+    requires { ⌜ Touches u p other w (now s) ⌝ }
     ensures { λ r. ⌜ now (s .exit) ≡ touchM u p other w (now (s .entry)) ⌝ }
 {
     let have = word_at(s, u + 3 * p + w);
@@ -158,7 +149,7 @@ fn touch(s: &mut [u32], u: usize, p: usize, other: usize, w: usize)
 // The neighbour whose number stands at `at`.
 fn look(s: &mut [u32], u: usize, p: usize, other: usize, at: usize)
     requires { ⌜ Small u p ⌝ }
-    requires { ⌜ Looks u p at (now s) ⌝ }
+    requires { ⌜ Looks u p other at (now s) ⌝ }
     ensures { λ r. ⌜ now (s .exit) ≡ lookM u p other at (now (s .entry)) ⌝ }
 {
     let w = word_at(s, at);
@@ -198,6 +189,7 @@ fn take_off(s: &mut [u32], u: usize, p: usize, h: usize)
 // On to the next party, which gets 1 if it has no colour. After the last there is none, and nothing happens.
 fn next_party(s: &mut [u32], u: usize, p: usize)
     requires { ⌜ Small u p ⌝ }
+    requires { ⌜ Goes-on u p (now s) ⌝ }
     ensures { λ r. ⌜ now (s .exit) ≡ nextPartyM u p (now (s .entry)) ⌝ }
 {
     let v = words::get(s, u + 4 * p + 1);

@@ -1,7 +1,23 @@
+use native.Mathlib.Omega.{arith}
 use Rattle.two_color.proofs.ModelLaws.{color-left, color-right}
 use borrow.Author.Needs.{needs}
 use Rattle.two_color.proofs.color_party.Statement.{statement}
 use Rattle.two_color.proofs.color_party.Tie as tie
+
+append-requires : tie.Need-append-requires
+append-requires c κs =
+    let pre = c .before .before .before .before .before .before .pre in
+    (omega (arith, pre .0 .low, pre .0 .few), rw (c .before .before .before .set-word .ensures) (pre .1 .1 .stack))
+
+append-requires-2 : tie.Need-append-requires-2
+append-requires-2 c κs =
+    let pre = c .before .before .before .before .before .before .before .before .before .before .before .pre in
+    (omega (arith, pre .0 .low), rw (c .before .before .before .before .append .ensures, c .before .before .before .before .before .before .before .before .set-word .ensures) (pre .1 .1 .left (c .before .if1 .taken)))
+
+append-requires-3 : tie.Need-append-requires-3
+append-requires-3 c κs =
+    let pre = c .before .before .before .before .before .before .before .before .before .before .before .pre in
+    (omega (arith, pre .0 .low, pre .0 .few), rw (c .before .before .before .before .append .ensures, c .before .before .before .before .before .before .before .before .set-word .ensures) (pre .1 .1 .right (c .before .if1 .left)))
 
 returns : tie.Need-returns
 returns c =
@@ -26,17 +42,17 @@ color-party-spec =
     (λ c. search needs)
     (λ c. search needs)
     (λ c. search needs)
-    (λ c κs. search needs)
+    append-requires
     (λ c. search needs)
     (λ c. search needs)
     (λ c. search needs)
-    (λ c κs. search needs)
+    append-requires-2
     (λ c. search needs)
     returns
     (λ c. search needs)
     (λ c. search needs)
     (λ c. search needs)
     (λ c. search needs)
-    (λ c κs. search needs)
+    append-requires-3
     (λ c. search needs)
     returns-2)

@@ -1,9 +1,10 @@
 use Prim.Native.Nat.{_+_, _*_, _≤_, _<_}
-use mathlib.Core.Path.{sym, _∙_, ap}
+use mathlib.Core.Path.{_≡_, sym, _∙_, ap}
 use native.Mathlib.Omega.{arith}
-use Rattle.words.specs.Words.{word}
+use Rattle.words.specs.Words.{word, put-word}
 use Rattle.two_color.specs.Model.{colorPartyM}
-use Rattle.two_color.proofs.ModelLaws.{next-none, next-colors, next-passes}
+use Rattle.two_color.specs.Bounds.{Paints}
+use Rattle.two_color.proofs.ModelLaws.{next-paints, next-none, next-colors, next-passes}
 use borrow.Author.Needs.{needs}
 use Rattle.two_color.proofs.next_party.Statement.{statement}
 use Rattle.two_color.proofs.next_party.Tie as tie
@@ -13,6 +14,17 @@ returns c =
     let a = c .before .before .before .before .args in
     let h : a .p ≤ word (a .s .now) (a .u + 4 * a .p + 1) = omega (arith, c .before .get .ensures .0, c .if1 .taken) in
     sym (next-none (a .u) (a .p) (a .s .now) h)
+
+color-party-requires : tie.Need-color-party-requires
+color-party-requires c κs =
+    let a = c .before .before .before .before .before .before .before .before .before .before .before .before .args in
+    let pre = c .before .before .before .before .before .before .before .before .before .before .before .before .pre in
+    let v = c .before .before .before .before .before .before .before .before .before .get in
+    let e : word (a .s .now) (a .u + 4 * a .p + 1) ≡ v .result = sym (v .ensures .0) in
+    let below : v .result < a .p = omega (arith, c .before .before .before .before .before .before .before .before .if1 .left) in
+    let free : word (a .s .now) (a .u + 3 * a .p + v .result) ≡ 2 = sym (c .before .before .before .before .before .before .get2 .ensures .0) ∙ c .before .if2 .taken in
+    let paints : Paints (a .u) (a .p) (v .result) 1 (put-word (a .s .now) (a .u + 4 * a .p + 1) (v .result + 1)) = next-paints (a .u) (a .p) (a .s .now) (v .result) e below free (pre .1) in
+    (pre .0, (v .ensures .1, rw (c .before .before .before .before .put .ensures) paints))
 
 returns-2 : tie.Need-returns-2
 returns-2 c =
@@ -50,7 +62,7 @@ next-party-spec =
     (λ c. search needs)
     (λ c. search needs)
     (λ c κs. search needs)
-    (λ c κs. search needs)
+    color-party-requires
     (λ c. search needs)
     returns-2
     (λ c. search needs)

@@ -6,8 +6,8 @@ use borrow.Author.Needs.{needs}
 use Rattle.two_color.proofs.push_end.Statement.{statement}
 use Rattle.two_color.proofs.push_end.Tie as tie
 
-append-at-requires : tie.Need-append-at-requires
-append-at-requires c κs =
+append-requires : tie.Need-append-requires
+append-requires c κs =
     let a = c .before .before .before .before .before .before .before .args in
     let e : c .before .before .before .before .half-word-at .result ≡ word (a .list .now) (a .i) = c .before .before .before .before .half-word-at .ensures .0 in
     let r : c .before .word-at .result ≡ word (a .s .now) (row-start (a .u) (a .p) (word (a .list .now) (a .i))) = rw e at (c .before .word-at .ensures .0) in
@@ -34,6 +34,6 @@ push-end-spec =
     (λ c. search needs)
     (λ c. search needs)
     (λ c. search needs)
-    append-at-requires
+    append-requires
     (λ c. search needs)
     returns)

@@ -14,6 +14,13 @@ returns c =
     let a = c .before .before .before .before .args in
     sym (step-rests (a .u) (a .p) (a .s .now) (λ e. c .if1 .taken (c .before .get .ensures .0 ∙ e)))
 
+next-party-requires : tie.Need-next-party-requires
+next-party-requires c κs =
+    let a = c .before .before .before .before .before .before .before .before .args in
+    let pre = c .before .before .before .before .before .before .before .before .pre in
+    let z : word (a .s .now) (a .u + 4 * a .p) ≡ 0 = omega (arith, c .before .before .before .before .before .get .ensures .0, c .before .before .before .before .if1 .left) in
+    (pre .0, pre .1 .next z (sym (c .before .before .get2 .ensures .0) ∙ c .before .if2 .taken))
+
 returns-2 : tie.Need-returns-2
 returns-2 c =
     let a = c .before .before .before .before .before .before .before .before .before .before .before .args in
@@ -51,7 +58,7 @@ step-spec =
     (λ c. search needs)
     (λ c. search needs)
     (λ c κs. search needs)
-    (λ c κs. search needs)
+    next-party-requires
     (λ c. search needs)
     returns-2
     take-off-requires

@@ -18,6 +18,13 @@ returns-2 c =
     let e = c .before .before .before .before .before .before .word-at .ensures .0 in
     c .before .before .put .ensures ∙ sym (touch-refuses (a .u) (a .p) (a .s .now) (a .other) (a .w) (λ k. c .before .before .before .before .before .if1 .left (e ∙ k)) (λ k. c .before .before .before .before .if2 .taken (e ∙ k)))
 
+color-party-requires : tie.Need-color-party-requires
+color-party-requires c κs =
+    let a = c .before .before .before .before .before .before .before .before .before .args in
+    let pre = c .before .before .before .before .before .before .before .before .before .pre in
+    let two : word (a .s .now) (a .u + 3 * a .p + a .w) ≡ 2 = omega (arith, c .before .before .before .before .before .before .word-at .ensures .0, c .before .before .before .before .if2 .left) in
+    (pre .0, (pre .1 .0, pre .1 .1 .paints two (sym (c .before .before .get .ensures .0) ∙ c .before .if3 .taken)))
+
 returns-3 : tie.Need-returns-3
 returns-3 c =
     let a = c .before .before .before .before .before .before .before .before .before .before .before .before .args in
@@ -50,7 +57,7 @@ touch-spec =
     (λ c. search needs)
     (λ c. search needs)
     (λ c κs. search needs)
-    (λ c κs. search needs)
+    color-party-requires
     (λ c. search needs)
     returns-3
     (λ c. search needs)
