@@ -1,8 +1,7 @@
 use Prim.Native.Nat.{_+_, _*_, _≤_, _<_}
-use mathlib.Core.Path.{_≡_, sym, _∙_, ap}
+use mathlib.Core.Path.{_≡_, sym, _∙_}
 use native.Mathlib.Omega.{arith}
 use Rattle.words.specs.Words.{word, put-word}
-use Rattle.two_color.specs.Model.{colorPartyM}
 use Rattle.two_color.specs.Bounds.{Paints}
 use Rattle.two_color.proofs.ModelLaws.{next-paints, next-none, next-colors, next-passes}
 use borrow.Author.Needs.{needs}
@@ -31,9 +30,8 @@ returns-2 c =
     let a = c .before .before .before .before .before .before .before .before .before .before .before .before .before .before .before .args in
     let v = c .before .before .before .before .before .before .before .before .before .before .before .before .get .result in
     let below : v < a .p = omega (arith, c .before .before .before .before .before .before .before .before .before .before .before .if1 .left) in
-    c .before .before .color-party .ensures
-    ∙ ap (colorPartyM (a .u) (a .p) v 1) (c .before .before .before .before .before .before .before .put .ensures)
-    ∙ sym (next-colors (a .u) (a .p) (a .s .now) v (sym (c .before .before .before .before .before .before .before .before .before .before .before .before .get .ensures .0)) below (sym (c .before .before .before .before .before .before .before .before .before .get2 .ensures .0) ∙ c .before .before .before .before .if2 .taken))
+    rw (next-colors (a .u) (a .p) (a .s .now) v (sym (c .before .before .before .before .before .before .before .before .before .before .before .before .get .ensures .0)) below (sym (c .before .before .before .before .before .before .before .before .before .get2 .ensures .0) ∙ c .before .before .before .before .if2 .taken), ← c .before .before .before .before .before .before .before .put .ensures)
+    (c .before .before .color-party .ensures)
 
 returns-3 : tie.Need-returns-3
 returns-3 c =
