@@ -11,7 +11,7 @@ use Rattle.words.specs.Basics.{pick, total, iterate}
 use Rattle.words.proofs.Sums.{is-eq}
 use Rattle.words.proofs.Runs.{iterate-keeps}
 use Rattle.multigraph.specs.Multigraph.{Pair}
-use Rattle.euler.specs.Euler.{Taken, taken, none, past, take-by-first, take-by-second, or-else, first-pair, Step, Walking, standing, step-back, follow, walk-step}
+use Rattle.euler.specs.Euler.{Taken, taken, none, past, take-by, or-else, first-pair, Step, Walking, standing, step-back, follow, walk-step}
 use Rattle.euler.proofs.Taken.{ends}
 use Rattle.euler.proofs.Walks.{begin}
 
@@ -34,19 +34,15 @@ drops-cons p ps t true d = here ps
 drops-cons p ps (taken q os) false d = there p ps os d
 drops-cons p ps none false d = tt
 
-drops-first : (v : ℕ) (ps : List Pair) → Dropped ps (take-by-first v ps)
-unfolding take-by-first
-drops-first v [] = tt
-drops-first v (p ∷ ps) = drops-cons p ps (take-by-first v ps) (eqb v (p .first)) (drops-first v ps)
-
-drops-second : (v : ℕ) (ps : List Pair) → Dropped ps (take-by-second v ps)
-unfolding take-by-second
-drops-second v [] = tt
-drops-second v (p ∷ ps) = drops-cons p ps (take-by-second v ps) (eqb v (p .second)) (drops-second v ps)
+drops-by : (end : Pair → ℕ) (v : ℕ) (ps : List Pair) → Dropped ps (take-by end v ps)
+unfolding take-by
+drops-by end v [] = tt
+drops-by end v (p ∷ ps) = drops-cons p ps (take-by end v ps) (eqb v (end p)) (drops-by end v ps)
 
 drops-pair : (v : ℕ) (ps : List Pair) → Dropped ps (first-pair v ps)
 unfolding first-pair
-drops-pair v ps = go (take-by-first v ps) (take-by-second v ps) (drops-first v ps) (drops-second v ps)
+drops-pair v ps =
+    go (take-by (λ p. p .first) v ps) (take-by (λ p. p .second) v ps) (drops-by (λ p. p .first) v ps) (drops-by (λ p. p .second) v ps)
   where
     go : (t u : Taken) → Dropped ps t → Dropped ps u → Dropped ps (or-else t u)
     go (taken q os) u d e = d
@@ -59,23 +55,16 @@ lead-cons p ps true t = refl
 lead-cons p ps false (taken q os) = refl
 lead-cons p ps false none = refl
 
-kept-first : (u : ℕ) (q : Pair) (ps os : List Pair) → Drops q ps os → ends u q ≡ 0 → lead (take-by-first u os) ≡ lead (take-by-first u ps)
-unfolding take-by-first
-kept-first u q ps os (here ns) z =
-    sym (lead-cons q ns (eqb u (q .first)) (take-by-first u ns) ∙ rw (ne-eqb u (q .first) (λ e. omega (arith, is-eq e))))
-kept-first u q ps os (there p ps' os' d) z =
-    lead-cons p os' (eqb u (p .first)) (take-by-first u os')
-    ∙ ap (pick (eqb u (p .first)) (p ∷ [])) (kept-first u q ps' os' d z)
-    ∙ sym (lead-cons p ps' (eqb u (p .first)) (take-by-first u ps'))
-
-kept-second : (u : ℕ) (q : Pair) (ps os : List Pair) → Drops q ps os → ends u q ≡ 0 → lead (take-by-second u os) ≡ lead (take-by-second u ps)
-unfolding take-by-second
-kept-second u q ps os (here ns) z =
-    sym (lead-cons q ns (eqb u (q .second)) (take-by-second u ns) ∙ rw (ne-eqb u (q .second) (λ e. omega (arith, is-eq e))))
-kept-second u q ps os (there p ps' os' d) z =
-    lead-cons p os' (eqb u (p .second)) (take-by-second u os')
-    ∙ ap (pick (eqb u (p .second)) (p ∷ [])) (kept-second u q ps' os' d z)
-    ∙ sym (lead-cons p ps' (eqb u (p .second)) (take-by-second u ps'))
+kept-by :
+    (end : Pair → ℕ) (u : ℕ) (q : Pair) (ps os : List Pair) → Drops q ps os → (u ≡ end q → ⊥) →
+    lead (take-by end u os) ≡ lead (take-by end u ps)
+unfolding take-by
+kept-by end u q ps os (here ns) n =
+    sym (lead-cons q ns (eqb u (end q)) (take-by end u ns) ∙ rw (ne-eqb u (end q) n))
+kept-by end u q ps os (there p ps' os' d) n =
+    lead-cons p os' (eqb u (end p)) (take-by end u os')
+    ∙ ap (pick (eqb u (end p)) (p ∷ [])) (kept-by end u q ps' os' d n)
+    ∙ sym (lead-cons p ps' (eqb u (end p)) (take-by end u ps'))
 
 abbrev pub either-lead : List Pair → List Pair → List Pair
 either-lead [] l = l
@@ -88,9 +77,9 @@ or-lead none u = refl
 kept-pair : (u : ℕ) (q : Pair) (ps os : List Pair) → Drops q ps os → ends u q ≡ 0 → lead (first-pair u os) ≡ lead (first-pair u ps)
 unfolding first-pair
 kept-pair u q ps os d z =
-    or-lead (take-by-first u os) (take-by-second u os)
-    ∙ rw (kept-first u q ps os d z, kept-second u q ps os d z)
-    (sym (or-lead (take-by-first u ps) (take-by-second u ps)))
+    or-lead (take-by (λ p. p .first) u os) (take-by (λ p. p .second) u os)
+    ∙ rw (kept-by (λ p. p .first) u q ps os d (λ e. omega (arith, is-eq e)), kept-by (λ p. p .second) u q ps os d (λ e. omega (arith, is-eq e)))
+    (sym (or-lead (take-by (λ p. p .first) u ps) (take-by (λ p. p .second) u ps)))
 
 drops-total : (f : Pair → ℕ) (q : Pair) (ps os : List Pair) → Drops q ps os → total f ps ≡ f q + total f os
 unfolding total

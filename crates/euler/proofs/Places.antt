@@ -10,7 +10,7 @@ use lib.Dec.{eqb}
 use lib.ListN.{length, length-map}
 use Rattle.words.specs.Basics.{pick, is, All}
 use Rattle.multigraph.specs.Multigraph.{Pair}
-use Rattle.euler.specs.Euler.{Taken, taken, none, past, take-by-first, take-by-second, or-else, first-pair}
+use Rattle.euler.specs.Euler.{Taken, taken, none, past, take-by, or-else, first-pair}
 use Rattle.euler.proofs.Taken.{ends, Found, first-pair-finds}
 
 -- ── lists of places ──
@@ -127,11 +127,15 @@ without-other i x xs n = keep-yes (λ k. not (eqb i k)) x xs (rw (ne-eqb i x n))
 -- ── a party's row ──
 
 module _ (P : ℕ → Pair) where
+  -- the places whose pair's end, as `end` reads it, is v
+  abbrev pub places-by : (Pair → ℕ) → ℕ → List ℕ → List ℕ
+  places-by end v xs = keep (λ i. eqb v (end (P i))) xs
+
   abbrev pub firsts : ℕ → List ℕ → List ℕ
-  firsts v xs = keep (λ i. eqb v (P i .first)) xs
+  firsts v xs = places-by (λ p. p .first) v xs
 
   abbrev pub seconds : ℕ → List ℕ → List ℕ
-  seconds v xs = keep (λ i. eqb v (P i .second)) xs
+  seconds v xs = places-by (λ p. p .second) v xs
 
   unfoldable pub row : ℕ → List ℕ → List ℕ
   row v xs = firsts v xs ++ seconds v xs
@@ -148,37 +152,24 @@ module _ (P : ℕ → Pair) where
   as-past x xs (i ∷ is) h =
       ap (λ (l : List ℕ). taken (P i) (map P l)) (sym (without-other i x xs (λ e. omega arith)))
 
-  -- taking by the end that `end` reads off a pair
-  taking :
-      (v : ℕ) (end : Pair → ℕ) (x : ℕ) (xs : List ℕ) (t : Taken) → Falling (x ∷ xs) →
-      t ≡ as-taken xs (keep (λ i. eqb v (end (P i))) xs) →
-      pick (eqb v (end (P x))) (taken (P x) (map P xs)) (past (P x) t)
-      ≡ as-taken (x ∷ xs) (keep (λ i. eqb v (end (P i))) (x ∷ xs))
-  unfolding keep
-  taking v end x xs t f e = go (eqb v (end (P x)))
+  taken-by : (end : Pair → ℕ) (v : ℕ) (xs : List ℕ) → Falling xs → take-by end v (map P xs) ≡ as-taken xs (places-by end v xs)
+  unfolding take-by keep
+  taken-by end v [] f = refl
+  taken-by end v (x ∷ xs) f = go (eqb v (end (P x))) (taken-by end v xs (f .1))
     where
       later : List ℕ
-      later = keep (λ i. eqb v (end (P i))) xs
+      later = places-by end v xs
 
       go :
-          (b : Bool) →
-          pick b (taken (P x) (map P xs)) (past (P x) t) ≡ as-taken (x ∷ xs) (pick b (x ∷ later) later)
-      go true = ap (λ (l : List ℕ). taken (P x) (map P l)) (sym (without-first x xs ∙ without-none x xs (f .0)))
-      go false = ap (past (P x)) e ∙ as-past x xs later (keep-all (λ y. y < x) (λ i. eqb v (end (P i))) xs (f .0))
-
-  by-first : (v : ℕ) (xs : List ℕ) → Falling xs → take-by-first v (map P xs) ≡ as-taken xs (firsts v xs)
-  unfolding take-by-first keep
-  by-first v [] f = refl
-  by-first v (x ∷ xs) f = taking v (λ p. p .first) x xs (take-by-first v (map P xs)) f (by-first v xs (f .1))
-
-  by-second : (v : ℕ) (xs : List ℕ) → Falling xs → take-by-second v (map P xs) ≡ as-taken xs (seconds v xs)
-  unfolding take-by-second keep
-  by-second v [] f = refl
-  by-second v (x ∷ xs) f = taking v (λ p. p .second) x xs (take-by-second v (map P xs)) f (by-second v xs (f .1))
+          (b : Bool) → take-by end v (map P xs) ≡ as-taken xs later →
+          pick b (taken (P x) (map P xs)) (past (P x) (take-by end v (map P xs)))
+          ≡ as-taken (x ∷ xs) (pick b (x ∷ later) later)
+      go true e = ap (λ (l : List ℕ). taken (P x) (map P l)) (sym (without-first x xs ∙ without-none x xs (f .0)))
+      go false e = ap (past (P x)) e ∙ as-past x xs later (keep-all (λ y. y < x) (λ i. eqb v (end (P i))) xs (f .0))
 
   first-is : (v : ℕ) (xs : List ℕ) → Falling xs → first-pair v (map P xs) ≡ as-taken xs (row v xs)
   unfolding first-pair row
-  first-is v xs f = rw (by-first v xs f, by-second v xs f) (go (firsts v xs) (seconds v xs))
+  first-is v xs f = rw (taken-by (λ p. p .first) v xs f, taken-by (λ p. p .second) v xs f) (go (firsts v xs) (seconds v xs))
     where
       go : (ys zs : List ℕ) → or-else (as-taken xs ys) (as-taken xs zs) ≡ as-taken xs (ys ++ zs)
       go [] zs = refl

@@ -15,7 +15,7 @@ use Rattle.words.proofs.Sums.{is-eq, is-ne, is-pos, is-cases, total-append, tot
 use Rattle.multigraph.specs.Multigraph.{Pair, pair}
 use Rattle.multigraph.specs.Regular.{between, pairs-between}
 use Rattle.multigraph.proofs.Ends.{between-self}
-use Rattle.euler.specs.Euler.{take-by-first, take-by-second, first-pair}
+use Rattle.euler.specs.Euler.{take-by, first-pair}
 use Rattle.euler.proofs.Taken.{ends, Leads}
 use Rattle.euler.proofs.Places.{keep, keep-append}
 use Rattle.euler.proofs.Leading.{lead, lead-cons, either-lead, or-lead}
@@ -179,36 +179,23 @@ module _ (E flag : ℕ → ℕ) (es : List ℕ) where
 
   -- ── the first of them ──
 
-  lead-firsts : (v : ℕ) (xs : List ℕ) → lead (take-by-first v (map pn xs)) ≡ top (map pr (keep (at-v v) (map (λ e. 2 * e) xs)))
-  unfolding take-by-first keep
-  lead-firsts v [] = refl
-  lead-firsts v (x ∷ xs) =
-      lead-cons (pn x) (map pn xs) (eqb v (E (2 * x))) (take-by-first v (map pn xs)) ∙ go (eqb v (E (2 * x))) (lead-firsts v xs)
+  -- on the side whose half-edge of a pair is `half` and whose end of it is `end`
+  lead-by :
+      (half : ℕ → ℕ) (end : Pair → ℕ) → ((e : ℕ) → half e / 2 ≡ e) → ((e : ℕ) → end (pn e) ≡ E (half e)) → (v : ℕ) (xs : List ℕ) →
+      lead (take-by end v (map pn xs)) ≡ top (map pr (keep (at-v v) (map half xs)))
+  unfolding take-by keep
+  lead-by half end pair-of end-of v [] = refl
+  lead-by half end pair-of end-of v (x ∷ xs) =
+      lead-cons (pn x) (map pn xs) (eqb v (end (pn x))) (take-by end v (map pn xs))
+      ∙ rw (end-of x) (go (eqb v (E (half x))) (lead-by half end pair-of end-of v xs))
     where
       later : List ℕ
-      later = keep (at-v v) (map (λ e. 2 * e) xs)
+      later = keep (at-v v) (map half xs)
 
       go :
-          (b : Bool) → lead (take-by-first v (map pn xs)) ≡ top (map pr later) →
-          pick b (pn x ∷ []) (lead (take-by-first v (map pn xs))) ≡ top (map pr (pick b (2 * x ∷ later) later))
-      go true e = ap (λ (k : ℕ). pn k ∷ []) (sym (half-of x))
-      go false e = e
-
-  lead-seconds :
-      (v : ℕ) (xs : List ℕ) → lead (take-by-second v (map pn xs)) ≡ top (map pr (keep (at-v v) (map (λ e. 2 * e + 1) xs)))
-  unfolding take-by-second keep
-  lead-seconds v [] = refl
-  lead-seconds v (x ∷ xs) =
-      lead-cons (pn x) (map pn xs) (eqb v (E (2 * x + 1))) (take-by-second v (map pn xs))
-      ∙ go (eqb v (E (2 * x + 1))) (lead-seconds v xs)
-    where
-      later : List ℕ
-      later = keep (at-v v) (map (λ e. 2 * e + 1) xs)
-
-      go :
-          (b : Bool) → lead (take-by-second v (map pn xs)) ≡ top (map pr later) →
-          pick b (pn x ∷ []) (lead (take-by-second v (map pn xs))) ≡ top (map pr (pick b ((2 * x + 1) ∷ later) later))
-      go true e = ap (λ (k : ℕ). pn k ∷ []) (sym (half-of' x))
+          (b : Bool) → lead (take-by end v (map pn xs)) ≡ top (map pr later) →
+          pick b (pn x ∷ []) (lead (take-by end v (map pn xs))) ≡ top (map pr (pick b (half x ∷ later) later))
+      go true e = ap (λ (k : ℕ). pn k ∷ []) (sym (pair-of x))
       go false e = e
 
   top-append : (xs ys : List ℕ) → top (map pr (xs ++ ys)) ≡ either-lead (top (map pr xs)) (top (map pr ys))
@@ -218,8 +205,8 @@ module _ (E flag : ℕ → ℕ) (es : List ℕ) where
   lead-own : (v : ℕ) → lead (first-pair v (map pn es)) ≡ top (map pr (own v))
   unfolding first-pair own
   lead-own v =
-      or-lead (take-by-first v (map pn es)) (take-by-second v (map pn es))
-      ∙ rw (lead-firsts v es, lead-seconds v es)
+      or-lead (take-by (λ p. p .first) v (map pn es)) (take-by (λ p. p .second) v (map pn es))
+      ∙ rw (lead-by (λ e. 2 * e) (λ p. p .first) half-of (λ e. refl) v es, lead-by (λ e. 2 * e + 1) (λ p. p .second) half-of' (λ e. refl) v es)
       (sym
       (ap (λ (l : List ℕ). top (map pr l)) (keep-append (at-v v) firsts seconds)
       ∙ top-append (keep (at-v v) firsts) (keep (at-v v) seconds)))

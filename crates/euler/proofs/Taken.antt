@@ -12,7 +12,7 @@ use Rattle.words.specs.Basics.{pick, is, total}
 use Rattle.words.proofs.Sums.{is-ne, total-add}
 use Rattle.multigraph.specs.Multigraph.{Pair}
 use Rattle.multigraph.specs.Regular.{names, Symmetric}
-use Rattle.euler.specs.Euler.{Taken, taken, none, past, take-by-first, take-by-second, or-else, first-pair, other-node}
+use Rattle.euler.specs.Euler.{Taken, taken, none, past, take-by, or-else, first-pair, other-node}
 
 -- how often a pair names the party v
 abbrev pub ends : ℕ → Pair → ℕ
@@ -68,22 +68,19 @@ found-cons v end p ps t lead h =
       | no n ↦ rw (ne-eqb v (end p) n) (takes-past v (λ q. is v (end q)) p ps t (is-ne n) h)
     ]
 
-take-by-first-finds : (v : ℕ) (ps : List Pair) → Found v (λ p. is v (p .first)) ps (take-by-first v ps)
-unfolding take-by-first total
-take-by-first-finds v [] = refl
-take-by-first-finds v (p ∷ ps) =
-    found-cons v (λ q. q .first) p ps (take-by-first v ps) (leads-first v p) (take-by-first-finds v ps)
-
-take-by-second-finds : (v : ℕ) (ps : List Pair) → Found v (λ p. is v (p .second)) ps (take-by-second v ps)
-unfolding take-by-second total
-take-by-second-finds v [] = refl
-take-by-second-finds v (p ∷ ps) =
-    found-cons v (λ q. q .second) p ps (take-by-second v ps) (leads-second v p) (take-by-second-finds v ps)
+take-by-finds :
+    (v : ℕ) (end : Pair → ℕ) → ((p : Pair) → v ≡ end p → Leads p v (other-node p v)) → (ps : List Pair) →
+    Found v (λ p. is v (end p)) ps (take-by end v ps)
+unfolding take-by total
+take-by-finds v end lead [] = refl
+take-by-finds v end lead (p ∷ ps) = found-cons v end p ps (take-by end v ps) (lead p) (take-by-finds v end lead ps)
 
 -- the first remaining pair of v, or none, and then no remaining pair names v
 pub first-pair-finds : (v : ℕ) (ps : List Pair) → Found v (ends v) ps (first-pair v ps)
 unfolding first-pair
-first-pair-finds v ps = go (take-by-first v ps) (take-by-second v ps) (take-by-first-finds v ps) (take-by-second-finds v ps)
+first-pair-finds v ps =
+    go (take-by (λ p. p .first) v ps) (take-by (λ p. p .second) v ps) (take-by-finds v (λ p. p .first) (leads-first v) ps)
+    (take-by-finds v (λ p. p .second) (leads-second v) ps)
   where
     go :
         (t u : Taken) → Found v (λ p. is v (p .first)) ps t → Found v (λ p. is v (p .second)) ps u →

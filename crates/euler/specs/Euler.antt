@@ -17,23 +17,20 @@ abbrev pub past : Pair → Taken → Taken
 past p (taken q ps) = taken q (p ∷ ps)
 past p none = none
 
--- the first pair of the list whose first end, or whose second end, is v
-unfoldable pub take-by-first : ℕ → List Pair → Taken
-take-by-first v [] = none
-take-by-first v (p ∷ ps) = let later = past p (take-by-first v ps) in pick (eqb v (p .first)) (taken p ps) later
+-- the first pair of the list whose end, as `end` reads it, is v
+unfoldable pub take-by : (Pair → ℕ) → ℕ → List Pair → Taken
+take-by end v [] = none
+take-by end v (p ∷ ps) = let later = past p (take-by end v ps) in pick (eqb v (end p)) (taken p ps) later
 
-unfoldable pub take-by-second : ℕ → List Pair → Taken
-take-by-second v [] = none
-take-by-second v (p ∷ ps) = let later = past p (take-by-second v ps) in pick (eqb v (p .second)) (taken p ps) later
-
--- The first remaining pair of a party: pairs where it is first end come newest first, then those where it is second end,
--- newest first. The list of those that remain is newest first.
+-- what is taken, or else the other
 abbrev pub or-else : Taken → Taken → Taken
 or-else (taken p ps) other = taken p ps
 or-else none other = other
 
+-- The first remaining pair of a party: pairs where it is first end come newest first, then those where it is second end,
+-- newest first. The list of those that remain is newest first.
 unfoldable pub first-pair : ℕ → List Pair → Taken
-first-pair v ps = or-else (take-by-first v ps) (take-by-second v ps)
+first-pair v ps = or-else (take-by (λ p. p .first) v ps) (take-by (λ p. p .second) v ps)
 
 -- the other end of a pair (`other_node`)
 abbrev pub other-node : Pair → ℕ → ℕ
