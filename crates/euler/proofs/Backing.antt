@@ -37,9 +37,9 @@ straight-more-is :
 unfolding straight
 straight-more-is v r = refl
 
-module _ (l : Rings) (N m k : ℕ) (s₀ : List ℕ) (g : Laid l N m k s₀) (flag : ℕ → ℕ) (r : List Pair) where
+module _ {l : Rings} {N m k : ℕ} {s₀ : List ℕ} (g : Laid l N m k s₀) (flag : ℕ → ℕ) (r : List Pair) where
   abbrev Q : ℕ → Pair
-  Q i = P l N m k s₀ g flag i
+  Q i = P g flag i
 
   -- the words after stepping back
   abbrev wrote : List ℕ → Walk → ℕ → List ℕ
@@ -51,13 +51,13 @@ module _ (l : Rings) (N m k : ℕ) (s₀ : List ℕ) (g : Laid l N m k s₀) (fl
   wrote-away s w i a p q = away2 s (l .b + 8 * i + 2) (2 + w .written % 2) (l .col + 2 * w .written + 1) i a p q
 
   wrote-rings :
-      (s : List ℕ) (w : Walk) (i : ℕ) (is : List ℕ) → i < k → w .written < k → Remaining l N m k s₀ g flag s is →
-      Remaining l N m k s₀ g flag (wrote s w i) is
+      (s : List ℕ) (w : Walk) (i : ℕ) (is : List ℕ) → i < k → w .written < k → Remaining g flag s is →
+      Remaining g flag (wrote s w i) is
   wrote-rings s w i is ib wb h =
       let t : List ℕ = put-word s (l .b + 8 * i + 2) (2 + w .written % 2) in
-      remaining-same l N m k s₀ g flag s (wrote s w i) is
-      (same-trans l N m k s₀ g flag s t (wrote s w i) (same-mark l N m k s₀ g flag s i (2 + w .written % 2) ib)
-      (same-high l N m k s₀ g flag t (l .col + 2 * w .written + 1) i (omega (arith, g .column))))
+      remaining-same g flag s (wrote s w i) is
+      (same-trans g flag s t (wrote s w i) (same-mark g flag s i (2 + w .written % 2) ib)
+      (same-high g flag t (l .col + 2 * w .written + 1) i (omega (arith, g .column))))
       (λ e j c.
       wrote-away s w i (l .b + 2 * edge e j + 3) (λ q. omega arith) (λ q. omega (arith, g .column, g .entries, edge-low e m j c)))
       h
@@ -92,9 +92,9 @@ module _ (l : Rings) (N m k : ℕ) (s₀ : List ℕ) (g : Laid l N m k s₀) (fl
       column-more l false (wrote s w i) (w .written) ∙ rw (top, under)
 
   live-wrote :
-      (s : List ℕ) (w : Walk) (x : ℕ) (xs ws is : List ℕ) → Live l N m k s₀ g flag r s w (x ∷ xs) ws is → w .next < N → 0 < w .height →
+      (s : List ℕ) (w : Walk) (x : ℕ) (xs ws is : List ℕ) → Live g flag r s w (x ∷ xs) ws is → w .next < N → 0 < w .height →
       column l true s (w .height - 1) ≡ xs → word s (l .b + 2 * (l .top + w .at)) ≡ l .top + w .at →
-      Moved l N m k s₀ g flag r (record { words = s; walk = w })
+      Moved g flag r (record { words = s; walk = w })
       (record {
         words = wrote s w (x / 2048);
         walk = record { next = w .next; at = x % 2048; height = w .height - 1; written = w .written + 1 };
@@ -105,10 +105,10 @@ module _ (l : Rings) (N m k : ℕ) (s₀ : List ℕ) (g : Laid l N m k s₀) (fl
       let len : length s ≡ length s₀ = h .rings .rung .keeps .len in
       let vb : w .at < N = h .sound b .0 in
       let im : i < m = h .sound b .1 in
-      let wb : w .written < k = omega (arith, h .size, few-places l N m k s₀ g flag r) in
+      let wb : w .written < k = omega (arith, h .size, few-places g flag r) in
       let lw : length ws ≡ w .written = ap length (sym (h .written)) ∙ column-length l false s (w .written) in
-      let off : walk-step (w .next) (walking l N m k s₀ g flag (w .at) (x ∷ xs) is ws) ≡ walking l N m k s₀ g flag (x % 2048) xs is (i ∷ ws) =
-      step-off l N m k s₀ g flag (w .next) (w .at) x xs is ws (h .falling) (stuck-row l N m k s₀ g flag r s w (x ∷ xs) ws is h vb q) in
+      let off : walk-step (w .next) (walking g flag (w .at) (x ∷ xs) is ws) ≡ walking g flag (x % 2048) xs is (i ∷ ws) =
+      step-off g flag (w .next) (w .at) x xs is ws (h .falling) (stuck-row g flag r s w (x ∷ xs) ws is h vb q) in
       record {
         xs = xs;
         ws = i ∷ ws;
@@ -139,33 +139,33 @@ module _ (l : Rings) (N m k : ℕ) (s₀ : List ℕ) (g : Laid l N m k s₀) (fl
       }
 
   pub live-back :
-      (s : List ℕ) (w : Walk) (xs ws is : List ℕ) → Live l N m k s₀ g flag r s w xs ws is → w .next < N → 0 < w .height →
+      (s : List ℕ) (w : Walk) (xs ws is : List ℕ) → Live g flag r s w xs ws is → w .next < N → 0 < w .height →
       word s (l .b + 2 * (l .top + w .at)) ≡ l .top + w .at →
-      Moved l N m k s₀ g flag r (record { words = s; walk = w }) (backM l s w)
+      Moved g flag r (record { words = s; walk = w }) (backM l s w)
   unfolding backM
   live-back s w xs ws is h b pos' q =
       let x : ℕ = word s (l .col + 2 * (w .height - 1)) in
       let e : xs ≡ x ∷ column l true s (w .height - 1) = sym (h .stack) ∙ column-first l true s (w .height) pos' in
-      live-wrote s w x (column l true s (w .height - 1)) ws is (subst (λ (z : List ℕ). Live l N m k s₀ g flag r s w z ws is) e h) b pos' refl q
+      live-wrote s w x (column l true s (w .height - 1)) ws is (subst (λ (z : List ℕ). Live g flag r s w z ws is) e h) b pos' refl q
 
   -- ── on to the next party ──
 
   module _ (side : ℕ → ℕ) (slant : total (aslant side) r ≡ 0) (evens : (v : ℕ) → total (ends v) r % 2 ≡ 0) where
     pub live-next :
-        (s : List ℕ) (w : Walk) (xs ws is : List ℕ) → Live l N m k s₀ g flag r s w xs ws is → w .next < N → w .height ≤ 0 →
+        (s : List ℕ) (w : Walk) (xs ws is : List ℕ) → Live g flag r s w xs ws is → w .next < N → w .height ≤ 0 →
         word s (l .b + 2 * (l .top + w .at)) ≡ l .top + w .at →
-        Moved l N m k s₀ g flag r (record { words = s; walk = w })
+        Moved g flag r (record { words = s; walk = w })
         (record { words = s; walk = record { next = w .next + 1; at = w .next + 1; height = 0; written = w .written } })
     unfolding measure column steps
     live-next s w xs ws is h b z q =
         let flat : w .height ≡ 0 = omega arith in
         let bare : xs ≡ [] = sym (h .stack) ∙ ap (column l true s) flat in
-        let home : w .at ≡ w .next = ap (bottom l N m k s₀ g flag (w .at)) (sym bare) ∙ h .rooted in
+        let home : w .at ≡ w .next = ap (bottom g flag (w .at)) (sym bare) ∙ h .rooted in
         let vb : w .at < N = omega arith in
         let empty : first-pair (w .next) (map Q is) ≡ none =
-        rw home at (first-none Q (w .at) is (h .falling) (stuck-row l N m k s₀ g flag r s w xs ws is h vb q)) in
-        let here' : walking l N m k s₀ g flag (w .at) xs is ws ≡ record { stack = []; left = map Q is; written = map Q ws } =
-        ap (λ (z : List ℕ). walking l N m k s₀ g flag (w .at) z is ws) bare in
+        rw home at (first-none Q (w .at) is (h .falling) (stuck-row g flag r s w xs ws is h vb q)) in
+        let here' : walking g flag (w .at) xs is ws ≡ record { stack = []; left = map Q is; written = map Q ws } =
+        ap (λ (z : List ℕ). walking g flag (w .at) z is ws) bare in
         let rest₁ : walk-step (w .next) (record { stack = []; left = map Q is; written = map Q ws }) ≡ record { stack = []; left = map Q is; written = map Q ws } =
         ended-rests (w .next) (record { stack = []; left = map Q is; written = map Q ws }) refl empty in
         let e : (straight (suc (w .next)) r .stack ≡ []) × (first-pair (w .next) (straight (suc (w .next)) r .left) ≡ none) =

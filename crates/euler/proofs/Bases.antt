@@ -54,7 +54,7 @@ pub record Laid (l : Rings) (N m k : ℕ) (s : List ℕ) : Type 0 where
   pub table : (i : ℕ) → i < m → l .ends + 2 * word s (l .g + 2 + 2 * i) + 1 < l .b
   pub fit : Ends-fit N m (first-at l s) (second-at l s)
 
-module _ (l : Rings) (N m k : ℕ) (s₀ : List ℕ) (g : Laid l N m k s₀) (flag : ℕ → ℕ) where
+module _ {l : Rings} {N m k : ℕ} {s₀ : List ℕ} (g : Laid l N m k s₀) (flag : ℕ → ℕ) where
   abbrev C : ℕ → ℕ
   C i = copiesM l s₀ i
 

@@ -26,7 +26,7 @@ use Rattle.euler.proofs.Pushes.{Ready, So-far, nothing-yet, known, so-f
 use Rattle.euler.proofs.HalfLaws.{big, bigs, big-yes, big-no, bigs-length, bigs-where, small, one, small-one, small-none, map-append, half-length}
 use Rattle.euler.proofs.Parities.{dealt, dealt-all, dealt-count, more-dealt, picks, picks-dealt}
 
-module _ (l : Rings) (m k u h n pairs parity : ℕ) (s₀ s ws : List ℕ) (g : Ready l m k u h n s₀ s ws) (p2 : parity < 2) (apart : (i j c : ℕ) → i < m → j < m → (i ≡ j → ⊥) → joins (first-at l s₀ i) (second-at l s₀ i) (pair (first-at l s₀ j) (second-at l s₀ j) c (pick (leb pairs (word s₀ (l .g + 2 + 2 * j))) 1 0)) ≡ false) where
+module _ {l : Rings} {m k u h n : ℕ} (pairs parity : ℕ) {s₀ s ws : List ℕ} (g : Ready l m k u h n s₀ s ws) (p2 : parity < 2) (apart : (i j c : ℕ) → i < m → j < m → (i ≡ j → ⊥) → joins (first-at l s₀ i) (second-at l s₀ i) (pair (first-at l s₀ j) (second-at l s₀ j) c (pick (leb pairs (word s₀ (l .g + 2 + 2 * j))) 1 0)) ≡ false) where
   abbrev C : ℕ → ℕ
   C i = copiesM l s₀ i
 
@@ -41,7 +41,7 @@ module _ (l : Rings) (m k u h n pairs parity : ℕ) (s₀ s ws : List ℕ) (g : 
 
   -- what the half holds
   abbrev Holding : Counted → Graph → Type 0
-  Holding t x = So-far l m k u h n pairs s₀ s ws g t x
+  Holding t x = So-far pairs g t x
 
   -- ── entries of 2 copies or more ──
 
@@ -58,12 +58,12 @@ module _ (l : Rings) (m k u h n pairs parity : ℕ) (s₀ s ws : List ℕ) (g : 
 
   entry-is :
       (i : ℕ) (t : Counted) (x : Graph) → Holding t x → i < m →
-      entryM l h parity t i ≡ record { words = put-next l m k u h n pairs s₀ s ws g t i (C i / 2 + extra i); count = t .count + manyM (C i) }
+      entryM l h parity t i ≡ record { words = put-next pairs g t i (C i / 2 + extra i); count = t .count + manyM (C i) }
   unfolding entryM
   entry-is i t x f b =
-      let c : copiesM l (t .words) i ≡ C i = reads l m k u h n pairs s₀ s ws g (t .words) (l .g + 3 + 2 * i) (f .only) (omega arith) in
+      let c : copiesM l (t .words) i ≡ C i = reads pairs g (t .words) (l .g + 3 + 2 * i) (f .only) (omega arith) in
       let num : word (t .words) (l .g + 2 + 2 * i) ≡ word s₀ (l .g + 2 + 2 * i) =
-      reads l m k u h n pairs s₀ s ws g (t .words) (l .g + 2 + 2 * i) (f .only) (omega arith) in
+      reads pairs g (t .words) (l .g + 2 + 2 * i) (f .only) (omega arith) in
       let mark : word (t .words) (l .b + 8 * i + 2) ≡ mark-of i ws =
       f .only .over (l .b + 8 * i + 2) (omega arith) ∙ g .marks i b in
       rw (num, c, mark)
@@ -77,12 +77,12 @@ module _ (l : Rings) (m k u h n pairs parity : ℕ) (s₀ s ws : List ℕ) (g : 
       elim (decLt (C i) 2) [
         | yes z ↦
             let q : t .count + manyM (C i) ≡ t .count = omega (arith, many-none (C i) z) in
-            rw (entry-is i t x f b, q, big-no C F S flag i (extra i) z, append-nil x) (passed l m k u h n pairs s₀ s ws g t x i c f room)
+            rw (entry-is i t x f b, q, big-no C F S flag i (extra i) z, append-nil x) (passed pairs g t x i c f room)
         | no z ↦
             let two : 2 ≤ C i = omega arith in
             let q : t .count + manyM (C i) ≡ t .count + 1 = omega (arith, many-one (C i) two) in
             rw (entry-is i t x f b, q, big-yes C F S flag i (extra i) two)
-            (pushed l m k u h n pairs s₀ s ws g t x i c f b (omega (arith, extra-le i, g .fits i b)) room)
+            (pushed pairs g t x i c f b (omega (arith, extra-le i, g .fits i b)) room)
       ]
 
   entries-count : (i : ℕ) → entriesM l h parity i s .count ≤ i
@@ -92,7 +92,7 @@ module _ (l : Rings) (m k u h n pairs parity : ℕ) (s₀ s ws : List ℕ) (g : 
 
   entries-so-far : (i : ℕ) → i ≤ m → Holding (entriesM l h parity i s) (bigs C F S flag extra i)
   unfolding entriesM bigs
-  entries-so-far zero b = nothing-yet l m k u h n pairs s₀ s ws g
+  entries-so-far zero b = nothing-yet pairs g
   entries-so-far (suc i) b =
       entry-pushed i (entriesM l h parity i s) (bigs C F S flag extra i) (entries-so-far i (omega arith)) (entries-count i) (omega arith)
 
@@ -142,7 +142,7 @@ module _ (l : Rings) (m k u h n pairs parity : ℕ) (s₀ s ws : List ℕ) (g : 
   count-few j t b f =
       omega (
         arith,
-        so-far-count l m k u h n pairs s₀ s ws g t (both-parts j) f,
+        so-far-count pairs g t (both-parts j) f,
         length-append (bigs C F S flag extra m) (map (one C F S flag) (small C F S flag (read j))),
         length-map (small C F S flag (read j)) (one C F S flag),
         bigs-length C F S flag extra m,
@@ -165,14 +165,14 @@ module _ (l : Rings) (m k u h n pairs parity : ℕ) (s₀ s ws : List ℕ) (g : 
 
   single-is :
       (j i : ℕ) (t : Counted) (x : Graph) → Holding t x → word s (l .col + 2 * (parity + 2 * j) + 1) ≡ i → i < m →
-      singleM l h t (parity + 2 * j) ≡ record { words = put-next l m k u h n pairs s₀ s ws g t i 1; count = t .count + (1 - manyM (C i)) }
+      singleM l h t (parity + 2 * j) ≡ record { words = put-next pairs g t i 1; count = t .count + (1 - manyM (C i)) }
   unfolding singleM
   single-is j i t x f e b =
       let at : word (t .words) (l .col + 2 * (parity + 2 * j) + 1) ≡ i =
       f .only .over (l .col + 2 * (parity + 2 * j) + 1) (omega (arith, g .under, g .behind)) ∙ e in
-      let c : copiesM l (t .words) i ≡ C i = reads l m k u h n pairs s₀ s ws g (t .words) (l .g + 3 + 2 * i) (f .only) (omega (arith, g .graph)) in
+      let c : copiesM l (t .words) i ≡ C i = reads pairs g (t .words) (l .g + 3 + 2 * i) (f .only) (omega (arith, g .graph)) in
       let num : word (t .words) (l .g + 2 + 2 * i) ≡ word s₀ (l .g + 2 + 2 * i) =
-      reads l m k u h n pairs s₀ s ws g (t .words) (l .g + 2 + 2 * i) (f .only) (omega (arith, g .graph)) in
+      reads pairs g (t .words) (l .g + 2 + 2 * i) (f .only) (omega (arith, g .graph)) in
       rw (at, num, c)
 
   single-pushed :
@@ -183,11 +183,11 @@ module _ (l : Rings) (m k u h n pairs parity : ℕ) (s₀ s ws : List ℕ) (g : 
       elim (decLt (C i) 2) [
         | yes z ↦
             let q : t .count + (1 - manyM (C i)) ≡ t .count + 1 = omega (arith, many-none (C i) z) in
-            rw (single-is j i t (both-parts j) f e b, q, parts-more j i z) (pushed l m k u h n pairs s₀ s ws g t (both-parts j) i 1 f b (omega arith) room)
+            rw (single-is j i t (both-parts j) f e b, q, parts-more j i z) (pushed pairs g t (both-parts j) i 1 f b (omega arith) room)
         | no z ↦
             let two : 2 ≤ C i = omega arith in
             let q : t .count + (1 - manyM (C i)) ≡ t .count = omega (arith, many-one (C i) two) in
-            rw (single-is j i t (both-parts j) f e b, q, parts-same j i two) (passed l m k u h n pairs s₀ s ws g t (both-parts j) i 1 f room)
+            rw (single-is j i t (both-parts j) f e b, q, parts-same j i two) (passed pairs g t (both-parts j) i 1 f room)
       ]
 
   no-singles : both-parts 0 ≡ bigs C F S flag extra m
@@ -245,7 +245,7 @@ module _ (l : Rings) (m k u h n pairs parity : ℕ) (s₀ s ws : List ℕ) (g : 
       let cnt : word w₂ (h + 1) ≡ q = here w₁ (h + 1) q (omega arith) (omega arith) in
       let old : (j : ℕ) → 0 ≤ j → j < 0 + q → Same-entry (l .ends) h j w w₂ =
       λ j lo hi.
-      let kj : l .ends + 2 * word w (h + 2 + 2 * j) + 1 < u = known l m k u h n pairs s₀ s ws g t x f j (omega arith) in
+      let kj : l .ends + 2 * word w (h + 2 + 2 * j) + 1 < u = known pairs g t x f j (omega arith) in
       record {
         number = away2 w h h (h + 1) q (h + 2 + 2 * j) (λ z. omega arith) (λ z. omega arith);
         copies = away2 w h h (h + 1) q (h + 3 + 2 * j) (λ z. omega arith) (λ z. omega arith);

@@ -37,7 +37,7 @@ pub edge-low : (e : Bool) (m j : ℕ) → j < m → edge e j < 4 * m
 edge-low true m j c = omega arith
 edge-low false m j c = omega arith
 
-module _ (l : Rings) (N m k : ℕ) (s₀ : List ℕ) (g : Laid l N m k s₀) (flag : ℕ → ℕ) (r : List Pair) where
+module _ {l : Rings} {N m k : ℕ} {s₀ : List ℕ} (g : Laid l N m k s₀) (flag : ℕ → ℕ) (r : List Pair) where
   abbrev C : ℕ → ℕ
   C i = copiesM l s₀ i
 
@@ -45,7 +45,7 @@ module _ (l : Rings) (N m k : ℕ) (s₀ : List ℕ) (g : Laid l N m k s₀) (fl
   odd i = Odd m C i
 
   abbrev Q : ℕ → Pair
-  Q i = P l N m k s₀ g flag i
+  Q i = P g flag i
 
   abbrev places-all : List ℕ
   places-all = odd-places m C
@@ -56,18 +56,18 @@ module _ (l : Rings) (N m k : ℕ) (s₀ : List ℕ) (g : Laid l N m k s₀) (fl
   few-places = omega (arith, keep-length (λ i. eqb (C i % 2) 1) (descend m), descend-length m)
 
   pub record Live (s : List ℕ) (w : Walk) (xs ws is : List ℕ) : Type 0 where
-    pub rings : Remaining l N m k s₀ g flag s is
+    pub rings : Remaining g flag s is
     pub stack : column l true s (w .height) ≡ xs
     pub written : column l false s (w .written) ≡ ws
     pub marks : (i : ℕ) → i < m → word s (l .b + 8 * i + 2) ≡ mark-of i ws
     pub falling : Falling is
     pub size : length is + w .height + w .written ≡ length places-all
-    pub rooted : bottom l N m k s₀ g flag (w .at) xs ≡ w .next
-    pub sound : w .next < N → Sound l N m k s₀ g flag (w .at) xs
+    pub rooted : bottom g flag (w .at) xs ≡ w .next
+    pub sound : w .next < N → Sound g flag (w .at) xs
     pub places : All (λ (i : ℕ). i < m) ws
     pub inside : w .next ≤ N
-    pub reached : (j : ℕ) × (walking l N m k s₀ g flag (w .at) xs is ws ≡ iterate j (walk-step (w .next)) (straight (w .next) r))
-    pub done : N ≤ w .next → walking l N m k s₀ g flag (w .at) xs is ws ≡ straight (w .next) r
+    pub reached : (j : ℕ) × (walking g flag (w .at) xs is ws ≡ iterate j (walk-step (w .next)) (straight (w .next) r))
+    pub done : N ≤ w .next → walking g flag (w .at) xs is ws ≡ straight (w .next) r
 
   -- places not taken, places not written, parties to come
   unfoldable pub measure : Stage → ℕ
@@ -96,7 +96,7 @@ module _ (l : Rings) (N m k : ℕ) (s₀ : List ℕ) (g : Laid l N m k s₀) (fl
   stuck-row s w xs ws is h vb q =
       ⊎-elim (λ e. e .0)
       (λ f.
-      let o : odd (f .entry) = has-odd l N m k s₀ g flag s is (f .entry) (h .rings) (f .has) in
-      let low = edge-is l N m k s₀ g flag (f .side) (f .entry) (o .below) in
+      let o : odd (f .entry) = has-odd g flag s is (f .entry) (h .rings) (f .has) in
+      let low = edge-is g flag (f .side) (f .entry) (o .below) in
       absurd (omega (arith, low .0, ring-here s w xs ws is h vb (edge (f .side) (f .entry) ∷ f .nodes-left) (f .nodes-is) .0)))
       (first-node Q (w .at) is)

@@ -40,7 +40,7 @@ pub record Ready (l : Rings) (m k u h n : ℕ) (s₀ s : List ℕ) (ws : List �
   pub column-inside : l .col + 2 * n ≤ length s
   pub small : length s ≤ 4294967296
 
-module _ (l : Rings) (m k u h n pairs : ℕ) (s₀ s ws : List ℕ) (g : Ready l m k u h n s₀ s ws) where
+module _ {l : Rings} {m k u h n : ℕ} (pairs : ℕ) {s₀ s ws : List ℕ} (g : Ready l m k u h n s₀ s ws) where
   abbrev C : ℕ → ℕ
   C i = copiesM l s₀ i
 

@@ -55,7 +55,7 @@ empty-list : (xs : List ℕ) → length xs ≡ 0 → xs ≡ []
 empty-list [] e = refl
 empty-list (x ∷ xs) e = absurd (omega arith)
 
-module _ (s : List ℕ) (u table graph n width : ℕ) (q : Splits s u table graph n width) (sum : copiesSumM graph (word s (graph + 1)) s ≡ 2 * n) where
+module _ {s : List ℕ} {u table graph n width : ℕ} (q : Splits s u table graph n width) (sum : copiesSumM graph (word s (graph + 1)) s ≡ 2 * n) where
   abbrev pub N : ℕ
   N = 2 * n
 
@@ -100,10 +100,10 @@ module _ (s : List ℕ) (u table graph n width : ℕ) (q : Splits s u table grap
       }
 
   abbrev pub es : List ℕ
-  es = Fill.odds-of l N m k u s ground m
+  es = Fill.odds-of ground m
 
   abbrev pub ps : List ℕ
-  ps = Fill.evens-of l N m k u s ground m
+  ps = Fill.evens-of ground m
 
   abbrev pub E : ℕ → ℕ
   E y = word s (table + y)
@@ -116,13 +116,13 @@ module _ (s : List ℕ) (u table graph n width : ℕ) (q : Splits s u table grap
   abbrev pub sifted : Apart-so-far
   sifted = twoSiftAllM l m s₁
 
-  start : Fill.Started l N m k u s ground N s₁
-  start = Fill.started l N m k u s ground N (omega arith)
+  start : Fill.Started ground N s₁
+  start = Fill.started ground N (omega arith)
 
-  pub sift : Fill.Sift-done l N m k u s ground s₁ m sifted
-  sift = Fill.sift-done l N m k u s ground s₁ (start .keeps) m (omega arith)
+  pub sift : Fill.Sift-done ground s₁ m sifted
+  sift = Fill.sift-done ground s₁ (start .keeps) m (omega arith)
 
-  fine-first : All (λ (e : ℕ). Fill.Fine l N m k u s ground (2 * e + 0)) es
+  fine-first : All (λ (e : ℕ). Fill.Fine ground (2 * e + 0)) es
   fine-first =
       all-map
       (λ e i.
@@ -130,9 +130,9 @@ module _ (s : List ℕ) (u table graph n width : ℕ) (q : Splits s u table grap
       record {
         table = omega (arith, q .table (i .place) (i .below));
         party = rw z (ground .firsts (i .place) (i .below));
-      }) es (Fill.odds-nums l N m k u s ground m (omega arith))
+      }) es (Fill.odds-nums ground m (omega arith))
 
-  fine-second : All (λ (e : ℕ). Fill.Fine l N m k u s ground (2 * e + 1)) es
+  fine-second : All (λ (e : ℕ). Fill.Fine ground (2 * e + 1)) es
   fine-second =
       all-map
       (λ e i.
@@ -140,9 +140,9 @@ module _ (s : List ℕ) (u table graph n width : ℕ) (q : Splits s u table grap
       record {
         table = omega (arith, q .table (i .place) (i .below));
         party = rw z (ground .seconds (i .place) (i .below));
-      }) es (Fill.odds-nums l N m k u s ground m (omega arith))
+      }) es (Fill.odds-nums ground m (omega arith))
 
-  begun : Fill.Filled l N m k u s ground (sifted .words) [] (sifted .words)
+  begun : Fill.Filled ground (sifted .words) [] (sifted .words)
   unfolding keep
   begun =
       record {
@@ -154,7 +154,7 @@ module _ (s : List ℕ) (u table graph n width : ℕ) (q : Splits s u table grap
       }
 
   few-odds : length es ≤ k
-  few-odds = omega (arith, Fill.odds-length l N m k u s ground m, ground .entries)
+  few-odds = omega (arith, Fill.odds-length ground m, ground .entries)
 
   abbrev pub done₁ : List ℕ
   done₁ = reverseAux (map (λ e. 2 * e + 0) es) []
@@ -168,11 +168,11 @@ module _ (s : List ℕ) (u table graph n width : ℕ) (q : Splits s u table grap
   abbrev pub s₄ : List ℕ
   s₄ = twoFillM l 1 (length es) s₃
 
-  pub filled-first : Two-fills l 0 (length es) (sifted .words) × Fill.Filled l N m k u s ground (sifted .words) done₁ s₃
-  filled-first = Fill.fill-done l N m k u s ground (sifted .words) 0 (sift .keeps) es fine-first (sift .noted) few-odds [] (sifted .words) begun
+  pub filled-first : Two-fills l 0 (length es) (sifted .words) × Fill.Filled ground (sifted .words) done₁ s₃
+  filled-first = Fill.fill-done ground (sifted .words) 0 (sift .keeps) es fine-first (sift .noted) few-odds [] (sifted .words) begun
 
-  pub filled : Two-fills l 1 (length es) s₃ × Fill.Filled l N m k u s ground (sifted .words) done s₄
-  filled = Fill.fill-done l N m k u s ground (sifted .words) 1 (sift .keeps) es fine-second (sift .noted) few-odds done₁ s₃ (filled-first .1)
+  pub filled : Two-fills l 1 (length es) s₃ × Fill.Filled ground (sifted .words) done s₄
+  filled = Fill.fill-done ground (sifted .words) 1 (sift .keeps) es fine-second (sift .noted) few-odds done₁ s₃ (filled-first .1)
 
   -- ── the rounds ──
 
@@ -197,13 +197,13 @@ module _ (s : List ℕ) (u table graph n width : ℕ) (q : Splits s u table grap
 
     pub places-total : (f : Pair → ℕ) → total f r ≡ total (λ e. f (pn e)) es
     places-total f =
-        sym (total-reverse f r) ∙ ap (total f) (Graphs.rest-places l N m k u s ground pairs m) ∙ total-map f pn es
+        sym (total-reverse f r) ∙ ap (total f) (Graphs.rest-places ground pairs m) ∙ total-map f pn es
 
     pub two : Ends.Twos E flag es r
     unfolding pairs-between
     two =
         record {
-          places = Graphs.rest-places l N m k u s ground pairs m;
+          places = Graphs.rest-places ground pairs m;
           few = Grounds.rest-few s table graph n m (2 * q .half) (q .side) reg is-two pairs;
           even = Grounds.rest-even s table graph n m (2 * q .half) (q .side) reg is-two pairs;
           thin = Grounds.rest-thin s table graph n m (2 * q .half) (q .side) reg is-two pairs;
@@ -211,7 +211,7 @@ module _ (s : List ℕ) (u table graph n width : ℕ) (q : Splits s u table grap
               omega (
                 arith,
                 places-total (Graphs.btw a b),
-                Graphs.parts l N m k u s ground pairs copies once a b m (omega arith),
+                Graphs.parts ground pairs copies once a b m (omega arith),
                 once a b,
               );
         }
@@ -220,7 +220,7 @@ module _ (s : List ℕ) (u table graph n width : ℕ) (q : Splits s u table grap
     slant = Grounds.rest-slant s table graph n m (2 * q .half) (q .side) reg is-two pairs
 
     -- a party's half-edges, the last first
-    own-done : (v : ℕ) → Fill.at-party l N m k u s ground v done ≡ reverse (Ends.own E flag es v)
+    own-done : (v : ℕ) → Fill.at-party ground v done ≡ reverse (Ends.own E flag es v)
     unfolding Ends.own keep
     own-done v =
         let q' : ℕ → Bool = λ y. eqb v (E y) in
@@ -231,25 +231,25 @@ module _ (s : List ℕ) (u table graph n width : ℕ) (q : Splits s u table grap
     early-small : (v : ℕ) → 0 < total (ends v) r → Ends.early E flag es v < 4294967296
     early-small v some =
         let i : Ends.Half E flag es (Ends.early E flag es v) = Ends.two-ended E flag es r two .early-half v some .0 in
-        omega (arith, Steps.fine l N m k u s ground flag r two (Ends.early E flag es v) i .table, q .room, q .short)
+        omega (arith, Steps.fine ground flag r two (Ends.early E flag es v) i .table, q .room, q .short)
 
     mark-none : (v : ℕ) → v < N → total (ends v) r ≡ 0 → word s₄ (l .b + 2 * v) ≡ 0
     mark-none v b z =
         filled .1 .marks v b
-        ∙ ap (Fill.top1 l N m k u s ground)
+        ∙ ap (Fill.top1 ground)
         (own-done v ∙ ap reverse (empty-list (Ends.own E flag es v) (Ends.own-length E flag es r two v ∙ z)))
 
     mark-late : (v : ℕ) → v < N → total (ends v) r ≡ 2 → word s₄ (l .b + 2 * v) ≡ Ends.late E flag es v + 1
     mark-late v b z =
         filled .1 .marks v b
-        ∙ ap (Fill.top1 l N m k u s ground) (own-done v ∙ ap reverse (Ends.own-two E flag es r two v (omega arith)))
+        ∙ ap (Fill.top1 ground) (own-done v ∙ ap reverse (Ends.own-two E flag es r two v (omega arith)))
 
     sum-is :
         (v : ℕ) → v < N → 0 < total (ends v) r →
         word s₄ (l .b + 2 * v + 1) ≡ (Ends.early E flag es v + Ends.late E flag es v) % 4294967296
     sum-is v b some =
         filled .1 .sums v b
-        ∙ ap (Fill.sum1 l N m k u s ground) (own-done v ∙ ap reverse (Ends.own-two E flag es r two v some))
+        ∙ ap (Fill.sum1 ground) (own-done v ∙ ap reverse (Ends.own-two E flag es r two v some))
         ∙ cut (Ends.early E flag es v) (Ends.late E flag es v) (early-small v some)
       where
         cut : (a c : ℕ) → a < 4294967296 → ((0 + a) % 4294967296 + c) % 4294967296 ≡ (a + c) % 4294967296
@@ -261,14 +261,14 @@ module _ (s : List ℕ) (u table graph n width : ℕ) (q : Splits s u table grap
     same-left : (v : ℕ) → total (ends v) (reverse r) ≡ total (ends v) r
     same-left v = total-reverse (ends v) r
 
-    pub walk-begun : Walk.Walked l N m k u s ground flag r two (q .side) slant copies 0 w₀
+    pub walk-begun : Walk.Walked ground flag r two (q .side) slant copies 0 w₀
     unfolding along every-other
     walk-begun =
         record {
           tour = record { cycles = []; left = reverse r };
           rounded =
               Tours.begun r Ends.mate E (Ends.pr E flag es) (Ends.early E flag es) (Ends.late E flag es) (Ends.Half E flag es)
-              (Steps.ended l N m k u s ground flag r two) (q .side) slant (two .even) (Ends.first-is E flag es r two);
+              (Steps.ended ground flag r two) (q .side) slant (two .even) (Ends.first-is E flag es r two);
           firsts = ps;
           seconds = ps;
           marks = λ v. word s₄ (l .b + 2 * v);
@@ -281,10 +281,10 @@ module _ (s : List ℕ) (u table graph n width : ℕ) (q : Splits s u table grap
                     };
                 first =
                     held-same (sifted .words) s₄ u ps
-                    (λ a lo hi. filled .1 .low a (omega (arith, Fill.evens-length l N m k u s ground m, ground .entries))) (sift .first);
+                    (λ a lo hi. filled .1 .low a (omega (arith, Fill.evens-length ground m, ground .entries))) (sift .first);
                 second =
                     held-same (sifted .words) s₄ h₂ ps
-                    (λ a lo hi. filled .1 .low a (omega (arith, Fill.evens-length l N m k u s ground m, ground .entries))) (sift .second);
+                    (λ a lo hi. filled .1 .low a (omega (arith, Fill.evens-length ground m, ground .entries))) (sift .second);
                 marks = λ v b. refl;
                 sums = sum-is;
               };
@@ -295,12 +295,12 @@ module _ (s : List ℕ) (u table graph n width : ℕ) (q : Splits s u table grap
           size = omega arith;
           first-pairs = sym (append-nil (map pn (reverse ps)));
           second-pairs = sym (append-nil (map pn (reverse ps)));
-          first-nums = Fill.evens-nums l N m k u s ground m (omega arith);
-          second-nums = Fill.evens-nums l N m k u s ground m (omega arith);
+          first-nums = Fill.evens-nums ground m (omega arith);
+          second-nums = Fill.evens-nums ground m (omega arith);
         }
 
-    pub walk-done : Walk.Walked l N m k u s ground flag r two (q .side) slant copies N (twoWalkM l m N w₀)
-    walk-done = Walk.walked-all l N m k u s ground flag r two (q .side) slant copies N w₀ (omega arith) walk-begun
+    pub walk-done : Walk.Walked ground flag r two (q .side) slant copies N (twoWalkM l m N w₀)
+    walk-done = Walk.walked-all ground flag r two (q .side) slant copies N w₀ (omega arith) walk-begun
 
     pub walk-fits : Two-walks l m N w₀
-    walk-fits = Walk.walks-on l N m k u s ground flag r two (q .side) slant copies w₀ walk-begun
+    walk-fits = Walk.walks-on ground flag r two (q .side) slant copies w₀ walk-begun

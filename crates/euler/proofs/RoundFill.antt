@@ -48,7 +48,7 @@ pub record Ground (l : Two) (N m k u : ℕ) (s₀ : List ℕ) : Type 0 where
   pub firsts : (i : ℕ) → i < m → word s₀ (l .ends + 2 * word s₀ (l .g + 2 + 2 * i)) < N
   pub seconds : (i : ℕ) → i < m → word s₀ (l .ends + (2 * word s₀ (l .g + 2 + 2 * i) + 1)) < N
 
-module _ (l : Two) (N m k u : ℕ) (s₀ : List ℕ) (g : Ground l N m k u s₀) where
+module _ {l : Two} {N m k u : ℕ} {s₀ : List ℕ} (g : Ground l N m k u s₀) where
   abbrev pub num : ℕ → ℕ
   num i = word s₀ (l .g + 2 + 2 * i)
 

@@ -66,7 +66,7 @@ add-pairs-behind h (p ∷ ps) c once =
     one : (x y : ℕ) → total (btw x y) (p ∷ []) ≡ btw x y p
     one x y = omega arith
 
-module _ (l : Two) (N m k u : ℕ) (s₀ : List ℕ) (g : Ground l N m k u s₀) (pairs : ℕ) where
+module _ {l : Two} {N m k u : ℕ} {s₀ : List ℕ} (g : Ground l N m k u s₀) (pairs : ℕ) where
   abbrev pub flag : ℕ → ℕ
   flag e = pick (leb pairs e) 1 0
 
@@ -80,7 +80,7 @@ module _ (l : Two) (N m k u : ℕ) (s₀ : List ℕ) (g : Ground l N m k u s₀)
   C i = word s₀ (l .g + 3 + 2 * i)
 
   abbrev es : List ℕ
-  es = Fill.odds-of l N m k u s₀ g m
+  es = Fill.odds-of g m
 
   abbrev pub pn : ℕ → Pair
   pn e = Ends.pn E flag es e
@@ -105,7 +105,7 @@ module _ (l : Two) (N m k u : ℕ) (s₀ : List ℕ) (g : Ground l N m k u s₀)
 
   -- ── the rest ──
 
-  pub rest-places : (j : ℕ) → reverse (rest (G j)) ≡ map pn (Fill.odds-of l N m k u s₀ g j)
+  pub rest-places : (j : ℕ) → reverse (rest (G j)) ≡ map pn (Fill.odds-of g j)
   unfolding rest Fill.odds-of
   rest-places zero = ap (λ (x : Graph). reverse (rest x)) G-none
   rest-places (suc j) =
@@ -113,25 +113,25 @@ module _ (l : Two) (N m k u : ℕ) (s₀ : List ℕ) (g : Ground l N m k u s₀)
       ∙ ap reverse (rest-append (G j) (at j))
       ∙ reverse-append (rest (G j)) (rest (at j ∷ []))
       ∙ elim (ℕ-discrete (C j % 2) 1) [
-        | yes o ↦ rw (eq-eqb (C j % 2) 1 o) (ap (λ (x : Graph). with-copies 1 (at j) ∷ x) (rest-places j) ∙ ap (λ (p : Pair). p ∷ map pn (Fill.odds-of l N m k u s₀ g j)) (one-copy j))
+        | yes o ↦ rw (eq-eqb (C j % 2) 1 o) (ap (λ (x : Graph). with-copies 1 (at j) ∷ x) (rest-places j) ∙ ap (λ (p : Pair). p ∷ map pn (Fill.odds-of g j)) (one-copy j))
         | no q ↦ rw (ne-eqb (C j % 2) 1 q) (rest-places j)
       ]
 
   -- ── both halves before the rest is dealt ──
 
   abbrev evens : ℕ → List ℕ
-  evens j = Fill.evens-of l N m k u s₀ g j
+  evens j = Fill.evens-of g j
 
   btw-at : (a b j : ℕ) → btw a b (at j) ≡ btw a b (pn (num j))
   btw-at a b j = ap (btw a b) (one-copy j)
 
   module _ (copies : (i : ℕ) → i < m → C i ≤ 2) (once : (a b : ℕ) → total (btw a b) (G m) ≤ 1) where
     -- even and odd ones are no more than all
-    pub parts : (a b j : ℕ) → j ≤ m → total (λ e. btw a b (pn e)) (evens j) + total (λ e. btw a b (pn e)) (Fill.odds-of l N m k u s₀ g j) ≤ total (btw a b) (G j)
+    pub parts : (a b j : ℕ) → j ≤ m → total (λ e. btw a b (pn e)) (evens j) + total (λ e. btw a b (pn e)) (Fill.odds-of g j) ≤ total (btw a b) (G j)
     unfolding Fill.evens-of Fill.odds-of total
     parts a b zero h = omega arith
     parts a b (suc j) h =
-        let before : total (λ e. btw a b (pn e)) (evens j) + total (λ e. btw a b (pn e)) (Fill.odds-of l N m k u s₀ g j) ≤ total (btw a b) (G j) = parts a b j (omega arith) in
+        let before : total (λ e. btw a b (pn e)) (evens j) + total (λ e. btw a b (pn e)) (Fill.odds-of g j) ≤ total (btw a b) (G j) = parts a b j (omega arith) in
         let more : total (btw a b) (G (suc j)) ≡ total (btw a b) (G j) + btw a b (pn (num j)) =
         ap (total (btw a b)) (G-more j) ∙ total-append (btw a b) (G j) (at j ∷ []) ∙ omega (arith, btw-at a b j) in
         elim (decLt (C j) 2) [
@@ -143,10 +143,10 @@ module _ (l : Two) (N m k u : ℕ) (s₀ : List ℕ) (g : Ground l N m k u s₀)
       where
         odd :
             (q : Bool) →
-            total (λ e. btw a b (pn e)) (evens j) + total (λ e. btw a b (pn e)) (Fill.odds-of l N m k u s₀ g j) ≤ total (btw a b) (G j) →
+            total (λ e. btw a b (pn e)) (evens j) + total (λ e. btw a b (pn e)) (Fill.odds-of g j) ≤ total (btw a b) (G j) →
             total (btw a b) (G (suc j)) ≡ total (btw a b) (G j) + btw a b (pn (num j)) →
             total (λ e. btw a b (pn e)) (evens j)
-            + total (λ e. btw a b (pn e)) (pick q (num j ∷ Fill.odds-of l N m k u s₀ g j) (Fill.odds-of l N m k u s₀ g j))
+            + total (λ e. btw a b (pn e)) (pick q (num j ∷ Fill.odds-of g j) (Fill.odds-of g j))
             ≤ total (btw a b) (G (suc j))
         odd true x y = omega arith
         odd false x y = omega arith
@@ -200,13 +200,13 @@ module _ (l : Two) (N m k u : ℕ) (s₀ : List ℕ) (g : Ground l N m k u s₀)
   -- ── what a half holds ──
 
   pub held-graph :
-      (t : List ℕ) (h : ℕ) (ds : List ℕ) → Keeps u s₀ t → All (Fill.Num l N m k u s₀ g) ds → Held t h ds →
+      (t : List ℕ) (h : ℕ) (ds : List ℕ) → Keeps u s₀ t → All (Fill.Num g) ds → Held t h ds →
       entries t (l .ends) pairs h 0 (length ds) ≡ map pn (reverse ds)
   unfolding entries
   held-graph t h [] kept nums d = refl
   held-graph t h (e ∷ ds) kept nums d =
       let j : ℕ = length ds in
-      let n : Fill.Num l N m k u s₀ g e = nums .0 in
+      let n : Fill.Num g e = nums .0 in
       let table : l .ends + 2 * e + 1 < u = rw (n .is-there) (g .table (n .place) (n .below)) in
       let one : entry t (l .ends) pairs h j ≡ pn e =
       rw (d .0, d .1)

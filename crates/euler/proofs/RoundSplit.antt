@@ -50,7 +50,7 @@ heads-word a b s c x p q y z =
     ∙ away (put-word s a a) (a + 1) x c q
     ∙ away s a x a p
 
-module _ (s : List ℕ) (u table graph n width : ℕ) (q : Splits s u table graph n width) (sum : copiesSumM graph (word s (graph + 1)) s ≡ 2 * n) where
+module _ {s : List ℕ} {u table graph n width : ℕ} (q : Splits s u table graph n width) (sum : copiesSumM graph (word s (graph + 1)) s ≡ 2 * n) where
   abbrev N : ℕ
   N = 2 * n
 
@@ -67,19 +67,19 @@ module _ (s : List ℕ) (u table graph n width : ℕ) (q : Splits s u table grap
   h₂ = u + 2 * k
 
   abbrev ground : Ground l N m k u s
-  ground = Begun.ground s u table graph n width q sum
+  ground = Begun.ground q sum
 
   abbrev es : List ℕ
-  es = Begun.es s u table graph n width q sum
+  es = Begun.es q sum
 
   abbrev ps : List ℕ
-  ps = Begun.ps s u table graph n width q sum
+  ps = Begun.ps q sum
 
   abbrev E : ℕ → ℕ
   E y = word s (table + y)
 
   abbrev sifted : Apart-so-far
-  sifted = Begun.sifted s u table graph n width q sum
+  sifted = Begun.sifted q sum
 
   module _ (pairs : ℕ) where
     abbrev flag : ℕ → ℕ
@@ -95,22 +95,22 @@ module _ (s : List ℕ) (u table graph n width : ℕ) (q : Splits s u table grap
     pn e = Ends.pn E flag es e
 
     abbrev copies : (i : ℕ) → i < m → word s (graph + 3 + 2 * i) ≤ 2
-    copies = Begun.copies s u table graph n width q sum pairs
+    copies = Begun.copies q sum pairs
 
     abbrev once : (a b : ℕ) → total (Graphs.btw a b) G ≤ 1
-    once = Begun.once s u table graph n width q sum pairs
+    once = Begun.once q sum pairs
 
     abbrev two : Ends.Twos E flag es r
-    two = Begun.two s u table graph n width q sum pairs
+    two = Begun.two q sum pairs
 
     abbrev slant : total (aslant (q .side)) r ≡ 0
-    slant = Begun.slant s u table graph n width q sum pairs
+    slant = Begun.slant q sum pairs
 
     abbrev w₀ : Told
-    w₀ = Begun.w₀ s u table graph n width q sum pairs
+    w₀ = Begun.w₀ q sum pairs
 
-    abbrev walk-done : Walk.Walked l N m k u s ground flag r two (q .side) slant copies N (twoWalkM l m N w₀)
-    walk-done = Begun.walk-done s u table graph n width q sum pairs
+    abbrev walk-done : Walk.Walked ground flag r two (q .side) slant copies N (twoWalkM l m N w₀)
+    walk-done = Begun.walk-done q sum pairs
 
     -- ── the halves ──
 
@@ -127,7 +127,7 @@ module _ (s : List ℕ) (u table graph n width : ℕ) (q : Splits s u table grap
     tour = walk-done .tour
 
     few : c ≤ m
-    few = Walk.walked-few l N m k u s ground flag r two (q .side) slant copies N w walk-done
+    few = Walk.walked-few ground flag r two (q .side) slant copies N w walk-done
 
     -- where no two pairs have the same ends, a half is what is held
     behind :
@@ -135,7 +135,7 @@ module _ (s : List ℕ) (u table graph n width : ℕ) (q : Splits s u table grap
         add-pairs (add-halves [] G) (every-other b (along (tour .cycles))) ≡ map pn (reverse ds)
     behind b ds e =
         let dealt : List Pair = every-other b (along (tour .cycles)) in
-        ap (λ (x : Graph). add-pairs x dealt) (Graphs.halves-are l N m k u s ground pairs copies once m (omega arith))
+        ap (λ (x : Graph). add-pairs x dealt) (Graphs.halves-are ground pairs copies once m (omega arith))
         ∙ Graphs.add-pairs-behind (map pn (reverse ps)) dealt
         (all-right (λ (p : Pair). p .copies ≡ 1) (map pn (reverse ps)) dealt (subst (All (λ (p : Pair). p .copies ≡ 1)) e (ones (reverse ds))))
         (λ x y.
@@ -146,8 +146,8 @@ module _ (s : List ℕ) (u table graph n width : ℕ) (q : Splits s u table grap
           every-other-le (Graphs.btw x y) b (along (tour .cycles)),
           Tours.along-total (Graphs.btw x y) (tour .cycles),
           walk-done .rounded .toured .whole (Graphs.btw x y),
-          Begun.places-total s u table graph n width q sum pairs (Graphs.btw x y),
-          Graphs.parts l N m k u s ground pairs copies once x y m (omega arith),
+          Begun.places-total q sum pairs (Graphs.btw x y),
+          Graphs.parts ground pairs copies once x y m (omega arith),
           once x y,
         ))
         ∙ sym e
@@ -161,7 +161,7 @@ module _ (s : List ℕ) (u table graph n width : ℕ) (q : Splits s u table grap
         ≡ ran (record { first-half = map pn (reverse (walk-done .firsts)); second-half = map pn (reverse (walk-done .seconds)) })
     splits-into =
         Tours.halves-along r Ends.mate E (Ends.pr E flag es) (Ends.early E flag es) (Ends.late E flag es) (Ends.Half E flag es)
-        (Steps.ended l N m k u s ground flag r two) (q .side) slant (two .even) (Ends.first-is E flag es r two) N G tour refl
+        (Steps.ended ground flag r two) (q .side) slant (two .even) (Ends.first-is E flag es r two) N G tour refl
         (walk-done .rounded)
         ∙ rw (behind true (walk-done .firsts) (walk-done .first-pairs), behind false (walk-done .seconds) (walk-done .second-pairs))
 
@@ -240,13 +240,13 @@ module _ (s : List ℕ) (u table graph n width : ℕ) (q : Splits s u table grap
     unfolding graph-at
     first-graph =
         ap (entries t table pairs u 0) (first-number ∙ sym (walk-done .first-count))
-        ∙ Graphs.held-graph l N m k u s ground pairs t u (walk-done .firsts) kept (walk-done .first-nums) first-held
+        ∙ Graphs.held-graph ground pairs t u (walk-done .firsts) kept (walk-done .first-nums) first-held
 
     second-graph : graph-at t table pairs h₂ ≡ map pn (reverse (walk-done .seconds))
     unfolding graph-at
     second-graph =
         ap (entries t table pairs h₂ 0) (second-number ∙ sym (walk-done .second-count))
-        ∙ Graphs.held-graph l N m k u s ground pairs t h₂ (walk-done .seconds) kept (walk-done .second-nums) second-held
+        ∙ Graphs.held-graph ground pairs t h₂ (walk-done .seconds) kept (walk-done .second-nums) second-held
 
     stored :
         rbmg-split-into-two N (graph-at s table pairs graph)
@@ -256,13 +256,13 @@ module _ (s : List ℕ) (u table graph n width : ℕ) (q : Splits s u table grap
 
     -- every number held is one of the graph's
     held-number :
-        (h : ℕ) (ds : List ℕ) → Held t h ds → All (Fill.Num l N m k u s ground) ds → (j : ℕ) → j < length ds →
+        (h : ℕ) (ds : List ℕ) → Held t h ds → All (Fill.Num ground) ds → (j : ℕ) → j < length ds →
         (i : ℕ) × (i < m) × (word t (h + 2 + 2 * j) ≡ word s (graph + 2 + 2 * i))
     held-number h [] d a j b = absurd (omega arith)
     held-number h (e ∷ ds) d a j b =
         elim (ℕ-discrete j (length ds)) [
           | yes z ↦
-              let x : Fill.Num l N m k u s ground e = a .0 in
+              let x : Fill.Num ground e = a .0 in
               (x .place, x .below, ap (λ (i : ℕ). word t (h + 2 + 2 * i)) z ∙ d .0 ∙ x .is-there)
           | no z ↦ held-number h ds (d .2) (a .1) j (omega arith)
         ]
@@ -293,7 +293,7 @@ module _ (s : List ℕ) (u table graph n width : ℕ) (q : Splits s u table grap
 
   -- the words before the rounds, as the model has them
   filled-is : _≡_ {A = Told} (record { words = twoFilledM l sifted; number = sifted .sifted .even }) (w₀ 0)
-  filled-is = rw (Begun.sift s u table graph n width q sum .odd, Begun.sift s u table graph n width q sum .even)
+  filled-is = rw (Begun.sift q sum .odd, Begun.sift q sum .even)
 
   pub split-two-stored : Halves-stored s (splitTwoM l m N s) u (u + 4 * k) table graph n width
   unfolding splitTwoM
@@ -313,9 +313,9 @@ module _ (s : List ℕ) (u table graph n width : ℕ) (q : Splits s u table grap
               second = omega (arith, ground .entries, q .room);
               notes = omega (arith, ground .entries, q .room);
             };
-        firsts = subst (λ (x : ℕ). Two-fills l 0 x (sifted .words)) (sym (Begun.sift s u table graph n width q sum .odd)) (Begun.filled-first s u table graph n width q sum .0);
-        seconds = subst (λ (x : ℕ). Two-fills l 1 x (twoFillM l 0 x (sifted .words))) (sym (Begun.sift s u table graph n width q sum .odd)) (Begun.filled s u table graph n width q sum .0);
-        walks = subst (Two-walks l m N) (sym filled-is) (Begun.walk-fits s u table graph n width q sum 0);
+        firsts = subst (λ (x : ℕ). Two-fills l 0 x (sifted .words)) (sym (Begun.sift q sum .odd)) (Begun.filled-first q sum .0);
+        seconds = subst (λ (x : ℕ). Two-fills l 1 x (twoFillM l 0 x (sifted .words))) (sym (Begun.sift q sum .odd)) (Begun.filled q sum .0);
+        walks = subst (Two-walks l m N) (sym filled-is) (Begun.walk-fits q sum 0);
       }
 
 -- ── for the code's proof ──
@@ -330,7 +330,7 @@ pub split-two-asks :
 split-two-asks s u table graph n width m r q fit em er e =
     let sum : copiesSumM graph m s ≡ 2 * n = few-sum-all graph m (2 * n) s (omega (arith, q .some)) (sym er ∙ e) in
     let g : Ground (two-laid u (n * (width + 1)) table graph) (2 * n) (word s (graph + 1)) (n * (width + 1)) u s =
-    Begun.ground s u table graph n width q (rw em at sum) in (
+    Begun.ground q (rw em at sum) in (
       record {
         graph = omega (arith, q .graph, q .room, q .short);
         table = omega (arith, q .base, q .room, q .short, g .entries);
@@ -341,7 +341,7 @@ split-two-asks s u table graph n width m r q fit em er e =
       },
       omega (arith, em, fit (graph + 1)),
       omega (arith, q .few),
-      rw em (split-two-fits s u table graph n width q (rw em at sum)),
+      rw em (split-two-fits q (rw em at sum)),
     )
 
 pub split-two-gives :
@@ -352,4 +352,4 @@ split-two-gives s u table graph n width m r t q em er e et =
     let sum : copiesSumM graph m s ≡ 2 * n = few-sum-all graph m (2 * n) s (omega (arith, q .some)) (sym er ∙ e) in
     subst (λ (x : List ℕ). Halves-stored s x u (u + 4 * (n * (width + 1))) table graph n width)
     (sym (et ∙ ap (λ (x : ℕ). splitTwoM (two-laid u (n * (width + 1)) table graph) x (2 * n) s) em))
-    (split-two-stored s u table graph n width q (rw em at sum))
+    (split-two-stored q (rw em at sum))

@@ -42,12 +42,12 @@ others false (y ∷ hs) = others true hs
 abbrev pub numbers : List ℕ → List ℕ
 numbers hs = map (λ y. y / 2) hs
 
-module _ (l : Two) (N m k u : ℕ) (s₀ : List ℕ) (g : Ground l N m k u s₀) (flag : ℕ → ℕ) (r : List Pair) where
+module _ {l : Two} {N m k u : ℕ} {s₀ : List ℕ} (g : Ground l N m k u s₀) (flag : ℕ → ℕ) (r : List Pair) where
   abbrev pub E : ℕ → ℕ
   E y = word s₀ (l .ends + y)
 
   abbrev pub es : List ℕ
-  es = Fill.odds-of l N m k u s₀ g m
+  es = Fill.odds-of g m
 
   abbrev pub early : ℕ → ℕ
   early v = Ends.early E flag es v
@@ -112,10 +112,10 @@ module _ (l : Two) (N m k u : ℕ) (s₀ : List ℕ) (g : Ground l N m k u s₀)
     ended = Ends.two-ended E flag es r two
 
     -- a half-edge's words are where they should be
-    pub fine : (y : ℕ) → Half y → Fill.Fine l N m k u s₀ g y
+    pub fine : (y : ℕ) → Half y → Fill.Fine g y
     fine y i =
-        let n : Fill.Num l N m k u s₀ g (y / 2) =
-        all-counted (Fill.Num l N m k u s₀ g) (y / 2) es (Fill.odds-nums l N m k u s₀ g m (omega arith)) i in
+        let n : Fill.Num g (y / 2) =
+        all-counted (Fill.Num g) (y / 2) es (Fill.odds-nums g m (omega arith)) i in
         let p : ℕ = n .place in
         let e : y / 2 ≡ word s₀ (l .g + 2 + 2 * p) = n .is-there in
         elim (ℕ-discrete (y % 2) 0) [
@@ -180,7 +180,7 @@ module _ (l : Two) (N m k u : ℕ) (s₀ : List ℕ) (g : Ground l N m k u s₀)
     stepped h ds₁ ds₂ M s at y lo hi room q i =
         let v : ℕ = leads-to y in
         let j : Half (Ends.mate y) = ended .mate-half y i in
-        let f : Fill.Fine l N m k u s₀ g (Ends.mate y) = fine (Ends.mate y) j in
+        let f : Fill.Fine g (Ends.mate y) = fine (Ends.mate y) j in
         let t : List ℕ = singleM h s at (y / 2) in
         let lt : length t ≡ length s = single-length h s at (y / 2) in
         let ev : word t (l .ends + otherM y) ≡ v =

@@ -31,12 +31,12 @@ use Rattle.euler.proofs.RoundSteps.{double, others, numbers}
 use Rattle.euler.proofs.RoundLists.{double-is, even-double, reverse-onto, map-onto, map-numbers, others-map, others-length, others-all, numbers-all, onto-length, onto-all, trace-length}
 use Rattle.euler.proofs.RoundModelLaws.{two-round-back, two-round-on, two-from-none, two-from-some}
 
-module _ (l : Two) (N m k u : ℕ) (s₀ : List ℕ) (g : Ground l N m k u s₀) (flag : ℕ → ℕ) (r : List Pair) (two : Ends.Twos (Steps.E l N m k u s₀ g flag r) flag (Steps.es l N m k u s₀ g flag r) r) where
+module _ {l : Two} {N m k u : ℕ} {s₀ : List ℕ} (g : Ground l N m k u s₀) (flag : ℕ → ℕ) (r : List Pair) (two : Ends.Twos (Steps.E g flag r) flag (Steps.es g flag r) r) where
   abbrev E : ℕ → ℕ
   E y = word s₀ (l .ends + y)
 
   abbrev es : List ℕ
-  es = Fill.odds-of l N m k u s₀ g m
+  es = Fill.odds-of g m
 
   abbrev pr : ℕ → Pair
   pr y = Ends.pr E flag es y
@@ -48,13 +48,13 @@ module _ (l : Two) (N m k u : ℕ) (s₀ : List ℕ) (g : Ground l N m k u s₀)
   late v = Ends.late E flag es v
 
   abbrev next : ℕ → ℕ
-  next y = Steps.next l N m k u s₀ g flag r y
+  next y = Steps.next g flag r y
 
   abbrev Going : List ℕ → List ℕ → (ℕ → ℕ) → List ℕ → Type 0
-  Going ds₁ ds₂ M s = Steps.Going l N m k u s₀ g flag r ds₁ ds₂ M s
+  Going ds₁ ds₂ M s = Steps.Going g flag r ds₁ ds₂ M s
 
   abbrev wipe : List ℕ → (ℕ → ℕ) → ℕ → ℕ
-  wipe hs M = Steps.wipe l N m k u s₀ g flag r hs M
+  wipe hs M = Steps.wipe g flag r hs M
 
   -- the pairs dealt to one of the halves along a round
   abbrev dealt : Bool → List ℕ → List ℕ → List ℕ
@@ -77,8 +77,8 @@ module _ (l : Two) (N m k u : ℕ) (s₀ : List ℕ) (g : Ground l N m k u s₀)
   unfolding double trace others iterate Steps.wipe
   gone n zero ds₁ ds₂ M y₀ s at y e₁ e₂ room fuel q i back not = absurd (omega arith)
   gone zero (suc f) ds₁ ds₂ M y₀ s at y e₁ e₂ room fuel q i back not =
-      let p : Steps.Paired l N m k u s₀ g flag r two ds₁ ds₂ M s at y =
-      Steps.paired l N m k u s₀ g flag r two ds₁ ds₂ M s at y e₁ e₂ (omega arith) q i in
+      let p : Steps.Paired g flag r two ds₁ ds₂ M s at y =
+      Steps.paired g flag r two ds₁ ds₂ M s at y e₁ e₂ (omega arith) q i in
       let done : twoRoundM l y₀ (suc f) s at y ≡ record { words = twoPairM l s at y .words; number = at + 1 } =
       two-round-back l y₀ (suc f) f s at y (twoPairM l s at y) refl refl (p .is-next ∙ back) in
       record {
@@ -87,13 +87,13 @@ module _ (l : Two) (N m k u : ℕ) (s₀ : List ℕ) (g : Ground l N m k u s₀)
         number = ap (λ (x : Told). x .number) done;
       }
   gone (suc n) (suc f) ds₁ ds₂ M y₀ s at y e₁ e₂ room fuel q i back not =
-      let p : Steps.Paired l N m k u s₀ g flag r two ds₁ ds₂ M s at y =
-      Steps.paired l N m k u s₀ g flag r two ds₁ ds₂ M s at y e₁ e₂ (omega arith) q i in
+      let p : Steps.Paired g flag r two ds₁ ds₂ M s at y =
+      Steps.paired g flag r two ds₁ ds₂ M s at y e₁ e₂ (omega arith) q i in
       let t : Told = twoPairM l s at y in
       let z : ℕ = next (next y) in
       let on : t .number ≡ y₀ → ⊥ = λ e. not 1 (omega arith) (omega arith) (sym (p .is-next) ∙ e) in
-      let rest : Gone (y / 2 ∷ ds₁) (next y / 2 ∷ ds₂) (Steps.wiped l N m k u s₀ g flag r (next y) (Steps.wiped l N m k u s₀ g flag r y M)) y₀ f (t .words) (at + 1) z (suc n) =
-      gone n f (y / 2 ∷ ds₁) (next y / 2 ∷ ds₂) (Steps.wiped l N m k u s₀ g flag r (next y) (Steps.wiped l N m k u s₀ g flag r y M)) y₀ (t .words) (at + 1) z
+      let rest : Gone (y / 2 ∷ ds₁) (next y / 2 ∷ ds₂) (Steps.wiped g flag r (next y) (Steps.wiped g flag r y M)) y₀ f (t .words) (at + 1) z (suc n) =
+      gone n f (y / 2 ∷ ds₁) (next y / 2 ∷ ds₂) (Steps.wiped g flag r (next y) (Steps.wiped g flag r y M)) y₀ (t .words) (at + 1) z
       (omega (arith, e₁)) (omega (arith, e₂)) (omega arith) (omega arith) (p .going) (p .half) back
       (λ j lo hi. not (suc j) (omega arith) (omega arith)) in
       let here : twoRoundM l y₀ (suc f) s at y ≡ twoRoundM l y₀ f (t .words) (at + 1) z =
@@ -106,7 +106,7 @@ module _ (l : Two) (N m k u : ℕ) (s₀ : List ℕ) (g : Ground l N m k u s₀)
 
   -- ── all rounds ──
 
-  module _ (side : ℕ → ℕ) (slant : total (aslant side) r ≡ 0) (copies : (i : ℕ) → i < m → Fill.C l N m k u s₀ g i ≤ 2) where
+  module _ (side : ℕ → ℕ) (slant : total (aslant side) r ≡ 0) (copies : (i : ℕ) → i < m → Fill.C g i ≤ 2) where
     abbrev pn : ℕ → Pair
     pn e = Ends.pn E flag es e
 
@@ -114,15 +114,15 @@ module _ (l : Two) (N m k u : ℕ) (s₀ : List ℕ) (g : Ground l N m k u s₀)
     early v = Ends.early E flag es v
 
     abbrev ps : List ℕ
-    ps = Fill.evens-of l N m k u s₀ g m
+    ps = Fill.evens-of g m
 
     abbrev Rounded : ℕ → Tour → Type 0
     Rounded v t =
-        Tours.Rounded r Ends.mate E pr early late Half (Steps.ended l N m k u s₀ g flag r two) side slant (two .even)
+        Tours.Rounded r Ends.mate E pr early late Half (Steps.ended g flag r two) side slant (two .even)
         (Ends.first-is E flag es r two) v t
 
     abbrev Num : ℕ → Type 0
-    Num e = Fill.Num l N m k u s₀ g e
+    Num e = Fill.Num g e
 
     -- the pairs of one half: those of 2 copies, and every other along the cycles
     abbrev Dealt-so : Bool → List ℕ → Tour → Type 0
@@ -146,12 +146,12 @@ module _ (l : Two) (N m k u : ℕ) (s₀ : List ℕ) (g : Ground l N m k u s₀)
       pub second-nums : All Num seconds
 
     -- no more than the graph has
-    split-length : (j : ℕ) → j ≤ m → length (Fill.evens-of l N m k u s₀ g j) + length (Fill.odds-of l N m k u s₀ g j) ≤ j
+    split-length : (j : ℕ) → j ≤ m → length (Fill.evens-of g j) + length (Fill.odds-of g j) ≤ j
     unfolding Fill.evens-of Fill.odds-of
     split-length zero b = omega arith
     split-length (suc j) b =
-        let c : ℕ = Fill.C l N m k u s₀ g j in
-        let before : length (Fill.evens-of l N m k u s₀ g j) + length (Fill.odds-of l N m k u s₀ g j) ≤ j = split-length j (omega arith) in
+        let c : ℕ = Fill.C g j in
+        let before : length (Fill.evens-of g j) + length (Fill.odds-of g j) ≤ j = split-length j (omega arith) in
         elim (decLt c 2) [
           | yes q ↦ rw (lt-leb 2 c q) (one (eqb (c % 2) 1) before)
           | no q ↦
@@ -160,9 +160,9 @@ module _ (l : Two) (N m k u : ℕ) (s₀ : List ℕ) (g : Ground l N m k u s₀)
         ]
       where
         one :
-            (q : Bool) → length (Fill.evens-of l N m k u s₀ g j) + length (Fill.odds-of l N m k u s₀ g j) ≤ j →
-            length (Fill.evens-of l N m k u s₀ g j)
-            + length (pick q (Fill.num l N m k u s₀ g j ∷ Fill.odds-of l N m k u s₀ g j) (Fill.odds-of l N m k u s₀ g j))
+            (q : Bool) → length (Fill.evens-of g j) + length (Fill.odds-of g j) ≤ j →
+            length (Fill.evens-of g j)
+            + length (pick q (Fill.num g j ∷ Fill.odds-of g j) (Fill.odds-of g j))
             ≤ suc j
         one true h = omega arith
         one false h = omega arith
@@ -198,7 +198,7 @@ module _ (l : Two) (N m k u : ℕ) (s₀ : List ℕ) (g : Ground l N m k u s₀)
         omega (arith, onto-length (numbers (others b hs)) ds, length-map (others b hs) (λ y. y / 2), others-length n hs e b)
 
     half-num : (y : ℕ) → Half y → Num (y / 2)
-    half-num y i = all-counted Num (y / 2) es (Fill.odds-nums l N m k u s₀ g m (omega arith)) i
+    half-num y i = all-counted Num (y / 2) es (Fill.odds-nums g m (omega arith)) i
 
     dealt-nums : (b : Bool) (hs ds : List ℕ) → All Half hs → All Num ds → All Num (dealt b hs ds)
     dealt-nums b hs ds h k =
@@ -207,22 +207,22 @@ module _ (l : Two) (N m k u : ℕ) (s₀ : List ℕ) (g : Ground l N m k u s₀)
     -- the tour's next party
     abbrev Turned : ℕ → Tour → Type 0
     Turned v t =
-        Tours.Turned r Ends.mate E pr early late Half (Steps.ended l N m k u s₀ g flag r two) side slant (two .even)
+        Tours.Turned r Ends.mate E pr early late Half (Steps.ended g flag r two) side slant (two .even)
         (Ends.first-is E flag es r two) v t
 
     turned : (v : ℕ) (t : Tour) → Rounded v t → Turned v t
     turned v t h =
-        Tours.turned r Ends.mate E pr early late Half (Steps.ended l N m k u s₀ g flag r two) side slant (two .even)
+        Tours.turned r Ends.mate E pr early late Half (Steps.ended g flag r two) side slant (two .even)
         (Ends.first-is E flag es r two) v t h
 
     abbrev Passed : Tour → Tour → Type 0
     Passed t t' =
-        Tours.Passed r Ends.mate E pr early late Half (Steps.ended l N m k u s₀ g flag r two) side slant (two .even)
+        Tours.Passed r Ends.mate E pr early late Half (Steps.ended g flag r two) side slant (two .even)
         (Ends.first-is E flag es r two) t t'
 
     abbrev One-more : ℕ → Tour → Tour → Type 0
     One-more v t t' =
-        Tours.One-more r Ends.mate E pr early late Half (Steps.ended l N m k u s₀ g flag r two) side slant (two .even)
+        Tours.One-more r Ends.mate E pr early late Half (Steps.ended g flag r two) side slant (two .even)
         (Ends.first-is E flag es r two) v t t'
 
     -- what the outer loop needs at the party v
@@ -276,7 +276,7 @@ module _ (l : Two) (N m k u : ℕ) (s₀ : List ℕ) (g : Ground l N m k u s₀)
         ap length (o .along-more) ∙ length-append (along (t .cycles)) (o .cycle) in
         let room : w .number + suc n ≤ m =
         omega (arith, h .size, grown, d .1, twice, few-along t' (suc v) after, split-length m (omega arith)) in
-        let half : Half y = Steps.ended l N m k u s₀ g flag r two .late-half v some .0 in
+        let half : Half y = Steps.ended g flag r two .late-half v some .0 in
         let back : iterate (double (suc n)) next y ≡ y = ap (λ (c : ℕ). iterate c next y) (sym (d .1)) ∙ o .round .closes in
         let not : (j : ℕ) → 0 < j → j < suc n → (iterate (double j) next y ≡ y → ⊥) =
         λ j lo hi e. o .round .inner (double j) (omega (arith, double-is j)) (omega (arith, double-is j, d .1, twice)) e in
@@ -285,10 +285,10 @@ module _ (l : Two) (N m k u : ℕ) (s₀ : List ℕ) (g : Ground l N m k u s₀)
         half back not in
         let pairs : map pr hs ≡ o .cycle = ap (λ (c : ℕ). map pr (trace next c y)) (sym (d .1)) ∙ o .round .pairs in
         let all-half : All Half hs = subst (λ (c : ℕ). All Half (trace next c y)) (d .1) (o .round .halves) in
-        let seen : (x : ℕ) → total (ends x) (o .cycle) ≡ 2 * total (λ z. is x (Steps.leads-to l N m k u s₀ g flag r z)) hs =
+        let seen : (x : ℕ) → total (ends x) (o .cycle) ≡ 2 * total (λ z. is x (Steps.leads-to g flag r z)) hs =
         λ x.
         o .round .visits x
-        ∙ ap (λ (c : ℕ). 2 * total (λ z. is x (Steps.leads-to l N m k u s₀ g flag r z)) (trace next c y)) (d .1) in
+        ∙ ap (λ (c : ℕ). 2 * total (λ z. is x (Steps.leads-to g flag r z)) (trace next c y)) (d .1) in
         let long : length hs ≡ double (suc n) = trace-length next (double (suc n)) y in
         let even : length (along (t .cycles)) % 2 ≡ 0 = omega (arith, h .size) in
         let mark : word (w .words) (l .b + 2 * v) ≡ y + 1 = h .going .marks v b ∙ h .alive v b left in
@@ -313,14 +313,14 @@ module _ (l : Two) (N m k u : ℕ) (s₀ : List ℕ) (g : Ground l N m k u s₀)
                 going = q .going;
                 spent = λ x c e.
                     elim (ℕ-discrete (total (ends x) (t .left)) 0) [
-                      | yes z ↦ Steps.wipe-zero l N m k u s₀ g flag r hs (h .marks) x (h .spent x c z)
+                      | yes z ↦ Steps.wipe-zero g flag r hs (h .marks) x (h .spent x c z)
                       | no z ↦
-                          Steps.wipe-hit l N m k u s₀ g flag r hs (h .marks) x (omega (arith, o .left-less (ends x), seen x))
+                          Steps.wipe-hit g flag r hs (h .marks) x (omega (arith, o .left-less (ends x), seen x))
                     ];
                 alive = λ x c e.
                     let full : total (ends x) (t .left) ≡ 2 =
                     omega (arith, o .left-less (ends x), h .rounded .toured .whole (ends x), two .few x) in
-                    Steps.wipe-miss l N m k u s₀ g flag r hs (h .marks) x (omega (arith, o .left-less (ends x), seen x)) ∙ h .alive x c full;
+                    Steps.wipe-miss g flag r hs (h .marks) x (omega (arith, o .left-less (ends x), seen x)) ∙ h .alive x c full;
                 first-count = dealt-count true (suc n) hs (h .firsts) long ∙ omega (arith, h .first-count, q .number);
                 second-count = dealt-count false (suc n) hs (h .seconds) long ∙ omega (arith, h .second-count, q .number);
                 size = omega (arith, q .number, h .size, grown, d .1, twice);

@@ -116,17 +116,17 @@ module _ (s : List ℕ) (u ends g n width : ℕ) (q : Splits s u ends g n width)
     ended = walked l m N s
 
     walk-done :
-        Walked-all l N m k s grounds flag r (q .side) (rest-slant l s N m (q .side) (2 * q .half) reg pairs)
+        Walked-all grounds flag r (q .side) (rest-slant l s N m (q .side) (2 * q .half) reg pairs)
         (rest-evens l s N m (q .side) (2 * q .half) reg pairs (q .half) refl) ended
     walk-done =
-        walked-all l N m k s grounds flag r (q .side) (rest-slant l s N m (q .side) (2 * q .half) reg pairs)
-        (rest-evens l s N m (q .side) (2 * q .half) reg pairs (q .half) refl) (fillM l m N s) (filled l N m k s grounds flag)
+        walked-all grounds flag r (q .side) (rest-slant l s N m (q .side) (2 * q .half) reg pairs)
+        (rest-evens l s N m (q .side) (2 * q .half) reg pairs (q .half) refl) (fillM l m N s) (filled grounds flag)
         (rest-odd l s N m (q .side) (2 * q .half) reg pairs)
 
     walks : Walks l N (2 * m + N) (fillM l m N s)
     walks =
-        walks-on l N m k s grounds flag r (q .side) (rest-slant l s N m (q .side) (2 * q .half) reg pairs)
-        (rest-evens l s N m (q .side) (2 * q .half) reg pairs (q .half) refl) (fillM l m N s) (2 * m + N) (filled l N m k s grounds flag)
+        walks-on grounds flag r (q .side) (rest-slant l s N m (q .side) (2 * q .half) reg pairs)
+        (rest-evens l s N m (q .side) (2 * q .half) reg pairs (q .half) refl) (fillM l m N s) (2 * m + N) (filled grounds flag)
         (rest-odd l s N m (q .side) (2 * q .half) reg pairs)
 
     abbrev ws : List ℕ
@@ -232,8 +232,8 @@ module _ (s : List ℕ) (u ends g n width : ℕ) (q : Splits s u ends g n width)
           small = omega (arith, q .short);
         }
 
-    first-done : Half-done l m k u u wr pairs 0 s s₂ ws ready-first (omega arith) apart s₃ (half-of C F S flag m apart (dealt 0 ws))
-    first-done = half-done l m k u u wr pairs 0 s s₂ ws ready-first (omega arith) apart
+    first-done : Half-done pairs 0 ready-first (omega arith) apart s₃ (half-of C F S flag m apart (dealt 0 ws))
+    first-done = half-done pairs 0 ready-first (omega arith) apart
 
     ready-second : Ready l m k u h₂ wr s s₃ ws
     ready-second =
@@ -258,8 +258,8 @@ module _ (s : List ℕ) (u ends g n width : ℕ) (q : Splits s u ends g n width)
           small = omega (arith, q .short);
         }
 
-    second-done : Half-done l m k u h₂ wr pairs 1 s s₃ ws ready-second (omega arith) apart s₄ (half-of C F S flag m apart (dealt 1 ws))
-    second-done = half-done l m k u h₂ wr pairs 1 s s₃ ws ready-second (omega arith) apart
+    second-done : Half-done pairs 1 ready-second (omega arith) apart s₄ (half-of C F S flag m apart (dealt 1 ws))
+    second-done = half-done pairs 1 ready-second (omega arith) apart
 
     -- the second half leaves the first
     first-word : (a : ℕ) → a < h₂ → word s₄ a ≡ word s₃ a
@@ -321,10 +321,10 @@ module _ (s : List ℕ) (u ends g n width : ℕ) (q : Splits s u ends g n width)
   pub split-fits : Split-fits l u h₂ m N s
   split-fits =
       record {
-        fills = fills-on l N m k s grounds (λ i. 0);
+        fills = fills-on grounds (λ i. 0);
         walks = walks 0;
-        first = half-fits l m k u u (wr 0) 0 0 s (s₂ 0) (ws 0) (ready-first 0) (omega arith) (apart 0);
-        second = half-fits l m k u h₂ (wr 0) 0 1 s (s₃ 0) (ws 0) (ready-second 0) (omega arith) (apart 0);
+        first = half-fits 0 0 (ready-first 0) (omega arith) (apart 0);
+        second = half-fits 0 1 (ready-second 0) (omega arith) (apart 0);
       }
 
 -- ── for the code's proof ──

@@ -9,9 +9,9 @@ use Rattle.euler.specs.Euler.{taken, first-pair, other-node, Step, Walki
 use Rattle.euler.proofs.Places.{without, Falling, row, first-taken, first-none}
 use Rattle.euler.proofs.Bases.{Laid, P}
 
-module _ (l : Rings) (N m k : ℕ) (s₀ : List ℕ) (g : Laid l N m k s₀) (flag : ℕ → ℕ) where
+module _ {l : Rings} {N m k : ℕ} {s₀ : List ℕ} (g : Laid l N m k s₀) (flag : ℕ → ℕ) where
   abbrev Q : ℕ → Pair
-  Q i = P l N m k s₀ g flag i
+  Q i = P g flag i
 
   -- the stack's words, last first, as steps of a walk that stands at v
   unfoldable pub steps : ℕ → List ℕ → List Step

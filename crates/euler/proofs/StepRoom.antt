@@ -19,9 +19,9 @@ use Rattle.euler.proofs.Following.{ringed-between, left, is-odd, first-
 use Rattle.euler.proofs.Stacks.{Sound, sound-here}
 use Rattle.euler.proofs.Live.{mate-is, edge-low, few-places, Live, ring-here}
 
-module _ (l : Rings) (N m k : ℕ) (s₀ : List ℕ) (g : Laid l N m k s₀) (flag : ℕ → ℕ) (r : List Pair) where
+module _ {l : Rings} {N m k : ℕ} {s₀ : List ℕ} (g : Laid l N m k s₀) (flag : ℕ → ℕ) (r : List Pair) where
   abbrev Q : ℕ → Pair
-  Q i = P l N m k s₀ g flag i
+  Q i = P g flag i
 
   -- the party to which a half-edge leads
   abbrev far : Bool → ℕ → ℕ
@@ -32,24 +32,24 @@ module _ (l : Rings) (N m k : ℕ) (s₀ : List ℕ) (g : Laid l N m k s₀) (fl
   low-node y b = omega (arith, g .place, g .parties, g .room)
 
   live-takes :
-      (s : List ℕ) (w : Walk) (xs ws is : List ℕ) → Live l N m k s₀ g flag r s w xs ws is → w .next < N → (f : First Q (w .at) is) →
+      (s : List ℕ) (w : Walk) (xs ws is : List ℕ) → Live g flag r s w xs ws is → w .next < N → (f : First Q (w .at) is) →
       Takes l s w (edge (f .side) (f .entry))
   live-takes s w xs ws is h b f =
       let v : ℕ = w .at in
-      let vb : v < N = sound-here l N m k s₀ g flag v xs (h .sound b) in
+      let vb : v < N = sound-here g flag v xs (h .sound b) in
       let d : Bool = f .side in
       let i : ℕ = f .entry in
-      let ib : i < m = is-odd l N m k s₀ g flag v s is vb (h .falling) (h .rings) f .below in
-      let out₁ = first-out l N m k s₀ g flag v s is vb (h .falling) (h .rings) f in
+      let ib : i < m = is-odd g flag v s is vb (h .falling) (h .rings) f .below in
+      let out₁ = first-out g flag v s is vb (h .falling) (h .rings) f in
       let t : List ℕ = popM l s (l .top + v) (edge d i) in
       let len : length s ≡ length s₀ = h .rings .rung .keeps .len in
       let lent : length t ≡ length s₀ = out₁ .0 .keeps .len in
-      let p = ringed-between l N m k s₀ g flag (λ u. nodes Q u is) s v (edge d i) vb (first-there l N m k s₀ g flag v s is vb (h .falling) (h .rings) f) (h .rings .rung) in
+      let p = ringed-between g flag (λ u. nodes Q u is) s v (edge d i) vb (first-there g flag v s is vb (h .falling) (h .rings) f) (h .rings .rung) in
       let q =
-      ringed-between l N m k s₀ g flag (left l N m k s₀ g flag v s is vb (h .falling) (h .rings) f) t (far d i) (edge (not d) i) (end-below l N m k s₀ g flag (not d) i ib)
-      (mate-there l N m k s₀ g flag v s is vb (h .falling) (h .rings) f) (out₁ .0) in
-      let el : edge d i < l .top = edge-is l N m k s₀ g flag d i ib .0 in
-      let yl : edge (not d) i < l .top = edge-is l N m k s₀ g flag (not d) i ib .0 in
+      ringed-between g flag (left g flag v s is vb (h .falling) (h .rings) f) t (far d i) (edge (not d) i) (end-below g flag (not d) i ib)
+      (mate-there g flag v s is vb (h .falling) (h .rings) f) (out₁ .0) in
+      let el : edge d i < l .top = edge-is g flag d i ib .0 in
+      let yl : edge (not d) i < l .top = edge-is g flag (not d) i ib .0 in
       record {
         leads = omega (arith, len, edge-low d m i ib, g .entries, g .room);
         pops =
@@ -65,31 +65,31 @@ module _ (l : Rings) (N m k : ℕ) (s₀ : List ℕ) (g : Laid l N m k s₀) (fl
               before = omega (arith, lent, low-node (word t (l .b + 2 * edge (not d) i + 1)) (q .prior-node .0));
               next = omega (arith, lent, low-node (word t (l .b + 2 * edge (not d) i)) (q .after-node .0));
             });
-        stack = omega (arith, len, h .size, few-places l N m k s₀ g flag r, g .entries, g .column, g .room);
+        stack = omega (arith, len, h .size, few-places g flag r, g .entries, g .column, g .room);
       }
 
-  live-backs : (s : List ℕ) (w : Walk) (xs ws is : List ℕ) → Live l N m k s₀ g flag r s w xs ws is → w .next < N → 0 < w .height → Backs l s w
+  live-backs : (s : List ℕ) (w : Walk) (xs ws is : List ℕ) → Live g flag r s w xs ws is → w .next < N → 0 < w .height → Backs l s w
   live-backs s w xs ws is h b p =
       let x : ℕ = word s (l .col + 2 * (w .height - 1)) in
       let e : xs ≡ x ∷ column l true s (w .height - 1) = sym (h .stack) ∙ column-first l true s (w .height) p in
-      let im : x / 2048 < m = subst (Sound l N m k s₀ g flag (w .at)) e (h .sound b) .1 in
+      let im : x / 2048 < m = subst (Sound g flag (w .at)) e (h .sound b) .1 in
       let len : length s ≡ length s₀ = h .rings .rung .keeps .len in
       record {
-        stack = omega (arith, len, h .size, few-places l N m k s₀ g flag r, g .entries, g .column, g .room);
+        stack = omega (arith, len, h .size, few-places g flag r, g .entries, g .column, g .room);
         mark = omega (arith, len, g .entries, g .room);
-        column = omega (arith, len, h .size, few-places l N m k s₀ g flag r, g .entries, g .column, g .room);
+        column = omega (arith, len, h .size, few-places g flag r, g .entries, g .column, g .room);
       }
 
-  pub live-steps : (s : List ℕ) (w : Walk) (xs ws is : List ℕ) → Live l N m k s₀ g flag r s w xs ws is → w .next < N → Steps l s w
+  pub live-steps : (s : List ℕ) (w : Walk) (xs ws is : List ℕ) → Live g flag r s w xs ws is → w .next < N → Steps l s w
   live-steps s w xs ws is h b =
-      let vb : w .at < N = sound-here l N m k s₀ g flag (w .at) xs (h .sound b) in
+      let vb : w .at < N = sound-here g flag (w .at) xs (h .sound b) in
       record {
         here = omega (arith, h .rings .rung .keeps .len, low-node (l .top + w .at) (omega arith));
         takes = λ n.
-            ⊎-elim (λ e. absurd (n (ring-here l N m k s₀ g flag r s w xs ws is h vb [] (e .1) .0)))
+            ⊎-elim (λ e. absurd (n (ring-here g flag r s w xs ws is h vb [] (e .1) .0)))
             (λ f.
             subst (Takes l s w)
-            (sym (ring-here l N m k s₀ g flag r s w xs ws is h vb (edge (f .side) (f .entry) ∷ f .nodes-left) (f .nodes-is) .0))
+            (sym (ring-here g flag r s w xs ws is h vb (edge (f .side) (f .entry) ∷ f .nodes-left) (f .nodes-is) .0))
             (live-takes s w xs ws is h b f))
             (first-node Q (w .at) is);
         backs = live-backs s w xs ws is h b;

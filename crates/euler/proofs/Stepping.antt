@@ -35,7 +35,7 @@ use Rattle.euler.proofs.Taking.{take-form, live-take}
 use Rattle.euler.proofs.Backing.{iterate-zero, live-back, live-next}
 use Rattle.euler.proofs.StepRoom.{live-steps}
 
-module _ (l : Rings) (N m k : ℕ) (s₀ : List ℕ) (g : Laid l N m k s₀) (flag : ℕ → ℕ) (r : List Pair) (side : ℕ → ℕ) (slant : total (aslant side) r ≡ 0) (evens : (v : ℕ) → total (ends v) r % 2 ≡ 0) where
+module _ {l : Rings} {N m k : ℕ} {s₀ : List ℕ} (g : Laid l N m k s₀) (flag : ℕ → ℕ) (r : List Pair) (side : ℕ → ℕ) (slant : total (aslant side) r ≡ 0) (evens : (v : ℕ) → total (ends v) r % 2 ≡ 0) where
   abbrev C : ℕ → ℕ
   C i = copiesM l s₀ i
 
@@ -43,7 +43,7 @@ module _ (l : Rings) (N m k : ℕ) (s₀ : List ℕ) (g : Laid l N m k s₀) (fl
   odd i = Odd m C i
 
   abbrev Q : ℕ → Pair
-  Q i = P l N m k s₀ g flag i
+  Q i = P g flag i
 
   abbrev places-all : List ℕ
   places-all = odd-places m C
@@ -53,37 +53,37 @@ module _ (l : Rings) (N m k : ℕ) (s₀ : List ℕ) (g : Laid l N m k s₀) (fl
     pub xs : List ℕ
     pub ws : List ℕ
     pub is : List ℕ
-    pub live : Live l N m k s₀ g flag r (t .words) (t .walk) xs ws is
+    pub live : Live g flag r (t .words) (t .walk) xs ws is
 
   live-step :
-      (s : List ℕ) (w : Walk) (xs ws is : List ℕ) → Live l N m k s₀ g flag r s w xs ws is → w .next < N →
-      Moved l N m k s₀ g flag r (record { words = s; walk = w }) (stepM l N (record { words = s; walk = w }))
+      (s : List ℕ) (w : Walk) (xs ws is : List ℕ) → Live g flag r s w xs ws is → w .next < N →
+      Moved g flag r (record { words = s; walk = w }) (stepM l N (record { words = s; walk = w }))
   live-step s w xs ws is h b =
       let t : Stage = record { words = s; walk = w } in
-      let vb : w .at < N = sound-here l N m k s₀ g flag (w .at) xs (h .sound b) in
+      let vb : w .at < N = sound-here g flag (w .at) xs (h .sound b) in
       let x : ℕ = word s (l .b + 2 * (l .top + w .at)) in
       elim (ℕ-discrete x (l .top + w .at)) [
         | yes e ↦
-            subst (Moved l N m k s₀ g flag r t) (sym (step-stuck l N s w b e))
+            subst (Moved g flag r t) (sym (step-stuck l N s w b e))
             (elim (decLt 0 (w .height)) [
-              | yes p ↦ subst (Moved l N m k s₀ g flag r t) (sym (stuck-backs l s w p)) (live-back l N m k s₀ g flag r s w xs ws is h b p e)
+              | yes p ↦ subst (Moved g flag r t) (sym (stuck-backs l s w p)) (live-back g flag r s w xs ws is h b p e)
               | no p ↦
                   let z : w .height ≤ 0 = omega arith in
-                  subst (Moved l N m k s₀ g flag r t) (sym (stuck-next l s w z)) (live-next l N m k s₀ g flag r side slant evens s w xs ws is h b z e)
+                  subst (Moved g flag r t) (sym (stuck-next l s w z)) (live-next g flag r side slant evens s w xs ws is h b z e)
             ])
         | no n ↦
-            ⊎-elim (λ e. absurd (n (ring-here l N m k s₀ g flag r s w xs ws is h vb [] (e .1) .0)))
+            ⊎-elim (λ e. absurd (n (ring-here g flag r s w xs ws is h vb [] (e .1) .0)))
             (λ f.
-            let o : odd (f .entry) = has-odd l N m k s₀ g flag s is (f .entry) (h .rings) (f .has) in
+            let o : odd (f .entry) = has-odd g flag s is (f .entry) (h .rings) (f .has) in
             let first : x ≡ edge (f .side) (f .entry) =
-            ring-here l N m k s₀ g flag r s w xs ws is h vb (edge (f .side) (f .entry) ∷ f .nodes-left) (f .nodes-is) .0 in
-            subst (Moved l N m k s₀ g flag r t)
-            (sym (step-takes l N s w b n ∙ take-form l N m k s₀ g flag r s w (f .side) (f .entry) x first (h .rings .leads (f .side) (f .entry) o)))
-            (live-take l N m k s₀ g flag r s w xs ws is h b f))
+            ring-here g flag r s w xs ws is h vb (edge (f .side) (f .entry) ∷ f .nodes-left) (f .nodes-is) .0 in
+            subst (Moved g flag r t)
+            (sym (step-takes l N s w b n ∙ take-form g flag r s w (f .side) (f .entry) x first (h .rings .leads (f .side) (f .entry) o)))
+            (live-take g flag r s w xs ws is h b f))
             (first-node Q (w .at) is)
       ]
 
-  alive-step : (t : Stage) → Alive t → (N ≤ t .walk .next) ⊎ Moved l N m k s₀ g flag r t (stepM l N t)
+  alive-step : (t : Stage) → Alive t → (N ≤ t .walk .next) ⊎ Moved g flag r t (stepM l N t)
   alive-step t a =
       elim (decLt (t .walk .next) N) [
         | yes b ↦ inr (live-step (t .words) (t .walk) (a .xs) (a .ws) (a .is) (a .live) b)
@@ -98,10 +98,10 @@ module _ (l : Rings) (N m k : ℕ) (s₀ : List ℕ) (g : Laid l N m k s₀) (fl
 
   -- Enough steps bring the walk past the last party.
   pub walk-ends :
-      (t : Stage) (n : ℕ) → Alive t → measure l N m k s₀ g flag r t ≤ n → Alive (walkM l N n t) × (N ≤ walkM l N n t .walk .next)
+      (t : Stage) (n : ℕ) → Alive t → measure g flag r t ≤ n → Alive (walkM l N n t) × (N ≤ walkM l N n t .walk .next)
   walk-ends t n a b = (
     iterate-keeps {Inv = Alive} (stepM l N) alive-keeps n t a,
-    iterate-ends {Inv = Alive} {Done = λ u. N ≤ u .walk .next} (stepM l N) (measure l N m k s₀ g flag r) alive-keeps
+    iterate-ends {Inv = Alive} {Done = λ u. N ≤ u .walk .next} (stepM l N) (measure g flag r) alive-keeps
         (λ u i. ⊎-elim (λ d. inl d) (λ e. inr (e .less)) (alive-step u i))
         (λ u i d. subst (λ (z : Stage). N ≤ z .walk .next) (sym (step-idle l N u d)) d) n t b a,
   )
@@ -115,7 +115,7 @@ module _ (l : Rings) (N m k : ℕ) (s₀ : List ℕ) (g : Laid l N m k s₀) (fl
       elim (ℕ-discrete (C x % 2) 1)
       [ yes e ↦ rw (eq-eqb (C x % 2) 1 e) (e, odds-odd xs) | no n ↦ rw (ne-eqb (C x % 2) 1 n) (odds-odd xs) ]
 
-  start-rings : (s : List ℕ) → Filled l N m k s₀ g flag s → Remaining l N m k s₀ g flag s places-all
+  start-rings : (s : List ℕ) → Filled g flag s → Remaining g flag s places-all
   unfolding odd-places
   start-rings s f =
       record {
@@ -126,11 +126,11 @@ module _ (l : Rings) (N m k : ℕ) (s₀ : List ℕ) (g : Laid l N m k s₀) (fl
       }
 
   start-live :
-      (s : List ℕ) → Filled l N m k s₀ g flag s → reverse r ≡ map Q places-all →
-      Live l N m k s₀ g flag r s (record { next = 0; at = 0; height = 0; written = 0 }) [] [] places-all
+      (s : List ℕ) → Filled g flag s → reverse r ≡ map Q places-all →
+      Live g flag r s (record { next = 0; at = 0; height = 0; written = 0 }) [] [] places-all
   unfolding column mark-of steps straight odd-places
   start-live s f e =
-      let on : walking l N m k s₀ g flag 0 [] places-all [] ≡ straight 0 r =
+      let on : walking g flag 0 [] places-all [] ≡ straight 0 r =
       ap (λ (z : List Pair). record { stack = []; left = z; written = [] }) (sym e) in
       record {
         rings = start-rings s f;
@@ -147,9 +147,9 @@ module _ (l : Rings) (N m k : ℕ) (s₀ : List ℕ) (g : Laid l N m k s₀) (fl
         done = λ b. on;
       }
 
-  start-measure : (s : List ℕ) → measure l N m k s₀ g flag r (record { words = s; walk = record { next = 0; at = 0; height = 0; written = 0 } }) ≤ 2 * m + N
+  start-measure : (s : List ℕ) → measure g flag r (record { words = s; walk = record { next = 0; at = 0; height = 0; written = 0 } }) ≤ 2 * m + N
   unfolding measure
-  start-measure s = omega (arith, few-places l N m k s₀ g flag r)
+  start-measure s = omega (arith, few-places g flag r)
 
   -- The walk over filled rings has ended in time, and has written what the straight walk has.
   pub record Walked-all (t : Stage) : Type 0 where
@@ -162,7 +162,7 @@ module _ (l : Rings) (N m k : ℕ) (s₀ : List ℕ) (g : Laid l N m k s₀) (fl
     pub same : map Q ws ≡ straight N r .written
 
   pub walked-all :
-      (s : List ℕ) → Filled l N m k s₀ g flag s → reverse r ≡ map Q places-all →
+      (s : List ℕ) → Filled g flag s → reverse r ≡ map Q places-all →
       Walked-all (walkM l N (2 * m + N) (record { words = s; walk = record { next = 0; at = 0; height = 0; written = 0 } }))
   walked-all s f e =
       let t₀ : Stage = record { words = s; walk = record { next = 0; at = 0; height = 0; written = 0 } } in
@@ -178,18 +178,18 @@ module _ (l : Rings) (N m k : ℕ) (s₀ : List ℕ) (g : Laid l N m k s₀) (fl
         written = h .written;
         marks = h .marks;
         places = h .places;
-        few = omega (arith, h .size, few-places l N m k s₀ g flag r);
+        few = omega (arith, h .size, few-places g flag r);
         same = ap (λ (w : Walking). w .written) (h .done (p .1)) ∙ ap (λ (v : ℕ). straight v r .written) last;
       }
 
   -- Every place that the walk touches is one.
   pub walks-on :
-      (s : List ℕ) (n : ℕ) → Filled l N m k s₀ g flag s → reverse r ≡ map Q places-all → Walks l N n s
+      (s : List ℕ) (n : ℕ) → Filled g flag s → reverse r ≡ map Q places-all → Walks l N n s
   walks-on s n f e =
       record {
         steps = λ j c b.
             let a : Alive (walkM l N j (begun s)) =
             iterate-keeps {Inv = Alive} (stepM l N) alive-keeps j (begun s)
             (record { xs = []; ws = []; is = places-all; live = start-live s f e }) in
-            live-steps l N m k s₀ g flag r (walkM l N j (begun s) .words) (walkM l N j (begun s) .walk) (a .xs) (a .ws) (a .is) (a .live) b;
+            live-steps g flag r (walkM l N j (begun s) .words) (walkM l N j (begun s) .walk) (a .xs) (a .ws) (a .is) (a .live) b;
       }

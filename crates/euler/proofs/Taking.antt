@@ -25,7 +25,7 @@ use Rattle.euler.proofs.Following.{remaining-same, has-odd, remaining-t
 use Rattle.euler.proofs.Stacks.{sound-here, walking, step-on}
 use Rattle.euler.proofs.Live.{mate-is, entry-is, edge-low, few-places, Live, measure, Moved}
 
-module _ (l : Rings) (N m k : ℕ) (s₀ : List ℕ) (g : Laid l N m k s₀) (flag : ℕ → ℕ) (r : List Pair) where
+module _ {l : Rings} {N m k : ℕ} {s₀ : List ℕ} (g : Laid l N m k s₀) (flag : ℕ → ℕ) (r : List Pair) where
   abbrev C : ℕ → ℕ
   C i = copiesM l s₀ i
 
@@ -33,7 +33,7 @@ module _ (l : Rings) (N m k : ℕ) (s₀ : List ℕ) (g : Laid l N m k s₀) (fl
   odd i = Odd m C i
 
   abbrev Q : ℕ → Pair
-  Q i = P l N m k s₀ g flag i
+  Q i = P g flag i
 
   -- the party to which a half-edge leads
   abbrev far : Bool → ℕ → ℕ
@@ -65,7 +65,7 @@ module _ (l : Rings) (N m k : ℕ) (s₀ : List ℕ) (g : Laid l N m k s₀) (fl
   -- the stack after taking
   took-stack :
       (s : List ℕ) (w : Walk) (d : Bool) (i : ℕ) → length (out s (w .at) d i) ≡ length s₀ → w .at < N → w .height < k → i < m →
-      Aside l N m k s₀ g flag s (out s (w .at) d i) →
+      Aside g flag s (out s (w .at) d i) →
       column l true (took s w d i) (w .height + 1) ≡ (i * 2048 + w .at) ∷ column l true s (w .height)
   took-stack s w d i len vb hb ib a =
       let u : List ℕ = out s (w .at) d i in
@@ -79,8 +79,8 @@ module _ (l : Rings) (N m k : ℕ) (s₀ : List ℕ) (g : Laid l N m k s₀) (fl
       column-more l true (took s w d i) (w .height) ∙ rw (top, under)
 
   pub live-take :
-      (s : List ℕ) (w : Walk) (xs ws is : List ℕ) → Live l N m k s₀ g flag r s w xs ws is → w .next < N → (f : First Q (w .at) is) →
-      Moved l N m k s₀ g flag r (record { words = s; walk = w })
+      (s : List ℕ) (w : Walk) (xs ws is : List ℕ) → Live g flag r s w xs ws is → w .next < N → (f : First Q (w .at) is) →
+      Moved g flag r (record { words = s; walk = w })
       (record {
         words = took s w (f .side) (f .entry);
         walk = record { next = w .next; at = far (f .side) (f .entry); height = w .height + 1; written = w .written };
@@ -88,20 +88,20 @@ module _ (l : Rings) (N m k : ℕ) (s₀ : List ℕ) (g : Laid l N m k s₀) (fl
   unfolding measure
   live-take s w xs ws is h b f =
       let v : ℕ = w .at in
-      let vb : v < N = sound-here l N m k s₀ g flag v xs (h .sound b) in
+      let vb : v < N = sound-here g flag v xs (h .sound b) in
       let d : Bool = f .side in
       let i : ℕ = f .entry in
-      let o : odd i = has-odd l N m k s₀ g flag s is i (h .rings) (f .has) in
+      let o : odd i = has-odd g flag s is i (h .rings) (f .has) in
       let ib : i < m = o .below in
-      let fb : far d i < N = end-below l N m k s₀ g flag (not d) i ib in
-      let out-is = remaining-take l N m k s₀ g flag v s is vb (h .falling) (h .rings) f in
+      let fb : far d i < N = end-below g flag (not d) i ib in
+      let out-is = remaining-take g flag v s is vb (h .falling) (h .rings) f in
       let u : List ℕ = out s v d i in
       let a : ℕ = l .col + 2 * w .height in
       let x : ℕ = i * 2048 + v in
       let shorter : length is ≡ suc (length (without i is)) = without-shorter Q v i is (f .row-left) (h .falling) (f .row-is) in
-      let hb : w .height < k = omega (arith, h .size, few-places l N m k s₀ g flag r, g .entries) in
-      let on : walk-step (w .next) (walking l N m k s₀ g flag v xs is ws) ≡ walking l N m k s₀ g flag (far d i) (x ∷ xs) (without i is) ws =
-      step-on l N m k s₀ g flag (w .next) v i (far d i) xs is (f .row-left) ws (h .rooted) (h .falling) (f .row-is)
+      let hb : w .height < k = omega (arith, h .size, few-places g flag r, g .entries) in
+      let on : walk-step (w .next) (walking g flag v xs is ws) ≡ walking g flag (far d i) (x ∷ xs) (without i is) ws =
+      step-on g flag (w .next) v i (far d i) xs is (f .row-left) ws (h .rooted) (h .falling) (f .row-is)
       (omega (arith, g .few)) (omega (arith, g .few)) (other-party d i v ib (f .own)) in
       let q₁ : x / 2048 ≡ i = omega (arith, g .few) in
       let q₂ : x % 2048 ≡ v = omega (arith, g .few) in
@@ -112,8 +112,8 @@ module _ (l : Rings) (N m k : ℕ) (s₀ : List ℕ) (g : Laid l N m k s₀) (fl
         live =
             record {
               rings =
-                  remaining-same l N m k s₀ g flag u (took s w d i) (without i is)
-                  (same-high l N m k s₀ g flag u a x (omega (arith, g .column)))
+                  remaining-same g flag u (took s w d i) (without i is)
+                  (same-high g flag u a x (omega (arith, g .column)))
                   (λ e j c. away u a (l .b + 2 * edge e j + 3) x (λ q. omega (arith, g .column, g .entries, edge-low e m j c))) (out-is .0);
               stack =
                   took-stack s w d i (out-is .0 .rung .keeps .len) vb hb ib (out-is .1) ∙ ap (λ (z : List ℕ). x ∷ z) (h .stack);
