@@ -15,9 +15,9 @@ use Rattle.euler.proofs.Bases.{Laid, Node}
 odd-not-even : (p j : ℕ) → p ≡ 2 * j + 1 → p % 2 ≡ 0 → ⊥
 odd-not-even p j e h = omega arith
 
-module _ {l : Rings} {N m k : ℕ} {s₀ : List ℕ} (g : Laid l N m k s₀) (flag : ℕ → ℕ) where
+module _ {l : Rings} {N m k : ℕ} {s₀ : List ℕ} (g : Laid l N m k s₀) where
   abbrev Nd : ℕ → Type 0
-  Nd y = Node g flag y
+  Nd y = Node g y
 
   -- ── words beside the nodes ──
 

@@ -56,8 +56,8 @@ module _ {l : Rings} {N m k : ℕ} {s₀ : List ℕ} (g : Laid l N m k s₀) (fl
   wrote-rings s w i is ib wb h =
       let t : List ℕ = put-word s (l .b + 8 * i + 2) (2 + w .written % 2) in
       remaining-same g flag s (wrote s w i) is
-      (same-trans g flag s t (wrote s w i) (same-mark g flag s i (2 + w .written % 2) ib)
-      (same-high g flag t (l .col + 2 * w .written + 1) i (omega (arith, g .column))))
+      (same-trans g s t (wrote s w i) (same-mark g s i (2 + w .written % 2) ib)
+      (same-high g t (l .col + 2 * w .written + 1) i (omega (arith, g .column))))
       (λ e j c.
       wrote-away s w i (l .b + 2 * edge e j + 3) (λ q. omega arith) (λ q. omega (arith, g .column, g .entries, edge-low e m j c)))
       h

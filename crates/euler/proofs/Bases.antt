@@ -54,20 +54,7 @@ pub record Laid (l : Rings) (N m k : ℕ) (s : List ℕ) : Type 0 where
   pub table : (i : ℕ) → i < m → l .ends + 2 * word s (l .g + 2 + 2 * i) + 1 < l .b
   pub fit : Ends-fit N m (first-at l s) (second-at l s)
 
-module _ {l : Rings} {N m k : ℕ} {s₀ : List ℕ} (g : Laid l N m k s₀) (flag : ℕ → ℕ) where
-  abbrev C : ℕ → ℕ
-  C i = copiesM l s₀ i
-
-  abbrev F : ℕ → ℕ
-  F i = first-at l s₀ i
-
-  abbrev S : ℕ → ℕ
-  S i = second-at l s₀ i
-
-  -- the pair of the rest at a place
-  abbrev pub P : ℕ → Pair
-  P i = pair (F i) (S i) 1 (flag i)
-
+module _ {l : Rings} {N m k : ℕ} {s₀ : List ℕ} (g : Laid l N m k s₀) where
   -- a node: a half-edge, or a party's own
   abbrev pub Node : ℕ → Type 0
   Node y = (y < l .top + N) × (y < l .top → y % 2 ≡ 0)
@@ -86,25 +73,30 @@ module _ {l : Rings} {N m k : ℕ} {s₀ : List ℕ} (g : Laid l N m k s₀) (fl
   edge-is true i b = (omega (arith, g .place, g .entries), omega arith)
   edge-is false i b = (omega (arith, g .place, g .entries), omega arith)
 
-  pub end-below : (d : Bool) (i : ℕ) → i < m → end P d i < N
-  end-below true i b = g .fit .first-below i b
-  end-below false i b = g .fit .second-below i b
-
   -- ── the graph as it was ──
 
   pub number-kept : (s : List ℕ) → Keeps (l .b) s₀ s → (i : ℕ) → i < m → word s (l .g + 2 + 2 * i) ≡ word s₀ (l .g + 2 + 2 * i)
   number-kept s h i b = h .same (l .g + 2 + 2 * i) (omega (arith, g .graph))
 
-  pub copies-kept : (s : List ℕ) → Keeps (l .b) s₀ s → (i : ℕ) → i < m → copiesM l s i ≡ C i
+  pub copies-kept : (s : List ℕ) → Keeps (l .b) s₀ s → (i : ℕ) → i < m → copiesM l s i ≡ copiesM l s₀ i
   copies-kept s h i b = h .same (l .g + 3 + 2 * i) (omega (arith, g .graph))
 
-  pub end-kept :
-      (s : List ℕ) → Keeps (l .b) s₀ s → (d : Bool) (i : ℕ) → i < m → endM l (side-of d) s i ≡ end P d i
-  end-kept s h true i b =
-      let at : l .ends + 2 * word s₀ (l .g + 2 + 2 * i) + 0 ≡ l .ends + 2 * word s₀ (l .g + 2 + 2 * i) = omega arith in
-      ap (λ (e : ℕ). word s (l .ends + 2 * e + 0)) (number-kept s h i b)
-      ∙ ap (word s) at
-      ∙ h .same (l .ends + 2 * word s₀ (l .g + 2 + 2 * i)) (omega (arith, g .table i b))
-  end-kept s h false i b =
-      ap (λ (e : ℕ). word s (l .ends + 2 * e + 1)) (number-kept s h i b)
-      ∙ h .same (l .ends + 2 * word s₀ (l .g + 2 + 2 * i) + 1) (g .table i b)
+  module _ (flag : ℕ → ℕ) where
+    -- the pair of the rest at a place
+    abbrev pub P : ℕ → Pair
+    P i = pair (first-at l s₀ i) (second-at l s₀ i) 1 (flag i)
+
+    pub end-below : (d : Bool) (i : ℕ) → i < m → end P d i < N
+    end-below true i b = g .fit .first-below i b
+    end-below false i b = g .fit .second-below i b
+
+    pub end-kept :
+        (s : List ℕ) → Keeps (l .b) s₀ s → (d : Bool) (i : ℕ) → i < m → endM l (side-of d) s i ≡ end P d i
+    end-kept s h true i b =
+        let at : l .ends + 2 * word s₀ (l .g + 2 + 2 * i) + 0 ≡ l .ends + 2 * word s₀ (l .g + 2 + 2 * i) = omega arith in
+        ap (λ (e : ℕ). word s (l .ends + 2 * e + 0)) (number-kept s h i b)
+        ∙ ap (word s) at
+        ∙ h .same (l .ends + 2 * word s₀ (l .g + 2 + 2 * i)) (omega (arith, g .table i b))
+    end-kept s h false i b =
+        ap (λ (e : ℕ). word s (l .ends + 2 * e + 1)) (number-kept s h i b)
+        ∙ h .same (l .ends + 2 * word s₀ (l .g + 2 + 2 * i) + 1) (g .table i b)

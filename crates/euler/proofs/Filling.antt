@@ -32,7 +32,7 @@ module _ {l : Rings} {N m k : ℕ} {s₀ : List ℕ} (g : Laid l N m k s₀) (fl
   Q i = P g flag i
 
   abbrev Rung : (ℕ → List ℕ) → List ℕ → Type 0
-  Rung R s = Ringed g flag R s
+  Rung R s = Ringed g R s
 
   -- ── the half-edges of one side ──
 
@@ -110,7 +110,7 @@ module _ {l : Rings} {N m k : ℕ} {s₀ : List ℕ} (g : Laid l N m k s₀) (fl
   lead-no-mark true y i e = omega arith
   lead-no-mark false y i e = omega arith
 
-  beside-put : (d : Bool) (s : List ℕ) (i : ℕ) → i < k → Aside g flag (put-word s (l .b + 2 * edge (not d) i + 3) (end Q d i)) (put-side d s i) → Beside d s (put-side d s i)
+  beside-put : (d : Bool) (s : List ℕ) (i : ℕ) → i < k → Aside g (put-word s (l .b + 2 * edge (not d) i + 3) (end Q d i)) (put-side d s i) → Beside d s (put-side d s i)
   beside-put d s i b a =
       let at : ℕ = l .b + 2 * edge (not d) i + 3 in
       record {
@@ -132,9 +132,9 @@ module _ {l : Rings} {N m k : ℕ} {s₀ : List ℕ} (g : Laid l N m k s₀) (fl
       let vb : v < N = end-below g flag d i b in
       let R : ℕ → List ℕ = λ u. pre u ++ part d u ys in
       let T : ℕ → List ℕ = λ u. pre u ++ part d u (ys ++ (i ∷ [])) in
-      let r : Rung T (put-side d s i) × Aside g flag t (put-side d s i) =
-      ringed-more g flag R T t v (edge d i) vb (edge-is g flag d i b)
-      (ringed-same g flag R s t (same-lead g flag s (not d) i v ik) (h .rung))
+      let r : Rung T (put-side d s i) × Aside g t (put-side d s i) =
+      ringed-more g R T t v (edge d i) vb (edge-is g d i b)
+      (ringed-same g R s t (same-lead g s (not d) i v ik) (h .rung))
       (λ u c. all-append (λ y. edge d i ≡ y → ⊥) (pre u) (part d u ys) (fresh u) (part-fresh d u i ys newer))
       (longer v (edge d i ∷ []) (part-own d i)) (λ u c n. longer u [] (part-other d u i n) ∙ append-nil (R u)) in
       let e : Beside d s (put-side d s i) = beside-put d s i ik (r .1) in
@@ -185,13 +185,13 @@ module _ {l : Rings} {N m k : ℕ} {s₀ : List ℕ} (g : Laid l N m k s₀) (fl
       record {
         note = omega (arith, g .column, g .room);
         number = rw e (omega (arith, g .graph, g .room));
-        end = rw (e, number-kept g flag s (h .keeps) i b) (table-low d i b len);
+        end = rw (e, number-kept g s (h .keeps) i b) (table-low d i b len);
         words = rw e (omega (arith, g .room));
         appends =
             rw (e, end-kept g flag s (h .keeps) d i b, lead-is d i, edge-at d i)
-            (ringed-appends g flag R (put-word s at v) v (edge d i) (end-below g flag d i b)
-            (edge-is g flag d i b)
-            (ringed-same g flag R s (put-word s at v) (same-lead g flag s (not d) i v ik) h));
+            (ringed-appends g R (put-word s at v) v (edge d i) (end-below g flag d i b)
+            (edge-is g d i b)
+            (ringed-same g R s (put-word s at v) (same-lead g s (not d) i v ik) h));
       }
     where
       table-low : (d : Bool) (i : ℕ) → i < m → length s ≡ length s₀ → l .ends + 2 * word s₀ (l .g + 2 + 2 * i) + side-of d < length s
@@ -250,7 +250,7 @@ module _ {l : Rings} {N m k : ℕ} {s₀ : List ℕ} (g : Laid l N m k s₀) (fl
               keeps = h .keeps;
               rings = λ v c.
                   subst (λ (ys : List ℕ). Chain (l .b) s (l .top + v) ys (l .top + v)) (sym (append-nil (pre v))) (h .rings v c);
-              edges = λ v c. subst (All (Edge g flag)) (sym (append-nil (pre v))) (h .edges v c);
+              edges = λ v c. subst (All (Edge g)) (sym (append-nil (pre v))) (h .edges v c);
             };
         leads = tt;
       }
@@ -267,24 +267,24 @@ module _ {l : Rings} {N m k : ℕ} {s₀ : List ℕ} (g : Laid l N m k s₀) (fl
   noted-words = siftAllM l m begun-words
 
   begun-is : Rung (λ v. []) begun-words
-  begun-is = let r = started g flag N (omega arith) in record { keeps = r .0; rings = r .1; edges = λ v b. tt }
+  begun-is = let r = started g N (omega arith) in record { keeps = r .0; rings = r .1; edges = λ v b. tt }
 
-  noted-is : Sifted g flag m begun-words noted-words
-  noted-is = sifted g flag begun-words (begun-is .keeps) m (omega arith)
+  noted-is : Sifted g m begun-words noted-words
+  noted-is = sifted g begun-words (begun-is .keeps) m (omega arith)
 
   -- one side of all odd entries
   all-places :
       (d : Bool) (pre : ℕ → List ℕ) → ((i v : ℕ) → All (λ (y : ℕ). edge d i ≡ y → ⊥) (pre v)) → (s : List ℕ) → Noted l s places →
       Rung pre s → Side-filled d pre places (length places) s
   all-places d pre fresh s n h =
-      sides d pre fresh places [] s m (omega arith) (few-odds g flag m) tt
+      sides d pre fresh places [] s m (omega arith) (few-odds g m) tt
       (keep-all (λ i. i < m) (λ i. eqb (C i % 2) 1) (descend m) (descend-below m))
       (keep-falling (λ i. eqb (C i % 2) 1) (descend m) (descend-falling m)) n (side-none d pre s h)
 
   firsts-filled : Side-filled true (λ v. []) places (length places) (noted-words .words)
   firsts-filled =
       all-places true (λ v. []) (λ i v. tt) (noted-words .words) (noted-is .noted)
-      (ringed-same g flag (λ v. []) begun-words (noted-words .words) (noted-is .same) begun-is)
+      (ringed-same g (λ v. []) begun-words (noted-words .words) (noted-is .same) begun-is)
 
   -- the words once the first ends are in their rings
   abbrev half-filled : List ℕ
@@ -338,7 +338,7 @@ module _ {l : Rings} {N m k : ℕ} {s₀ : List ℕ} (g : Laid l N m k s₀) (fl
   pub fills-on : Fills l m N s₀
   fills-on =
       record {
-        sifts = sifts-on g flag begun-words (begun-is .keeps .len);
+        sifts = sifts-on g begun-words (begun-is .keeps .len);
         firsts = subst (λ (n : ℕ). Fills-ends l 0 n (noted-words .words)) (sym (noted-is .counted)) (firsts-filled .fills);
         seconds =
             subst (λ (n : ℕ). Fills-ends l 1 n (endsM l 0 n (noted-words .words))) (sym (noted-is .counted))

@@ -34,26 +34,26 @@ module _ {l : Rings} {N m k : ℕ} {s₀ : List ℕ} (g : Laid l N m k s₀) (fl
   odd i = Odd m C i
 
   abbrev Nd : ℕ → Type 0
-  Nd y = Node g flag y
+  Nd y = Node g y
 
   abbrev Ed : ℕ → Type 0
-  Ed y = Edge g flag y
+  Ed y = Edge g y
 
   -- ── the rings ──
 
   -- The rings hold the half-edges of the places is, which are odd entries.
   pub record Remaining (s : List ℕ) (is : List ℕ) : Type 0 where
-    pub rung : Ringed g flag (λ v. nodes Q v is) s
+    pub rung : Ringed g (λ v. nodes Q v is) s
     pub leads : (d : Bool) (i : ℕ) → odd i → word s (l .b + 2 * edge d i + 3) ≡ end Q (not d) i
     pub below : All (λ (i : ℕ). i < m) is
     pub odds : All (λ (i : ℕ). C i % 2 ≡ 1) is
 
   pub remaining-same :
-      (s t is : List ℕ) → Same-nodes g flag s t →
+      (s t is : List ℕ) → Same-nodes g s t →
       ((d : Bool) (i : ℕ) → i < m → word t (l .b + 2 * edge d i + 3) ≡ word s (l .b + 2 * edge d i + 3)) → Remaining s is → Remaining t is
   remaining-same s t is q f h =
       record {
-        rung = ringed-same g flag (λ v. nodes Q v is) s t q (h .rung);
+        rung = ringed-same g (λ v. nodes Q v is) s t q (h .rung);
         leads = λ d i o. f d i (o .below) ∙ h .leads d i o;
         below = h .below;
         odds = h .odds;
@@ -79,7 +79,7 @@ module _ {l : Rings} {N m k : ℕ} {s₀ : List ℕ} (g : Laid l N m k s₀) (fl
 
   unlinked :
       (s : List ℕ) (x : ℕ) → length s ≡ length s₀ → Between (l .b) Nd x s →
-      Cut (l .b) x s (unlinkM l s x) × Aside g flag s (unlinkM l s x)
+      Cut (l .b) x s (unlinkM l s x) × Aside g s (unlinkM l s x)
   unfolding unlinkM
   unlinked s x len w =
       let q : ℕ = after (l .b) s x in
@@ -102,21 +102,21 @@ module _ {l : Rings} {N m k : ℕ} {s₀ : List ℕ} (g : Laid l N m k s₀) (fl
           priors = λ y n.
               away2 s (l .b + 2 * p) q (l .b + 2 * q + 1) p (l .b + 2 * y + 1) (λ e. omega arith) (λ e. n (omega arith));
         },
-        aside-two g flag s p q q p (w .prior-node) (w .after-node),
+        aside-two g s p q q p (w .prior-node) (w .after-node),
       )
 
   -- a half-edge of the ring of v stands between two nodes
   pub ringed-between :
-      (R : ℕ → List ℕ) (s : List ℕ) (v x : ℕ) → v < N → Has x (R v) → Ringed g flag R s → Between (l .b) Nd x s
+      (R : ℕ → List ℕ) (s : List ℕ) (v x : ℕ) → v < N → Has x (R v) → Ringed g R s → Between (l .b) Nd x s
   ringed-between R s v x b a h =
-      between (l .b) Nd s x (l .top + v) (R v) (l .top + v) (party-node g flag v b)
-      (all-map (edge-node g flag) (R v) (h .edges v b)) (party-node g flag v b) a (h .rings v b)
+      between (l .b) Nd s x (l .top + v) (R v) (l .top + v) (party-node g v b)
+      (all-map (edge-node g) (R v) (h .edges v b)) (party-node g v b) a (h .rings v b)
 
   -- the rings go on without the half-edge x of the ring of v
   ringed-less :
       (R : ℕ → List ℕ) (s : List ℕ) (v x : ℕ) → v < N → Ed x → Has x (R v) →
-      ((u : ℕ) → u < N → Distinct (R u)) → Ringed g flag R s →
-      Ringed g flag (λ u. without x (R u)) (unlinkM l s x) × Aside g flag s (unlinkM l s x)
+      ((u : ℕ) → u < N → Distinct (R u)) → Ringed g R s →
+      Ringed g (λ u. without x (R u)) (unlinkM l s x) × Aside g s (unlinkM l s x)
   ringed-less R s v x b xe a d h =
       let c = unlinked s x (h .keeps .len) (ringed-between R s v x b a h) in (
         record {
@@ -164,20 +164,20 @@ module _ {l : Rings} {N m k : ℕ} {s₀ : List ℕ} (g : Laid l N m k s₀) (fl
         apart true i e = omega arith
         apart false i e = omega arith
 
-    pub first-out : Ringed g flag left popped × Aside g flag s popped
+    pub first-out : Ringed g left popped × Aside g s popped
     first-out =
         let first : prior (l .b) s x ≡ l .top + v =
         subst (λ (ys : List ℕ). Chain (l .b) s (l .top + v) ys (l .top + v)) (f .nodes-is) (h .rung .rings v b) .1 in
-        subst (λ (t : List ℕ). Ringed g flag left t × Aside g flag s t) (sym (pop-is s (l .top + v) x first))
-        (ringed-less (λ u. nodes Q u is) s v x b (edge-is g flag d i (is-odd .below)) first-there (λ u c. nodes-distinct Q u is fall) (h .rung))
+        subst (λ (t : List ℕ). Ringed g left t × Aside g s t) (sym (pop-is s (l .top + v) x first))
+        (ringed-less (λ u. nodes Q u is) s v x b (edge-is g d i (is-odd .below)) first-there (λ u c. nodes-distinct Q u is fall) (h .rung))
 
     -- The place of the first half-edge of v is taken out.
-    pub remaining-take : Remaining (unlinkM l popped y) (without i is) × Aside g flag s (unlinkM l popped y)
+    pub remaining-take : Remaining (unlinkM l popped y) (without i is) × Aside g s (unlinkM l popped y)
     remaining-take =
         let r₁ = first-out in
         let ib : i < m = is-odd .below in
         let r₂ =
-        ringed-less left popped (end Q (not d) i) y (end-below g flag (not d) i ib) (edge-is g flag (not d) i ib)
+        ringed-less left popped (end Q (not d) i) y (end-below g flag (not d) i ib) (edge-is g (not d) i ib)
         mate-there (λ u c. keep-distinct (λ z. not (eqb x z)) (nodes Q u is) (nodes-distinct Q u is fall)) (r₁ .0) in
         let t : List ℕ = unlinkM l popped y in (
           record {
@@ -194,5 +194,5 @@ module _ {l : Rings} {N m k : ℕ} {s₀ : List ℕ} (g : Laid l N m k s₀) (fl
             below = keep-all (λ j. j < m) (λ z. not (eqb i z)) is (h .below);
             odds = keep-all (λ j. C j % 2 ≡ 1) (λ z. not (eqb i z)) is (h .odds);
           },
-          aside-trans g flag s popped t (r₁ .1) (r₂ .1),
+          aside-trans g s popped t (r₁ .1) (r₂ .1),
         )

@@ -97,6 +97,6 @@ module _ {l : Rings} {N m k : ℕ} {s₀ : List ℕ} (g : Laid l N m k s₀) (fl
       ⊎-elim (λ e. e .0)
       (λ f.
       let o : odd (f .entry) = has-odd g flag s is (f .entry) (h .rings) (f .has) in
-      let low = edge-is g flag (f .side) (f .entry) (o .below) in
+      let low = edge-is g (f .side) (f .entry) (o .below) in
       absurd (omega (arith, low .0, ring-here s w xs ws is h vb (edge (f .side) (f .entry) ∷ f .nodes-left) (f .nodes-is) .0)))
       (first-node Q (w .at) is)

@@ -17,12 +17,12 @@ use Rattle.euler.proofs.Chains.{after, prior, Chain, chain-same, chain-
 use Rattle.euler.proofs.Bases.{Laid, Node, Edge, edge-node, party-node, away2, away3}
 use Rattle.euler.proofs.Asides.{Aside, aside-trans, aside-two, Same-nodes}
 
-module _ {l : Rings} {N m k : ℕ} {s₀ : List ℕ} (g : Laid l N m k s₀) (flag : ℕ → ℕ) where
+module _ {l : Rings} {N m k : ℕ} {s₀ : List ℕ} (g : Laid l N m k s₀) where
   abbrev Nd : ℕ → Type 0
-  Nd y = Node g flag y
+  Nd y = Node g y
 
   abbrev Ed : ℕ → Type 0
-  Ed y = Edge g flag y
+  Ed y = Edge g y
 
   -- ── rings ──
 
@@ -32,13 +32,13 @@ module _ {l : Rings} {N m k : ℕ} {s₀ : List ℕ} (g : Laid l N m k s₀) (fl
     pub rings : (v : ℕ) → v < N → Chain (l .b) s (l .top + v) (R v) (l .top + v)
     pub edges : (v : ℕ) → v < N → All Ed (R v)
 
-  pub ringed-same : (R : ℕ → List ℕ) (s t : List ℕ) → Same-nodes g flag s t → Ringed R s → Ringed R t
+  pub ringed-same : (R : ℕ → List ℕ) (s t : List ℕ) → Same-nodes g s t → Ringed R s → Ringed R t
   ringed-same R s t q h =
       record {
         keeps = keeps-trans (h .keeps) (q .keeps);
         rings = λ v b.
-            chain-same (l .b) Nd s t (q .afters) (q .priors) (l .top + v) (R v) (l .top + v) (party-node g flag v b)
-            (all-map (edge-node g flag) (R v) (h .edges v b)) (party-node g flag v b) (h .rings v b);
+            chain-same (l .b) Nd s t (q .afters) (q .priors) (l .top + v) (R v) (l .top + v) (party-node g v b)
+            (all-map (edge-node g) (R v) (h .edges v b)) (party-node g v b) (h .rings v b);
         edges = h .edges;
       }
 
@@ -100,25 +100,25 @@ module _ {l : Rings} {N m k : ℕ} {s₀ : List ℕ} (g : Laid l N m k s₀) (fl
               passed (l .b + 2 * y + 1) (λ e. omega arith) (λ e. a (omega arith)) (λ e. omega arith) (λ e. c (omega arith));
         }
 
-    aside-joined : Aside g flag s s₄
+    aside-joined : Aside g s s₄
     aside-joined =
-        aside-trans g flag s s₂ s₄ (aside-two g flag s p x x p pn (edge-node g flag x xe)) (aside-two g flag s₂ x z z x (edge-node g flag x xe) (party-node g flag v vb))
+        aside-trans g s s₂ s₄ (aside-two g s p x x p pn (edge-node g x xe)) (aside-two g s₂ x z z x (edge-node g x xe) (party-node g v vb))
 
   -- x, in no ring yet, becomes the last of the ring of v
   pub ringed-more :
       (R T : ℕ → List ℕ) (s : List ℕ) (v x : ℕ) → v < N → Ed x → Ringed R s →
       ((u : ℕ) → u < N → All (λ (y : ℕ). x ≡ y → ⊥) (R u)) → T v ≡ R v ++ (x ∷ []) →
-      ((u : ℕ) → u < N → (u ≡ v → ⊥) → T u ≡ R u) → Ringed T (appendM l s v x) × Aside g flag s (appendM l s v x)
+      ((u : ℕ) → u < N → (u ≡ v → ⊥) → T u ≡ R u) → Ringed T (appendM l s v x) × Aside g s (appendM l s v x)
   ringed-more R T s v x b xe h fresh own other =
       let z : ℕ = l .top + v in
       let p : ℕ = prior (l .b) s z in
       let len : length s ≡ length s₀ = h .keeps .len in
       let off : x ≡ z → ⊥ = λ e. omega (arith, xe .0) in
-      let pn : Nd p = last-node (l .b) Nd s z (R v) z (party-node g flag v b) (all-map (edge-node g flag) (R v) (h .edges v b)) (h .rings v b) in
+      let pn : Nd p = last-node (l .b) Nd s z (R v) z (party-node g v b) (all-map (edge-node g) (R v) (h .edges v b)) (h .rings v b) in
       let n : x ≡ p → ⊥ = last-node (l .b) (λ y. x ≡ y → ⊥) s z (R v) z off (fresh v b) (h .rings v b) in
       let t : List ℕ = s₄ s len v x p b xe pn n refl in
       let j : Joined (l .b) x z s t = joined s len v x p b xe pn n refl (chain-last (l .b) s z (R v) z (h .rings v b)) in
-      let a : Aside g flag s t = aside-joined s len v x p b xe pn n refl in
+      let a : Aside g s t = aside-joined s len v x p b xe pn n refl in
       let r : Ringed T t =
       record {
         keeps = keeps-trans (h .keeps) (a .keeps);
@@ -142,7 +142,7 @@ module _ {l : Rings} {N m k : ℕ} {s₀ : List ℕ} (g : Laid l N m k s₀) (fl
             ];
       } in
       let e : appendM l s v x ≡ t = appended s len v x p b xe pn n refl in
-      subst (λ (w : List ℕ). Ringed T w × Aside g flag s w) (sym e) (r, a)
+      subst (λ (w : List ℕ). Ringed T w × Aside g s w) (sym e) (r, a)
     where
       parties-out : (v : ℕ) (ys : List ℕ) → All Ed ys → All (λ (y : ℕ). l .top + v ≡ y → ⊥) ys
       parties-out v ys a = all-map (λ y c e. omega (arith, c .0)) ys a
@@ -152,7 +152,7 @@ module _ {l : Rings} {N m k : ℕ} {s₀ : List ℕ} (g : Laid l N m k s₀) (fl
   ringed-appends R s v x b xe h =
       let z : ℕ = l .top + v in
       let p : Nd (prior (l .b) s z) =
-      last-node (l .b) Nd s z (R v) z (party-node g flag v b) (all-map (edge-node g flag) (R v) (h .edges v b)) (h .rings v b) in
+      last-node (l .b) Nd s z (R v) z (party-node g v b) (all-map (edge-node g) (R v) (h .edges v b)) (h .rings v b) in
       let len : length s ≡ length s₀ = h .keeps .len in
       record {
         own = omega (arith, g .place, g .parties, g .room);

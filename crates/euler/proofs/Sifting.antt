@@ -31,7 +31,7 @@ noted-same l s t (x ∷ xs) f h = (
   noted-same l s t xs (λ j b. f j (omega arith)) (h .1),
 )
 
-module _ {l : Rings} {N m k : ℕ} {s₀ : List ℕ} (g : Laid l N m k s₀) (flag : ℕ → ℕ) where
+module _ {l : Rings} {N m k : ℕ} {s₀ : List ℕ} (g : Laid l N m k s₀) where
   abbrev C : ℕ → ℕ
   C i = copiesM l s₀ i
 
@@ -44,7 +44,7 @@ module _ {l : Rings} {N m k : ℕ} {s₀ : List ℕ} (g : Laid l N m k s₀) (fl
 
   -- after the first j entries, from the words s on
   pub record Sifted (j : ℕ) (s : List ℕ) (t : Counted) : Type 0 where
-    pub same : Same-nodes g flag s (t .words)
+    pub same : Same-nodes g s (t .words)
     pub marks : (i : ℕ) → i < j → word (t .words) (l .b + 8 * i + 2) ≡ 0
     pub noted : Noted l (t .words) (first-odds j)
     pub counted : t .count ≡ length (first-odds j)
@@ -53,11 +53,11 @@ module _ {l : Rings} {N m k : ℕ} {s₀ : List ℕ} (g : Laid l N m k s₀) (fl
   abbrev put-note : List ℕ → ℕ → ℕ → List ℕ
   put-note s j n = put-word (put-word s (l .b + 8 * j + 2) 0) (l .col + 2 * n) j
 
-  note-same : (s : List ℕ) (j n : ℕ) → j < k → Same-nodes g flag s (put-note s j n)
+  note-same : (s : List ℕ) (j n : ℕ) → j < k → Same-nodes g s (put-note s j n)
   note-same s j n b =
       let t : List ℕ = put-word s (l .b + 8 * j + 2) 0 in
-      same-trans g flag s t (put-note s j n) (same-mark g flag s j 0 b)
-      (same-high g flag t (l .col + 2 * n) j (omega (arith, g .column)))
+      same-trans g s t (put-note s j n) (same-mark g s j 0 b)
+      (same-high g t (l .col + 2 * n) j (omega (arith, g .column)))
 
   note-marks :
       (s : List ℕ) (j n : ℕ) → length s ≡ length s₀ → j < k →
@@ -91,12 +91,12 @@ module _ {l : Rings} {N m k : ℕ} {s₀ : List ℕ} (g : Laid l N m k s₀) (fl
       let w : List ℕ = t .words in
       let jk : j < k = omega (arith, g .entries) in
       let now' : Keeps (l .b) s₀ w = keeps-trans kept (h .same .keeps) in
-      let c : copiesM l w j % 2 ≡ C j % 2 = ap (λ (x : ℕ). x % 2) (copies-kept g flag w now' j b) in
+      let c : copiesM l w j % 2 ≡ C j % 2 = ap (λ (x : ℕ). x % 2) (copies-kept g w now' j b) in
       let at : put-note w j (t .count) ≡ put-note w j (length (first-odds j)) = rw (h .counted) in
       let new : Noted l (put-note w j (t .count)) (j ∷ first-odds j) =
       rw at (note-noted w j (first-odds j) (now' .len) b (omega (arith, few-odds j)) (h .noted)) in
-      let same : Same-nodes g flag s (put-note w j (t .count)) =
-      same-trans g flag s w (put-note w j (t .count)) (h .same) (note-same w j (t .count) jk) in
+      let same : Same-nodes g s (put-note w j (t .count)) =
+      same-trans g s w (put-note w j (t .count)) (h .same) (note-same w j (t .count) jk) in
       let marks : (i : ℕ) → i < suc j → word (put-note w j (t .count)) (l .b + 8 * i + 2) ≡ 0 =
       note-marks w j (t .count) (now' .len) jk (h .marks) in
       elim (ℕ-discrete (C j % 2) 1) [

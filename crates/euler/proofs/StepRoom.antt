@@ -48,8 +48,8 @@ module _ {l : Rings} {N m k : ℕ} {s₀ : List ℕ} (g : Laid l N m k s₀) (fl
       let q =
       ringed-between g flag (left g flag v s is vb (h .falling) (h .rings) f) t (far d i) (edge (not d) i) (end-below g flag (not d) i ib)
       (mate-there g flag v s is vb (h .falling) (h .rings) f) (out₁ .0) in
-      let el : edge d i < l .top = edge-is g flag d i ib .0 in
-      let yl : edge (not d) i < l .top = edge-is g flag (not d) i ib .0 in
+      let el : edge d i < l .top = edge-is g d i ib .0 in
+      let yl : edge (not d) i < l .top = edge-is g (not d) i ib .0 in
       record {
         leads = omega (arith, len, edge-low d m i ib, g .entries, g .room);
         pops =

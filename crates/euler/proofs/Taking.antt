@@ -65,7 +65,7 @@ module _ {l : Rings} {N m k : ℕ} {s₀ : List ℕ} (g : Laid l N m k s₀) (fl
   -- the stack after taking
   took-stack :
       (s : List ℕ) (w : Walk) (d : Bool) (i : ℕ) → length (out s (w .at) d i) ≡ length s₀ → w .at < N → w .height < k → i < m →
-      Aside g flag s (out s (w .at) d i) →
+      Aside g s (out s (w .at) d i) →
       column l true (took s w d i) (w .height + 1) ≡ (i * 2048 + w .at) ∷ column l true s (w .height)
   took-stack s w d i len vb hb ib a =
       let u : List ℕ = out s (w .at) d i in
@@ -113,7 +113,7 @@ module _ {l : Rings} {N m k : ℕ} {s₀ : List ℕ} (g : Laid l N m k s₀) (fl
             record {
               rings =
                   remaining-same g flag u (took s w d i) (without i is)
-                  (same-high g flag u a x (omega (arith, g .column)))
+                  (same-high g u a x (omega (arith, g .column)))
                   (λ e j c. away u a (l .b + 2 * edge e j + 3) x (λ q. omega (arith, g .column, g .entries, edge-low e m j c))) (out-is .0);
               stack =
                   took-stack s w d i (out-is .0 .rung .keeps .len) vb hb ib (out-is .1) ∙ ap (λ (z : List ℕ). x ∷ z) (h .stack);
