@@ -2,7 +2,7 @@
 use Prim.Native.Nat.{ℕ, _+_, _*_, _-_, _%_, _≤_, _<_}
 use mathlib.Core.Path.{_≡_, refl, sym, _∙_, ap, subst}
 use mathlib.Core.Bool.{Bool, true, false, not}
-use mathlib.Core.List.{List, [], _∷_, _++_, map, append-assoc, append-nil}
+use mathlib.Core.List.{List, [], _∷_, _++_, map, map-append, append-assoc, append-nil}
 use native.Mathlib.Omega.{arith}
 use borrow.Author.Tests.{eq-eqb, ne-eqb}
 use lib.Dec.{eqb}
@@ -10,19 +10,19 @@ use lib.ListN.{length}
 use Rattle.words.specs.Basics.{All}
 use Rattle.words.specs.Words.{word, put-word}
 use Rattle.words.specs.Frames.{Keeps}
-use Rattle.words.proofs.Sums.{all-append, all-map}
+use Rattle.words.proofs.Sums.{all-append, all-map, all-both}
 use Rattle.words.proofs.Frames.{here, away}
 use Rattle.multigraph.specs.Multigraph.{Pair}
 use Rattle.euler.specs.declared.Rings.{Rings}
 use Rattle.euler.specs.Model.{Counted, copiesM, startM, appendM, siftAllM, notedM, ringEndM, endsM, fillM}
 use Rattle.euler.specs.Bounds.{Rings-end, Fills-ends, Fills}
-use Rattle.euler.proofs.Places.{keep, keep-append, keep-all, keep-falling, descend, descend-below, descend-falling, Falling}
+use Rattle.euler.proofs.Places.{keep, keep-append, keep-all, descend, Falling}
 use Rattle.euler.proofs.Chains.{Chain}
-use Rattle.euler.proofs.Nodes.{Odd, odds, odds-all, odd-places, edge, end, nodes}
+use Rattle.euler.proofs.Nodes.{Odd, odds, odds-below, odds-falling, odds-length, odds-all, odd-places, edge, end, nodes}
 use Rattle.euler.proofs.Bases.{Laid, P, Edge, edge-is, end-below, number-kept, end-kept, side-of}
 use Rattle.euler.proofs.Asides.{Aside, same-lead}
 use Rattle.euler.proofs.Ringed.{Ringed, ringed-same, ringed-more, ringed-appends, started}
-use Rattle.euler.proofs.Sifting.{Noted, noted-same, few-odds, Sifted, sifted, sifts-on}
+use Rattle.euler.proofs.Sifting.{Noted, noted-same, Sifted, sifted, sifts-on}
 
 module _ {l : Rings} {N m k : ℕ} {s₀ : List ℕ} (g : Laid l N m k s₀) (flag : ℕ → ℕ) where
   abbrev C : ℕ → ℕ
@@ -40,14 +40,10 @@ module _ {l : Rings} {N m k : ℕ} {s₀ : List ℕ} (g : Laid l N m k s₀) (fl
   abbrev part : Bool → ℕ → List ℕ → List ℕ
   part d v xs = map (edge d) (keep (λ i. eqb v (end Q d i)) xs)
 
-  map-append : (d : Bool) (xs ys : List ℕ) → map (edge d) (xs ++ ys) ≡ map (edge d) xs ++ map (edge d) ys
-  map-append d [] ys = refl
-  map-append d (x ∷ xs) ys = ap (λ (zs : List ℕ). edge d x ∷ zs) (map-append d xs ys)
-
   part-append : (d : Bool) (v : ℕ) (xs ys : List ℕ) → part d v (xs ++ ys) ≡ part d v xs ++ part d v ys
   part-append d v xs ys =
       ap (map (edge d)) (keep-append (λ i. eqb v (end Q d i)) xs ys)
-      ∙ map-append d (keep (λ i. eqb v (end Q d i)) xs) (keep (λ i. eqb v (end Q d i)) ys)
+      ∙ map-append (edge d) (keep (λ i. eqb v (end Q d i)) xs) (keep (λ i. eqb v (end Q d i)) ys)
 
   part-own : (d : Bool) (i : ℕ) → part d (end Q d i) (i ∷ []) ≡ edge d i ∷ []
   unfolding keep
@@ -161,11 +157,6 @@ module _ {l : Rings} {N m k : ℕ} {s₀ : List ℕ} (g : Laid l N m k s₀) (fl
           ap (λ (xs : List ℕ). pre u ++ xs) (part-append d u ys (i ∷ []) ∙ ap (λ (xs : List ℕ). part d u ys ++ xs) e)
           ∙ sym (append-assoc (pre u) (part d u ys) zs)
 
-      all-both :
-          (A B : ℕ → Type 0) (xs : List ℕ) → All A xs → All B xs → All (λ (x : ℕ). A x × B x) xs
-      all-both A B [] a b = tt
-      all-both A B (x ∷ xs) a b = ((a .0, b .0), all-both A B xs (a .1) (b .1))
-
   -- ── the entry noted at a place ──
 
   ring-end-is :
@@ -277,9 +268,8 @@ module _ {l : Rings} {N m k : ℕ} {s₀ : List ℕ} (g : Laid l N m k s₀) (fl
       (d : Bool) (pre : ℕ → List ℕ) → ((i v : ℕ) → All (λ (y : ℕ). edge d i ≡ y → ⊥) (pre v)) → (s : List ℕ) → Noted l s places →
       Rung pre s → Side-filled d pre places (length places) s
   all-places d pre fresh s n h =
-      sides d pre fresh places [] s m (omega arith) (few-odds g m) tt
-      (keep-all (λ i. i < m) (λ i. eqb (C i % 2) 1) (descend m) (descend-below m))
-      (keep-falling (λ i. eqb (C i % 2) 1) (descend m) (descend-falling m)) n (side-none d pre s h)
+      sides d pre fresh places [] s m (omega arith) (odds-length C m) tt
+      (odds-below C m) (odds-falling C m) n (side-none d pre s h)
 
   firsts-filled : Side-filled true (λ v. []) places (length places) (noted-words .words)
   firsts-filled =

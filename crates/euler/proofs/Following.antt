@@ -30,9 +30,6 @@ module _ {l : Rings} {N m k : ℕ} {s₀ : List ℕ} (g : Laid l N m k s₀) (fl
   abbrev Q : ℕ → Pair
   Q i = P g flag i
 
-  abbrev odd : ℕ → Type 0
-  odd i = Odd m C i
-
   abbrev Nd : ℕ → Type 0
   Nd y = Node g y
 
@@ -44,7 +41,7 @@ module _ {l : Rings} {N m k : ℕ} {s₀ : List ℕ} (g : Laid l N m k s₀) (fl
   -- The rings hold the half-edges of the places is, which are odd entries.
   pub record Remaining (s : List ℕ) (is : List ℕ) : Type 0 where
     pub rung : Ringed g (λ v. nodes Q v is) s
-    pub leads : (d : Bool) (i : ℕ) → odd i → word s (l .b + 2 * edge d i + 3) ≡ end Q (not d) i
+    pub leads : (d : Bool) (i : ℕ) → Odd m C i → word s (l .b + 2 * edge d i + 3) ≡ end Q (not d) i
     pub below : All (λ (i : ℕ). i < m) is
     pub odds : All (λ (i : ℕ). C i % 2 ≡ 1) is
 
@@ -60,7 +57,7 @@ module _ {l : Rings} {N m k : ℕ} {s₀ : List ℕ} (g : Laid l N m k s₀) (fl
       }
 
   -- a place that remains is an odd entry
-  pub has-odd : (s is : List ℕ) (i : ℕ) → Remaining s is → Has i is → odd i
+  pub has-odd : (s is : List ℕ) (i : ℕ) → Remaining s is → Has i is → Odd m C i
   has-odd s is i h a =
       record {
         below = has-below m i is (h .below) a;
@@ -149,7 +146,7 @@ module _ {l : Rings} {N m k : ℕ} {s₀ : List ℕ} (g : Laid l N m k s₀) (fl
     abbrev pub popped : List ℕ
     popped = popM l s (l .top + v) x
 
-    pub is-odd : odd i
+    pub is-odd : Odd m C i
     is-odd = has-odd s is i h (f .has)
 
     pub first-there : Has x (nodes Q v is)

@@ -15,14 +15,14 @@ use Rattle.words.proofs.Sums.{is-eq, is-ne, is-le, total-append, total-reverse,
 use Rattle.multigraph.specs.Multigraph.{Pair, pair, Graph, joins}
 use Rattle.multigraph.specs.Regular.{between, pairs-between, Apart, Across, Regular, Same-ends}
 use Rattle.multigraph.specs.Stored.{entry, entries}
-use Rattle.multigraph.proofs.Ends.{joins-true, between-same, between-cases, between-self}
+use Rattle.multigraph.proofs.Ends.{joins-true, same-ends-sym, between-same, between-cases, between-self}
 use Rattle.euler.specs.declared.Rings.{Rings}
 use Rattle.euler.specs.Split.{rest}
 use Rattle.euler.specs.Model.{copiesM}
 use Rattle.euler.proofs.Taken.{ends}
 use Rattle.euler.proofs.Trail.{aslant}
-use Rattle.euler.proofs.Places.{keep, keep-all, descend, Falling, descend-below, descend-falling, keep-falling}
-use Rattle.euler.proofs.Nodes.{Ends-fit, odd-places}
+use Rattle.euler.proofs.Places.{keep, descend, Falling}
+use Rattle.euler.proofs.Nodes.{Ends-fit, odds, odds-below, odds-falling, odd-places}
 use Rattle.euler.proofs.Bases.{first-at, second-at}
 use Rattle.euler.proofs.HalfLaws.{upto, held}
 use Rattle.euler.proofs.StoredGraphs.{entries-snoc}
@@ -76,9 +76,6 @@ entries-apart s ends pairs g i (suc n) h x y a b c =
       | no q ↦ entries-apart s ends pairs g (i + 1) n (h .1) x y (omega arith) b (omega arith)
     ]
 
-turned : (a b c d : ℕ) → Same-ends a b c d → Same-ends c d a b
-turned a b c d h = ⊎-elim (λ k. inl (sym (k .0), sym (k .1))) (λ k. inr (sym (k .1), sym (k .0))) h
-
 module _ (l : Rings) (s : List ℕ) (N m : ℕ) (side : ℕ → ℕ) (d : ℕ) (reg : Regular N side d (entries s (l .ends) 0 (l .g) 0 m)) where
   abbrev C : ℕ → ℕ
   C i = copiesM l s i
@@ -99,7 +96,7 @@ module _ (l : Rings) (s : List ℕ) (N m : ℕ) (side : ℕ → ℕ) (d : ℕ) (
         | yes t ↦
             omega (arith, between-same (F i) (S i) (F j) (S j) h, entries-apart s (l .ends) 0 (l .g) 0 m (reg .apart) i j (omega arith) t (omega arith))
         | no t ↦
-            omega (arith, between-same (F j) (S j) (F i) (S i) (turned (F i) (S i) (F j) (S j) h), entries-apart s (l .ends) 0 (l .g) 0 m (reg .apart) j i (omega arith) (omega arith) (omega arith))
+            omega (arith, between-same (F j) (S j) (F i) (S i) (same-ends-sym h), entries-apart s (l .ends) 0 (l .g) 0 m (reg .apart) j i (omega arith) (omega arith) (omega arith))
       ]
 
   pub joins-apart : (i j c f : ℕ) → i < m → j < m → (i ≡ j → ⊥) → joins (F i) (S i) (pair (F j) (S j) c f) ≡ false
@@ -167,7 +164,7 @@ module _ (l : Rings) (s : List ℕ) (N m : ℕ) (side : ℕ → ℕ) (d : ℕ) (
         ∙ reverse-append (rest-of n) (rest (entry s (l .ends) pairs (l .g) n ∷ []))
 
     -- the rest, newest first, is the odd places
-    rest-places : (n : ℕ) → reverse (rest-of n) ≡ map Q (keep (λ i. eqb (C i % 2) 1) (descend n))
+    rest-places : (n : ℕ) → reverse (rest-of n) ≡ map Q (odds C (descend n))
     unfolding descend keep
     rest-places zero = rest-none
     rest-places (suc n) =
@@ -182,10 +179,7 @@ module _ (l : Rings) (s : List ℕ) (N m : ℕ) (side : ℕ → ℕ) (d : ℕ) (
     rest-odd = rest-places m
 
     abbrev odd-ones : List ℕ
-    odd-ones = keep (λ i. eqb (C i % 2) 1) (descend m)
-
-    odd-below : All (λ (i : ℕ). i < m) odd-ones
-    odd-below = keep-all (λ i. i < m) (λ i. eqb (C i % 2) 1) (descend m) (descend-below m)
+    odd-ones = odds C (descend m)
 
     -- sums over the rest are sums over the odd places
     rest-total : (f : Pair → ℕ) → total f (rest-of m) ≡ total (λ i. f (Q i)) odd-ones
@@ -195,7 +189,7 @@ module _ (l : Rings) (s : List ℕ) (N m : ℕ) (side : ℕ → ℕ) (d : ℕ) (
     pub rest-slant : total (aslant side) (rest-of m) ≡ 0
     rest-slant =
         rest-total (aslant side)
-        ∙ total-all-zero (λ i. aslant side (Q i)) odd-ones (all-map (λ i b. omega (arith, across-at i b .sides)) odd-ones odd-below)
+        ∙ total-all-zero (λ i. aslant side (Q i)) odd-ones (all-map (λ i b. omega (arith, across-at i b .sides)) odd-ones (odds-below C m))
 
     -- every place once
     falling-once : (i : ℕ) (xs : List ℕ) → Falling xs → count i xs ≤ 1
@@ -234,8 +228,8 @@ module _ (l : Rings) (s : List ℕ) (N m : ℕ) (side : ℕ → ℕ) (d : ℕ) (
                 total-map f Q ws,
                 count-by-ends i ws b h,
                 rest-total f,
-                count-by-ends i odd-ones b odd-below,
-                falling-once i odd-ones (keep-falling (λ i. eqb (C i % 2) 1) (descend m) (descend-falling m)),
+                count-by-ends i odd-ones b (odds-below C m),
+                falling-once i odd-ones (odds-falling C m),
               )
           | no n ↦ omega (arith, zero-count i ws (all-map (λ y b e. n (omega arith)) ws h))
         ]
@@ -261,7 +255,7 @@ module _ (l : Rings) (s : List ℕ) (N m : ℕ) (side : ℕ → ℕ) (d : ℕ) (
               is-ne {u = v} {v = F i} (λ q. n (omega (arith, across-at i b .first-below))),
               is-ne {u = v} {v = S i} (λ q. n (omega (arith, across-at i b .second-below))),
             ))
-            (odd-ones pairs) (odd-below pairs)))
+            (odd-ones pairs) (odds-below C m)))
       ]
 
   -- the graph's entries, as the halves' law has them

@@ -3,7 +3,7 @@
 use Prim.Native.Nat.{ℕ, zero, suc, _+_, _/_, _≤_, _<_}
 use mathlib.Core.Path.{_≡_, refl, sym, _∙_, ap, subst}
 use mathlib.Core.Bool.{Bool, true, false, not}
-use mathlib.Core.List.{List, [], _∷_, _++_, map, append-assoc, append-nil}
+use mathlib.Core.List.{List, [], _∷_, _++_, map, map-append, append-assoc, append-nil}
 use mathlib.Core.Logic.{inl}
 use native.Mathlib.Omega.{arith}
 use native.Mathlib.Nat.{add-zero}
@@ -128,10 +128,6 @@ module _ (C F S flag : ℕ → ℕ) where
   unfolding keep
   small-none i h = keep-no (λ j. not (leb 2 (C j))) i [] (rw (le-leb 2 (C i) h))
 
-  pub map-append : (xs ys : List ℕ) → map one (xs ++ ys) ≡ map one xs ++ map one ys
-  map-append [] ys = refl
-  map-append (x ∷ xs) ys = ap (λ (l : Graph). one x ∷ l) (map-append xs ys)
-
   module _ (m : ℕ) (apart : (i j c : ℕ) → i < m → j < m → (i ≡ j → ⊥) → joins (F i) (S i) (held j c) ≡ false) where
     own : (i c : ℕ) → joins (F i) (S i) (held i c) ≡ true
     own i c = true-joins (F i) (S i) (held i c) (inl (refl, refl))
@@ -230,7 +226,7 @@ module _ (C F S flag : ℕ → ℕ) where
         elim (decLt (C i) 2) [
           | yes t ↦
               let rest : map one (small (cs ++ (i ∷ []))) ≡ map one (small cs) ++ (one i ∷ []) =
-              ap (map one) (small-more i cs ∙ ap (λ (x : List ℕ). small cs ++ x) (small-one i t)) ∙ map-append (small cs) (i ∷ []) in
+              ap (map one) (small-more i cs ∙ ap (λ (x : List ℕ). small cs ++ x) (small-one i t)) ∙ map-append one (small cs) (i ∷ []) in
               let front : bigs (λ j. count j (cs ++ (i ∷ []))) m ≡ bigs (λ j. count j cs) m =
               bigs-where m (λ j. count j (cs ++ (i ∷ []))) (λ j. count j cs)
               (λ j s. count-more j i cs ∙ omega (arith, is-ne {u = j} {v = i} (λ e. omega (arith, ap C e)))) in

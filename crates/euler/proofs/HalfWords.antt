@@ -2,7 +2,7 @@
 use Prim.Native.Nat.{ℕ, zero, suc, _+_, _*_, _-_, _/_, _≤_, _<_}
 use mathlib.Core.Path.{_≡_, refl, sym, _∙_, ap, subst}
 use mathlib.Core.Bool.{Bool, true, false, not}
-use mathlib.Core.List.{List, [], _∷_, _++_, map, append-assoc, append-nil}
+use mathlib.Core.List.{List, [], _∷_, _++_, map, map-append, append-assoc, append-nil}
 use native.Mathlib.Omega.{arith}
 use native.Mathlib.Nat.{add-zero, add-suc}
 use native.Mathlib.Decide.{decLt}
@@ -23,7 +23,7 @@ use Rattle.euler.proofs.Bases.{first-at, second-at, away2}
 use Rattle.euler.proofs.Columns.{mark-of}
 use Rattle.euler.proofs.StoredGraphs.{Only, only-put, Same-entry, entries-same}
 use Rattle.euler.proofs.Pushes.{Ready, So-far, nothing-yet, known, so-far-count, reads, put-next, passed, pushed}
-use Rattle.euler.proofs.HalfLaws.{big, bigs, big-yes, big-no, bigs-length, bigs-where, small, one, small-one, small-none, map-append, half-length}
+use Rattle.euler.proofs.HalfLaws.{big, bigs, big-yes, big-no, bigs-length, bigs-where, small, one, small-one, small-none, half-length}
 use Rattle.euler.proofs.Parities.{dealt, dealt-all, dealt-count, more-dealt, picks, picks-dealt}
 
 module _ {l : Rings} {m k u h n : ℕ} (pairs parity : ℕ) {s₀ s ws : List ℕ} (g : Ready l m k u h n s₀ s ws) (p2 : parity < 2) (apart : (i j c : ℕ) → i < m → j < m → (i ≡ j → ⊥) → joins (first-at l s₀ i) (second-at l s₀ i) (pair (first-at l s₀ j) (second-at l s₀ j) c (pick (leb pairs (word s₀ (l .g + 2 + 2 * j))) 1 0)) ≡ false) where
@@ -154,7 +154,7 @@ module _ {l : Rings} {m k u h n : ℕ} (pairs parity : ℕ) {s₀ s ws : List �
   parts-more j i z =
       let list : map (one C F S flag) (small C F S flag (read j ++ (i ∷ []))) ≡ map (one C F S flag) (small C F S flag (read j)) ++ (one C F S flag i ∷ []) =
       ap (map (one C F S flag)) (small-last j i ∙ ap (λ (x : List ℕ). small C F S flag (read j) ++ x) (small-one C F S flag i z))
-      ∙ map-append C F S flag (small C F S flag (read j)) (i ∷ []) in
+      ∙ map-append (one C F S flag) (small C F S flag (read j)) (i ∷ []) in
       ap (λ (x : Graph). bigs C F S flag extra m ++ x) list
       ∙ sym (append-assoc (bigs C F S flag extra m) (map (one C F S flag) (small C F S flag (read j))) (one C F S flag i ∷ []))
 

@@ -5,7 +5,6 @@ use mathlib.Core.Bool.{Bool, true, false, not}
 use mathlib.Core.List.{List, [], _∷_}
 use mathlib.Core.Logic.{⊎-elim}
 use native.Mathlib.Omega.{arith}
-use lib.Dec.{eqb}
 use lib.ListN.{length}
 use Rattle.words.specs.Basics.{All, iterate}
 use Rattle.words.specs.Words.{word}
@@ -15,9 +14,9 @@ use Rattle.euler.specs.declared.Walk.{Walk}
 use Rattle.euler.specs.Euler.{walk-step}
 use Rattle.euler.specs.Model.{Stage, copiesM, mateM}
 use Rattle.euler.proofs.Straight.{straight}
-use Rattle.euler.proofs.Places.{descend, keep-length, descend-length, Falling, row}
+use Rattle.euler.proofs.Places.{Falling, row}
 use Rattle.euler.proofs.Chains.{Chain}
-use Rattle.euler.proofs.Nodes.{Odd, odd-places, edge, nodes, first-node}
+use Rattle.euler.proofs.Nodes.{Odd, odd-places, odds-length, edge, nodes, first-node}
 use Rattle.euler.proofs.Bases.{Laid, P, edge-is}
 use Rattle.euler.proofs.Columns.{column, mark-of}
 use Rattle.euler.proofs.Following.{Remaining, has-odd}
@@ -41,19 +40,13 @@ module _ {l : Rings} {N m k : ℕ} {s₀ : List ℕ} (g : Laid l N m k s₀) (fl
   abbrev C : ℕ → ℕ
   C i = copiesM l s₀ i
 
-  abbrev odd : ℕ → Type 0
-  odd i = Odd m C i
-
   abbrev Q : ℕ → Pair
   Q i = P g flag i
 
-  abbrev places-all : List ℕ
-  places-all = odd-places m C
-
   -- at most as many places as entries
-  pub few-places : length places-all ≤ m
+  pub few-places : length (odd-places m C) ≤ m
   unfolding odd-places
-  few-places = omega (arith, keep-length (λ i. eqb (C i % 2) 1) (descend m), descend-length m)
+  few-places = odds-length C m
 
   pub record Live (s : List ℕ) (w : Walk) (xs ws is : List ℕ) : Type 0 where
     pub rings : Remaining g flag s is
@@ -61,7 +54,7 @@ module _ {l : Rings} {N m k : ℕ} {s₀ : List ℕ} (g : Laid l N m k s₀) (fl
     pub written : column l false s (w .written) ≡ ws
     pub marks : (i : ℕ) → i < m → word s (l .b + 8 * i + 2) ≡ mark-of i ws
     pub falling : Falling is
-    pub size : length is + w .height + w .written ≡ length places-all
+    pub size : length is + w .height + w .written ≡ length (odd-places m C)
     pub rooted : bottom g flag (w .at) xs ≡ w .next
     pub sound : w .next < N → Sound g flag (w .at) xs
     pub places : All (λ (i : ℕ). i < m) ws
@@ -72,8 +65,8 @@ module _ {l : Rings} {N m k : ℕ} {s₀ : List ℕ} (g : Laid l N m k s₀) (fl
   -- places not taken, places not written, parties to come
   unfoldable pub measure : Stage → ℕ
   measure t =
-      (length places-all - (t .walk .height + t .walk .written))
-      + (length places-all - t .walk .written)
+      (length (odd-places m C) - (t .walk .height + t .walk .written))
+      + (length (odd-places m C) - t .walk .written)
       + (N - t .walk .next)
 
   -- what a step comes to
@@ -96,7 +89,7 @@ module _ {l : Rings} {N m k : ℕ} {s₀ : List ℕ} (g : Laid l N m k s₀) (fl
   stuck-row s w xs ws is h vb q =
       ⊎-elim (λ e. e .0)
       (λ f.
-      let o : odd (f .entry) = has-odd g flag s is (f .entry) (h .rings) (f .has) in
+      let o : Odd m C (f .entry) = has-odd g flag s is (f .entry) (h .rings) (f .has) in
       let low = edge-is g (f .side) (f .entry) (o .below) in
       absurd (omega (arith, low .0, ring-here s w xs ws is h vb (edge (f .side) (f .entry) ∷ f .nodes-left) (f .nodes-is) .0)))
       (first-node Q (w .at) is)

@@ -1,6 +1,6 @@
 -- Which nodes stand in a party's ring: the half-edges of the places that remain, first ends before second ends. No two are the
 -- same, and where a place is taken out, its two half-edges go. Assumes nothing.
-use Prim.Native.Nat.{ℕ, zero, suc, _+_, _*_, _-_, _%_, _<_}
+use Prim.Native.Nat.{ℕ, zero, suc, _+_, _*_, _-_, _%_, _≤_, _<_}
 use mathlib.Core.Path.{_≡_, refl, sym, _∙_, ap, subst}
 use mathlib.Core.Bool.{Bool, true, false, not}
 use mathlib.Core.List.{List, [], _∷_, _++_, map}
@@ -9,10 +9,11 @@ use native.Mathlib.Omega.{arith}
 use native.Mathlib.Decide.{ℕ-discrete, decLt}
 use borrow.Author.Tests.{eq-eqb, ne-eqb}
 use lib.Dec.{eqb}
+use lib.ListN.{length}
 use Rattle.words.specs.Basics.{pick, All}
 use Rattle.words.proofs.Sums.{all-append, all-left, all-right, all-map}
 use Rattle.multigraph.specs.Multigraph.{Pair}
-use Rattle.euler.proofs.Places.{keep, keep-yes, keep-no, keep-append, keep-comm, keep-all, keep-falling, without, without-first, without-other, descend, Falling, firsts, seconds, row}
+use Rattle.euler.proofs.Places.{keep, keep-yes, keep-no, keep-append, keep-comm, keep-all, keep-falling, keep-length, without, without-first, without-other, descend, descend-below, descend-falling, descend-length, Falling, firsts, seconds, row}
 use Rattle.euler.proofs.Chains.{Distinct, Has}
 
 -- the ends of m entries are two of N parties
@@ -33,6 +34,23 @@ odds C xs = keep (λ i. eqb (C i % 2) 1) xs
 -- the odd entries, newest first
 unfoldable pub odd-places : ℕ → (ℕ → ℕ) → List ℕ
 odd-places m C = odds C (descend m)
+
+pub odds-below : (C : ℕ → ℕ) (m : ℕ) → All (λ (i : ℕ). i < m) (odds C (descend m))
+odds-below C m = keep-all (λ i. i < m) (λ i. eqb (C i % 2) 1) (descend m) (descend-below m)
+
+pub odds-falling : (C : ℕ → ℕ) (m : ℕ) → Falling (odds C (descend m))
+odds-falling C m = keep-falling (λ i. eqb (C i % 2) 1) (descend m) (descend-falling m)
+
+-- at most as many as entries
+pub odds-length : (C : ℕ → ℕ) (m : ℕ) → length (odds C (descend m)) ≤ m
+odds-length C m = omega (arith, keep-length (λ i. eqb (C i % 2) 1) (descend m), descend-length m)
+
+pub odds-odd : (C : ℕ → ℕ) (xs : List ℕ) → All (λ (i : ℕ). C i % 2 ≡ 1) (odds C xs)
+unfolding keep
+odds-odd C [] = tt
+odds-odd C (x ∷ xs) =
+    elim (ℕ-discrete (C x % 2) 1)
+    [ yes e ↦ rw (eq-eqb (C x % 2) 1 e) (e, odds-odd C xs) | no n ↦ rw (ne-eqb (C x % 2) 1 n) (odds-odd C xs) ]
 
 -- what all odd ones are, each of them is
 pub odds-all :

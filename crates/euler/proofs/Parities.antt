@@ -2,7 +2,7 @@
 use Prim.Native.Nat.{ℕ, zero, suc, _+_, _*_, _-_, _/_, _%_, _≤_, _<_}
 use mathlib.Core.Path.{_≡_, refl, sym, _∙_, ap}
 use mathlib.Core.Bool.{Bool, true, false}
-use mathlib.Core.List.{List, [], _∷_, _++_, map, reverse, reverse-cons}
+use mathlib.Core.List.{List, [], _∷_, _++_, map, map-append, reverse, reverse-cons}
 use native.Mathlib.Omega.{arith}
 use native.Mathlib.Decide.{ℕ-discrete}
 use borrow.Author.Tests.{eq-eqb, ne-eqb}
@@ -106,10 +106,6 @@ eo-no false [] y n = refl
 eo-no true (x ∷ xs) y n = ap (λ (l : List Pair). x ∷ l) (eo-no false xs y (λ e. n (omega arith)))
 eo-no false (x ∷ xs) y n = eo-no true xs y (λ e. n (omega arith))
 
-map-snoc : (f : ℕ → Pair) (xs : List ℕ) (x : ℕ) → map f (xs ++ (x ∷ [])) ≡ map f xs ++ (f x ∷ [])
-map-snoc f [] x = refl
-map-snoc f (y ∷ xs) x = ap (λ (l : List Pair). f y ∷ l) (map-snoc f xs x)
-
 -- Every other of the written pairs, in the order of writing, are the pairs of the places dealt.
 pub every-other-dealt :
     (f : ℕ → Pair) (b : Bool) (ws : List ℕ) → every-other b (reverse (map f ws)) ≡ map f (dealt (parity-of b) ws)
@@ -123,7 +119,7 @@ every-other-dealt f b (x ∷ ws) =
       | yes e ↦
           eo-yes b (reverse (map f ws)) (f x) (ap (λ (n : ℕ). n % 2) len ∙ e)
           ∙ ap (λ (l : List Pair). l ++ (f x ∷ [])) (every-other-dealt f b ws)
-          ∙ sym (map-snoc f (dealt (parity-of b) ws) x)
+          ∙ sym (map-append f (dealt (parity-of b) ws) (x ∷ []))
           ∙ ap (map f) (sym (dealt-yes (parity-of b) x ws e))
       | no n ↦
           eo-no b (reverse (map f ws)) (f x) (λ e. n (ap (λ (k : ℕ). k % 2) (sym len) ∙ e))

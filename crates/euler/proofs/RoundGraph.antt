@@ -3,7 +3,7 @@
 use Prim.Native.Nat.{ℕ, zero, suc, _+_, _*_, _-_, _/_, _%_, _≤_, _<_}
 use mathlib.Core.Path.{_≡_, refl, sym, _∙_, ap}
 use mathlib.Core.Bool.{Bool, true, false}
-use mathlib.Core.List.{List, [], _∷_, _++_, map, reverse, reverse-cons, reverse-append, append-assoc, append-nil}
+use mathlib.Core.List.{List, [], _∷_, _++_, map, map-append, reverse, reverse-cons, reverse-append, append-assoc, append-nil}
 use native.Mathlib.Omega.{arith}
 use native.Mathlib.Decide.{ℕ-discrete, decLt}
 use borrow.Author.Tests.{eq-eqb, ne-eqb, le-leb, lt-leb}
@@ -17,7 +17,6 @@ use Rattle.multigraph.specs.Multigraph.{Pair, pair, Graph, joins, add-edge, wit
 use Rattle.multigraph.specs.Regular.{between}
 use Rattle.multigraph.specs.Stored.{entry, entries}
 use Rattle.euler.proofs.Grounds.{entries-none, entries-more}
-use Rattle.euler.proofs.RoundLists.{map-onto}
 use Rattle.multigraph.proofs.Ends.{joins-true, between-same, between-self}
 use Rattle.euler.specs.declared.circuits.Two.{Two}
 use Rattle.euler.specs.Split.{add-halves, rest, add-pairs}
@@ -192,7 +191,7 @@ module _ {l : Two} {N m k u : ℕ} {s₀ : List ℕ} (g : Ground l N m k u s₀)
               step
               ∙ rw (le-leb 2 (C j) t, c, before) (add-behind (map pn (reverse (evens j))) a b 1 (flag (num j)) new)
               ∙ ap (λ (x : Pair). map pn (reverse (evens j)) ++ (x ∷ [])) (one-copy j)
-              ∙ sym (map-onto pn (reverse (evens j)) (num j ∷ []))
+              ∙ sym (map-append pn (reverse (evens j)) (num j ∷ []))
               ∙ ap (map pn) (sym (reverse-cons (num j) (evens j)))
               ∙ rw (le-leb 2 (C j) t)
         ]
@@ -213,4 +212,4 @@ module _ {l : Two} {N m k u : ℕ} {s₀ : List ℕ} (g : Ground l N m k u s₀)
       (ap (λ (x : ℕ). pair x (word t (l .ends + 2 * e + 1)) 1 (flag e)) (kept .same (l .ends + 2 * e) (omega arith))
       ∙ ap (λ (x : ℕ). pair (E (2 * e)) x 1 (flag e)) (kept .same (l .ends + 2 * e + 1) table ∙ ap (word s₀) (omega arith))) in
       entries-more t (l .ends) pairs h j
-      ∙ rw (one, held-graph t h ds kept (nums .1) (d .2)) (sym (ap (map pn) (reverse-cons e ds) ∙ map-onto pn (reverse ds) (e ∷ [])))
+      ∙ rw (one, held-graph t h ds kept (nums .1) (d .2)) (sym (ap (map pn) (reverse-cons e ds) ∙ map-append pn (reverse ds) (e ∷ [])))

@@ -27,10 +27,6 @@ reverse-onto [] ys = sym (append-nil (reverse ys))
 reverse-onto (x ∷ xs) ys =
     reverse-onto xs (x ∷ ys) ∙ ap (λ (l : List ℕ). l ++ xs) (reverse-cons x ys) ∙ append-assoc (reverse ys) (x ∷ []) xs
 
-pub map-onto : (f : ℕ → Pair) (xs ys : List ℕ) → map f (xs ++ ys) ≡ map f xs ++ map f ys
-map-onto f [] ys = refl
-map-onto f (x ∷ xs) ys = ap (λ (l : List Pair). f x ∷ l) (map-onto f xs ys)
-
 pub map-numbers : (f : ℕ → Pair) (hs : List ℕ) → map f (numbers hs) ≡ map (λ y. f (y / 2)) hs
 map-numbers f [] = refl
 map-numbers f (y ∷ hs) = ap (λ (l : List Pair). f (y / 2) ∷ l) (map-numbers f hs)

@@ -2,7 +2,7 @@
 use Prim.Native.Nat.{ℕ, zero, suc, _+_, _*_, _-_, _/_, _%_, _≤_, _<_}
 use mathlib.Core.Path.{_≡_, refl, sym, _∙_, ap, subst}
 use mathlib.Core.Bool.{Bool, true, false}
-use mathlib.Core.List.{List, _∷_, _++_, map, reverse, reverseAux, append-assoc}
+use mathlib.Core.List.{List, _∷_, _++_, map, map-append, reverse, reverseAux, append-assoc}
 use mathlib.Core.Logic.{⊎-elim}
 use native.Mathlib.Omega.{arith}
 use native.Mathlib.Decide.{ℕ-discrete, decLt}
@@ -28,7 +28,7 @@ use Rattle.euler.proofs.RoundFill as Fill
 use Rattle.euler.proofs.RoundFill.{Ground}
 use Rattle.euler.proofs.RoundSteps as Steps
 use Rattle.euler.proofs.RoundSteps.{double, others, numbers}
-use Rattle.euler.proofs.RoundLists.{double-is, even-double, reverse-onto, map-onto, map-numbers, others-map, others-length, others-all, numbers-all, onto-length, onto-all, trace-length}
+use Rattle.euler.proofs.RoundLists.{double-is, even-double, reverse-onto, map-numbers, others-map, others-length, others-all, numbers-all, onto-length, onto-all, trace-length}
 use Rattle.euler.proofs.RoundModelLaws.{two-round-back, two-round-on, two-from-none, two-from-some}
 
 module _ {l : Two} {N m k u : ℕ} {s₀ : List ℕ} (g : Ground l N m k u s₀) (flag : ℕ → ℕ) (r : List Pair) (two : Ends.Twos (Steps.E g flag r) flag (Steps.es g flag r) r) where
@@ -189,7 +189,7 @@ module _ {l : Two} {N m k u : ℕ} {s₀ : List ℕ} (g : Ground l N m k u s₀)
         along (t' .cycles) ≡ along (t .cycles) ++ cycle → Dealt-so b ds t → Dealt-so b (dealt b hs ds) t'
     dealt-pairs b hs ds t t' cycle even e more h =
         ap (map pn) (reverse-onto (numbers (others b hs)) ds)
-        ∙ map-onto pn (reverse ds) (numbers (others b hs))
+        ∙ map-append pn (reverse ds) (numbers (others b hs))
         ∙ rw (h, map-numbers pn (others b hs), others-map pr b hs, e, more, every-other-even b (along (t .cycles)) cycle even)
         (append-assoc (map pn (reverse ps)) (every-other b (along (t .cycles))) (every-other b cycle))
 

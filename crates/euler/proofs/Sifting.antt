@@ -13,8 +13,8 @@ use Rattle.words.proofs.Frames.{here, away, length-put, keeps-refl, keeps-trans
 use Rattle.euler.specs.declared.Rings.{Rings}
 use Rattle.euler.specs.Model.{Counted, copiesM, siftM, siftAllM, notedM}
 use Rattle.euler.specs.Bounds.{Sifts-all}
-use Rattle.euler.proofs.Places.{keep, keep-yes, keep-no, keep-length, descend, descend-length}
-use Rattle.euler.proofs.Nodes.{odds}
+use Rattle.euler.proofs.Places.{keep, keep-yes, keep-no, descend}
+use Rattle.euler.proofs.Nodes.{odds, odds-length}
 use Rattle.euler.proofs.Bases.{Laid, copies-kept, away2}
 use Rattle.euler.proofs.Asides.{Same-nodes, same-mark, same-high, same-trans}
 
@@ -38,9 +38,6 @@ module _ {l : Rings} {N m k : ℕ} {s₀ : List ℕ} (g : Laid l N m k s₀) whe
   -- the odd ones of the first j entries, newest first
   abbrev first-odds : ℕ → List ℕ
   first-odds j = odds C (descend j)
-
-  pub few-odds : (j : ℕ) → length (first-odds j) ≤ j
-  few-odds j = omega (arith, keep-length (λ i. eqb (C i % 2) 1) (descend j), descend-length j)
 
   -- after the first j entries, from the words s on
   pub record Sifted (j : ℕ) (s : List ℕ) (t : Counted) : Type 0 where
@@ -94,7 +91,7 @@ module _ {l : Rings} {N m k : ℕ} {s₀ : List ℕ} (g : Laid l N m k s₀) whe
       let c : copiesM l w j % 2 ≡ C j % 2 = ap (λ (x : ℕ). x % 2) (copies-kept g w now' j b) in
       let at : put-note w j (t .count) ≡ put-note w j (length (first-odds j)) = rw (h .counted) in
       let new : Noted l (put-note w j (t .count)) (j ∷ first-odds j) =
-      rw at (note-noted w j (first-odds j) (now' .len) b (omega (arith, few-odds j)) (h .noted)) in
+      rw at (note-noted w j (first-odds j) (now' .len) b (omega (arith, odds-length C j)) (h .noted)) in
       let same : Same-nodes g s (put-note w j (t .count)) =
       same-trans g s w (put-note w j (t .count)) (h .same) (note-same w j (t .count) jk) in
       let marks : (i : ℕ) → i < suc j → word (put-note w j (t .count)) (l .b + 8 * i + 2) ≡ 0 =

@@ -7,8 +7,6 @@ use mathlib.Core.List.{List, [], _∷_, map, reverse}
 use mathlib.Core.Logic.{_⊎_, inl, inr, ⊎-elim}
 use native.Mathlib.Omega.{arith}
 use native.Mathlib.Decide.{ℕ-discrete, decLt}
-use borrow.Author.Tests.{eq-eqb, ne-eqb}
-use lib.Dec.{eqb}
 use Rattle.words.specs.Basics.{total, All}
 use Rattle.words.specs.Words.{word}
 use Rattle.words.specs.Frames.{Keeps}
@@ -22,8 +20,8 @@ use Rattle.euler.specs.Bounds.{Walks}
 use Rattle.euler.proofs.Taken.{ends}
 use Rattle.euler.proofs.Trail.{aslant}
 use Rattle.euler.proofs.Straight.{straight}
-use Rattle.euler.proofs.Places.{keep, keep-all, descend, descend-below, descend-falling, keep-falling}
-use Rattle.euler.proofs.Nodes.{Odd, odds, odd-places, edge, first-node}
+use Rattle.euler.proofs.Places.{descend}
+use Rattle.euler.proofs.Nodes.{Odd, odds-below, odds-falling, odds-odd, odd-places, edge, first-node}
 use Rattle.euler.proofs.ModelLaws.{step-idle, step-takes, step-stuck, stuck-backs, stuck-next}
 use Rattle.euler.proofs.Bases.{Laid, P}
 use Rattle.euler.proofs.Filling.{Filled}
@@ -39,14 +37,8 @@ module _ {l : Rings} {N m k : ℕ} {s₀ : List ℕ} (g : Laid l N m k s₀) (fl
   abbrev C : ℕ → ℕ
   C i = copiesM l s₀ i
 
-  abbrev odd : ℕ → Type 0
-  odd i = Odd m C i
-
   abbrev Q : ℕ → Pair
   Q i = P g flag i
-
-  abbrev places-all : List ℕ
-  places-all = odd-places m C
 
   -- something lives at this stage
   pub record Alive (t : Stage) : Type 0 where
@@ -74,7 +66,7 @@ module _ {l : Rings} {N m k : ℕ} {s₀ : List ℕ} (g : Laid l N m k s₀) (fl
         | no n ↦
             ⊎-elim (λ e. absurd (n (ring-here g flag r s w xs ws is h vb [] (e .1) .0)))
             (λ f.
-            let o : odd (f .entry) = has-odd g flag s is (f .entry) (h .rings) (f .has) in
+            let o : Odd m C (f .entry) = has-odd g flag s is (f .entry) (h .rings) (f .has) in
             let first : x ≡ edge (f .side) (f .entry) =
             ring-here g flag r s w xs ws is h vb (edge (f .side) (f .entry) ∷ f .nodes-left) (f .nodes-is) .0 in
             subst (Moved g flag r t)
@@ -108,36 +100,29 @@ module _ {l : Rings} {N m k : ℕ} {s₀ : List ℕ} (g : Laid l N m k s₀) (fl
 
   -- ── the start ──
 
-  odds-odd : (xs : List ℕ) → All (λ (i : ℕ). C i % 2 ≡ 1) (odds C xs)
-  unfolding keep
-  odds-odd [] = tt
-  odds-odd (x ∷ xs) =
-      elim (ℕ-discrete (C x % 2) 1)
-      [ yes e ↦ rw (eq-eqb (C x % 2) 1 e) (e, odds-odd xs) | no n ↦ rw (ne-eqb (C x % 2) 1 n) (odds-odd xs) ]
-
-  start-rings : (s : List ℕ) → Filled g flag s → Remaining g flag s places-all
+  start-rings : (s : List ℕ) → Filled g flag s → Remaining g flag s (odd-places m C)
   unfolding odd-places
   start-rings s f =
       record {
         rung = f .rung;
         leads = f .leads;
-        below = keep-all (λ i. i < m) (λ i. eqb (C i % 2) 1) (descend m) (descend-below m);
-        odds = odds-odd (descend m);
+        below = odds-below C m;
+        odds = odds-odd C (descend m);
       }
 
   start-live :
-      (s : List ℕ) → Filled g flag s → reverse r ≡ map Q places-all →
-      Live g flag r s (record { next = 0; at = 0; height = 0; written = 0 }) [] [] places-all
+      (s : List ℕ) → Filled g flag s → reverse r ≡ map Q (odd-places m C) →
+      Live g flag r s (record { next = 0; at = 0; height = 0; written = 0 }) [] [] (odd-places m C)
   unfolding column mark-of steps straight odd-places
   start-live s f e =
-      let on : walking g flag 0 [] places-all [] ≡ straight 0 r =
+      let on : walking g flag 0 [] (odd-places m C) [] ≡ straight 0 r =
       ap (λ (z : List Pair). record { stack = []; left = z; written = [] }) (sym e) in
       record {
         rings = start-rings s f;
         stack = refl;
         written = refl;
         marks = f .marks;
-        falling = keep-falling (λ i. eqb (C i % 2) 1) (descend m) (descend-falling m);
+        falling = odds-falling C m;
         size = omega arith;
         rooted = refl;
         sound = λ b. b;
@@ -162,11 +147,11 @@ module _ {l : Rings} {N m k : ℕ} {s₀ : List ℕ} (g : Laid l N m k s₀) (fl
     pub same : map Q ws ≡ straight N r .written
 
   pub walked-all :
-      (s : List ℕ) → Filled g flag s → reverse r ≡ map Q places-all →
+      (s : List ℕ) → Filled g flag s → reverse r ≡ map Q (odd-places m C) →
       Walked-all (walkM l N (2 * m + N) (record { words = s; walk = record { next = 0; at = 0; height = 0; written = 0 } }))
   walked-all s f e =
       let t₀ : Stage = record { words = s; walk = record { next = 0; at = 0; height = 0; written = 0 } } in
-      let a₀ : Alive t₀ = record { xs = []; ws = []; is = places-all; live = start-live s f e } in
+      let a₀ : Alive t₀ = record { xs = []; ws = []; is = odd-places m C; live = start-live s f e } in
       let p : Alive (walkM l N (2 * m + N) t₀) × (N ≤ walkM l N (2 * m + N) t₀ .walk .next) =
       walk-ends t₀ (2 * m + N) a₀ (start-measure s) in
       let a : Alive (walkM l N (2 * m + N) t₀) = p .0 in
@@ -184,12 +169,12 @@ module _ {l : Rings} {N m k : ℕ} {s₀ : List ℕ} (g : Laid l N m k s₀) (fl
 
   -- Every place that the walk touches is one.
   pub walks-on :
-      (s : List ℕ) (n : ℕ) → Filled g flag s → reverse r ≡ map Q places-all → Walks l N n s
+      (s : List ℕ) (n : ℕ) → Filled g flag s → reverse r ≡ map Q (odd-places m C) → Walks l N n s
   walks-on s n f e =
       record {
         steps = λ j c b.
             let a : Alive (walkM l N j (begun s)) =
             iterate-keeps {Inv = Alive} (stepM l N) alive-keeps j (begun s)
-            (record { xs = []; ws = []; is = places-all; live = start-live s f e }) in
+            (record { xs = []; ws = []; is = odd-places m C; live = start-live s f e }) in
             live-steps g flag r (walkM l N j (begun s) .words) (walkM l N j (begun s) .walk) (a .xs) (a .ws) (a .is) (a .live) b;
       }

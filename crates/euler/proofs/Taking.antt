@@ -14,10 +14,10 @@ use Rattle.multigraph.specs.Multigraph.{Pair}
 use Rattle.euler.specs.declared.Rings.{Rings}
 use Rattle.euler.specs.declared.Walk.{Walk}
 use Rattle.euler.specs.Euler.{other-node, walk-step}
-use Rattle.euler.specs.Model.{copiesM, popM, unlinkM, takeM}
+use Rattle.euler.specs.Model.{popM, unlinkM, takeM}
 use Rattle.euler.proofs.Straight.{straight}
 use Rattle.euler.proofs.Places.{without, keep-falling, without-shorter}
-use Rattle.euler.proofs.Nodes.{Odd, edge, end, First}
+use Rattle.euler.proofs.Nodes.{edge, end, First}
 use Rattle.euler.proofs.Bases.{Laid, P, end-below}
 use Rattle.euler.proofs.Asides.{Aside, same-high}
 use Rattle.euler.proofs.Columns.{column, column-same, column-more}
@@ -26,12 +26,6 @@ use Rattle.euler.proofs.Stacks.{sound-here, walking, step-on}
 use Rattle.euler.proofs.Live.{mate-is, entry-is, edge-low, few-places, Live, measure, Moved}
 
 module _ {l : Rings} {N m k : ℕ} {s₀ : List ℕ} (g : Laid l N m k s₀) (flag : ℕ → ℕ) (r : List Pair) where
-  abbrev C : ℕ → ℕ
-  C i = copiesM l s₀ i
-
-  abbrev odd : ℕ → Type 0
-  odd i = Odd m C i
-
   abbrev Q : ℕ → Pair
   Q i = P g flag i
 
@@ -91,8 +85,7 @@ module _ {l : Rings} {N m k : ℕ} {s₀ : List ℕ} (g : Laid l N m k s₀) (fl
       let vb : v < N = sound-here g flag v xs (h .sound b) in
       let d : Bool = f .side in
       let i : ℕ = f .entry in
-      let o : odd i = has-odd g flag s is i (h .rings) (f .has) in
-      let ib : i < m = o .below in
+      let ib : i < m = has-odd g flag s is i (h .rings) (f .has) .below in
       let fb : far d i < N = end-below g flag (not d) i ib in
       let out-is = remaining-take g flag v s is vb (h .falling) (h .rings) f in
       let u : List ℕ = out s v d i in
