@@ -13,8 +13,8 @@ use Rattle.words.specs.Words.{word, put-word}
 use Rattle.words.proofs.Runs.{iterate-suc-out, iterate-rest, iterate-add}
 use Rattle.euler.specs.declared.Rings.{Rings}
 use Rattle.euler.specs.declared.Walk.{Walk}
-use Rattle.euler.specs.Bounds.{Appends, Rings-end, Fills-ends, Fills}
-use Rattle.euler.specs.Model.{Stage, Counted, Small, copiesM, appendM, startRingM, startM, siftM, siftAllM, notedM, ringEndM, endsM, fillM, popM, unlinkM, mateM, takeM, backM, stuckM, stepM, walkM, moreM, manyM, pushM, entryM, entriesM, singleM, singlesM, halfM}
+use Rattle.euler.specs.Bounds.{Appends, Rings-end, Fills-ends, Fills, Half-fits, Split-fits}
+use Rattle.euler.specs.Model.{Stage, Counted, Small, copiesM, appendM, startRingM, startM, siftM, siftAllM, notedM, ringEndM, endsM, fillM, popM, unlinkM, mateM, takeM, backM, stuckM, stepM, walkM, begun, moreM, manyM, pushM, entryM, entriesM, singleM, singlesM, halfM, splitM}
 
 -- ── filling ──
 
@@ -72,25 +72,20 @@ pub fills-first :
 fills-first l side zero s h f = absurd (omega arith)
 fills-first l side (suc k) s h f = let e : suc k - 1 ≡ k = omega arith in rw e f
 
--- what the two fillings of the ends ask, and what all four steps give
-pub firsts-ask :
-    (l : Rings) (m parties odd : ℕ) (s t u : List ℕ) → Fills l m parties s → t ≡ startM l parties s →
-    record { words = u; count = odd } ≡ siftAllM l m t → Fills-ends l 0 odd u
-firsts-ask l m parties odd s t u f et eu =
-    subst (λ (x : Counted). Fills-ends l 0 (x .count) (x .words)) (sym (eu ∙ ap (siftAllM l m) et)) (f .firsts)
-
-pub seconds-ask :
-    (l : Rings) (m parties odd : ℕ) (s t u v : List ℕ) → Fills l m parties s → t ≡ startM l parties s →
-    record { words = u; count = odd } ≡ siftAllM l m t → v ≡ endsM l 0 odd u → Fills-ends l 1 odd v
-seconds-ask l m parties odd s t u v f et eu ev =
-    subst (Fills-ends l 1 odd) (sym ev)
-    (subst (λ (x : Counted). Fills-ends l 1 (x .count) (endsM l 0 (x .count) (x .words))) (sym (eu ∙ ap (siftAllM l m) et)) (f .seconds))
+-- what filling each side asks, from what the steps before give, and what all four steps give
+pub fills-ask :
+    {l : Rings} {m parties odd : ℕ} {s t u : List ℕ} → Fills l m parties s → t ≡ startM l parties s →
+    record { words = u; count = odd } ≡ siftAllM l m t → Fills-ends l 0 odd u × Fills-ends l 1 odd (endsM l 0 odd u)
+fills-ask {l = l} {m = m} f et eu =
+    subst
+    (λ (x : Counted). Fills-ends l 0 (x .count) (x .words) × Fills-ends l 1 (x .count) (endsM l 0 (x .count) (x .words)))
+    (sym (eu ∙ ap (siftAllM l m) et)) (f .firsts, f .seconds)
 
 pub fill-so :
-    (l : Rings) (m parties odd : ℕ) (s t u v w : List ℕ) → t ≡ startM l parties s →
+    (l : Rings) (m parties : ℕ) (s : List ℕ) {odd : ℕ} {t u v w : List ℕ} → t ≡ startM l parties s →
     record { words = u; count = odd } ≡ siftAllM l m t → v ≡ endsM l 0 odd u → w ≡ endsM l 1 odd v → w ≡ fillM l m parties s
 unfolding fillM
-fill-so l m parties odd s t u v w et eu ev ew =
+fill-so l m parties s et eu ev ew =
     rw (ew, ev)
     (ap (λ (x : Counted). endsM l 1 (x .count) (endsM l 0 (x .count) (x .words))) (eu ∙ ap (siftAllM l m) et))
 
@@ -245,3 +240,19 @@ pub half-so :
 unfolding halfM
 half-so l h parity m written s t₁ t₂ t₃ t₄ from at e f u v =
     rw (v, u, ← e) (ap (λ (t : Counted). put-word (put-word (t .words) h h) (h + 1) (t .count)) f)
+
+-- what each half asks, from what the steps before it give
+pub halves-ask :
+    {l : Rings} {h₁ h₂ m parties wr : ℕ} {s t₁ t₂ : List ℕ} → Split-fits l h₁ h₂ m parties s → t₁ ≡ fillM l m parties s →
+    t₂ ≡ walkM l parties (2 * m + parties) (begun t₁) .words →
+    wr ≡ walkM l parties (2 * m + parties) (begun t₁) .walk .written →
+    Half-fits l h₁ 0 m wr t₂ × Half-fits l h₂ 1 m wr (halfM l h₁ 0 m wr t₂)
+halves-ask f e₁ e₂ e₃ = rw (e₂, e₃, e₁) (f .first, f .second)
+
+pub split-so :
+    (l : Rings) (h₁ h₂ m parties : ℕ) (s : List ℕ) {wr : ℕ} {t₁ t₂ t₃ t₄ : List ℕ} → t₁ ≡ fillM l m parties s →
+    t₂ ≡ walkM l parties (2 * m + parties) (begun t₁) .words →
+    wr ≡ walkM l parties (2 * m + parties) (begun t₁) .walk .written → t₃ ≡ halfM l h₁ 0 m wr t₂ → t₄ ≡ halfM l h₂ 1 m wr t₃ →
+    t₄ ≡ splitM l h₁ h₂ m parties s
+unfolding splitM
+split-so l h₁ h₂ m parties s e₁ e₂ e₃ e₄ e₅ = rw (e₅, e₄, e₃, e₂, e₁)

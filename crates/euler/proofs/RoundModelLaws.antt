@@ -177,36 +177,28 @@ two-walk-more l m v t = rw add-one
 
 -- ── the split ──
 
-pub two-firsts-ask :
-    (l : Two) (m parties : ℕ) (n : Sifted) (s t u : List ℕ) → Two-splits l m parties s → t ≡ twoStartM l parties s →
-    record { words = u; sifted = n } ≡ twoSiftAllM l m t → Two-fills l 0 (n .odd) u
-two-firsts-ask l m parties n s t u f et eu =
-    subst (λ (x : Apart-so-far). Two-fills l 0 (x .sifted .odd) (x .words)) (sym (eu ∙ ap (twoSiftAllM l m) et)) (f .firsts)
-
-pub two-seconds-ask :
-    (l : Two) (m parties : ℕ) (n : Sifted) (s t u w : List ℕ) → Two-splits l m parties s → t ≡ twoStartM l parties s →
-    record { words = u; sifted = n } ≡ twoSiftAllM l m t → w ≡ twoFillM l 0 (n .odd) u → Two-fills l 1 (n .odd) w
-two-seconds-ask l m parties n s t u w f et eu ew =
-    subst (Two-fills l 1 (n .odd)) (sym ew)
-    (subst (λ (x : Apart-so-far). Two-fills l 1 (x .sifted .odd) (twoFillM l 0 (x .sifted .odd) (x .words)))
-    (sym (eu ∙ ap (twoSiftAllM l m) et)) (f .seconds))
-
-pub two-walks-ask :
-    (l : Two) (m parties : ℕ) (n : Sifted) (s t u w x : List ℕ) → Two-splits l m parties s → t ≡ twoStartM l parties s →
-    record { words = u; sifted = n } ≡ twoSiftAllM l m t → w ≡ twoFillM l 0 (n .odd) u → x ≡ twoFillM l 1 (n .odd) w →
-    Two-walks l m parties (record { words = x; number = n .even })
-two-walks-ask l m parties n s t u w x f et eu ew ex =
-    subst (λ (z : List ℕ). Two-walks l m parties (record { words = z; number = n .even })) (sym (ex ∙ ap (twoFillM l 1 (n .odd)) ew))
-    (subst (λ (z : Apart-so-far). Two-walks l m parties (record { words = twoFilledM l z; number = z .sifted .even }))
-    (sym (eu ∙ ap (twoSiftAllM l m) et)) (f .walks))
+-- what filling each side and the rounds ask, from what the steps before give
+pub two-asks :
+    {l : Two} {m parties : ℕ} {n : Sifted} {s t u : List ℕ} → Two-splits l m parties s → t ≡ twoStartM l parties s →
+    record { words = u; sifted = n } ≡ twoSiftAllM l m t →
+    Two-fills l 0 (n .odd) u
+    × Two-fills l 1 (n .odd) (twoFillM l 0 (n .odd) u)
+    × Two-walks l m parties (record { words = twoFilledM l (record { words = u; sifted = n }); number = n .even })
+two-asks {l = l} {m = m} {parties = parties} f et eu =
+    subst
+    (λ (x : Apart-so-far).
+    Two-fills l 0 (x .sifted .odd) (x .words)
+    × Two-fills l 1 (x .sifted .odd) (twoFillM l 0 (x .sifted .odd) (x .words))
+    × Two-walks l m parties (record { words = twoFilledM l x; number = x .sifted .even }))
+    (sym (eu ∙ ap (twoSiftAllM l m) et)) (f .firsts, f .seconds, f .walks)
 
 pub split-two-so :
-    (l : Two) (m parties : ℕ) (n : Sifted) (s t u w x y z₁ z₂ : List ℕ) (k : ℕ) → t ≡ twoStartM l parties s →
+    (l : Two) (m parties : ℕ) (s : List ℕ) {n : Sifted} {t u w x y z₁ z₂ : List ℕ} {k : ℕ} → t ≡ twoStartM l parties s →
     record { words = u; sifted = n } ≡ twoSiftAllM l m t → w ≡ twoFillM l 0 (n .odd) u → x ≡ twoFillM l 1 (n .odd) w →
     record { words = y; number = k } ≡ twoWalkM l m parties (record { words = x; number = n .even }) →
     z₁ ≡ headM (l .first) y k → z₂ ≡ headM (l .second) z₁ k → z₂ ≡ splitTwoM l m parties s
 unfolding splitTwoM
-split-two-so l m parties n s t u w x y z₁ z₂ k et eu ew ex ey e₁ e₂ =
+split-two-so l m parties s {n = n} {x = x} {k = k} et eu ew ex ey e₁ e₂ =
     let done : _≡_ {A = Told} (record { words = x; number = n .even }) (record { words = twoFilledM l (twoSiftAllM l m (twoStartM l parties s)); number = twoSiftAllM l m (twoStartM l parties s) .sifted .even }) =
     ap (λ (q : List ℕ). record { words = q; number = n .even }) (ex ∙ ap (twoFillM l 1 (n .odd)) ew)
     ∙ ap (λ (q : Apart-so-far). record { words = twoFilledM l q; number = q .sifted .even }) (eu ∙ ap (twoSiftAllM l m) et) in

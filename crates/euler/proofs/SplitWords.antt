@@ -19,8 +19,8 @@ use Rattle.euler.specs.declared.Rings.{Rings}
 use Rattle.euler.specs.Euler.{Tour, euler-cycles}
 use Rattle.euler.specs.Split.{Halves, add-halves, rest, every-other, add-pairs, deal, rbmg-split-into-two}
 use Rattle.euler.specs.Room.{Splits, Halves-stored}
-use Rattle.euler.specs.Bounds.{Walks, Half-fits, Split-fits}
-use Rattle.euler.specs.Model.{Fits, Stage, copiesM, fillM, walkM, begun, walked, halfM, laid, splitM}
+use Rattle.euler.specs.Bounds.{Walks, Split-fits}
+use Rattle.euler.specs.Model.{Fits, Stage, copiesM, fillM, walked, halfM, laid, splitM}
 use Rattle.euler.proofs.Taken.{ends}
 use Rattle.euler.proofs.Tours.{in-all}
 use Rattle.euler.proofs.Straight.{along, Same-tour, same-tour, deal-along}
@@ -355,24 +355,3 @@ split-asks s u ends g n width m q b =
       b,
       omega (arith, q .few),
     )
-
--- what each half asks, from what the steps before it give
-pub first-asks :
-    (l : Rings) (h₁ h₂ m parties wr : ℕ) (s t₁ t₂ : List ℕ) → Split-fits l h₁ h₂ m parties s → t₁ ≡ fillM l m parties s →
-    t₂ ≡ walkM l parties (2 * m + parties) (begun t₁) .words →
-    wr ≡ walkM l parties (2 * m + parties) (begun t₁) .walk .written → Half-fits l h₁ 0 m wr t₂
-first-asks l h₁ h₂ m parties wr s t₁ t₂ f e₁ e₂ e₃ = rw (e₂, e₃, e₁) (f .first)
-
-pub second-asks :
-    (l : Rings) (h₁ h₂ m parties wr : ℕ) (s t₁ t₂ t₃ : List ℕ) → Split-fits l h₁ h₂ m parties s → t₁ ≡ fillM l m parties s →
-    t₂ ≡ walkM l parties (2 * m + parties) (begun t₁) .words →
-    wr ≡ walkM l parties (2 * m + parties) (begun t₁) .walk .written → t₃ ≡ halfM l h₁ 0 m wr t₂ → Half-fits l h₂ 1 m wr t₃
-second-asks l h₁ h₂ m parties wr s t₁ t₂ t₃ f e₁ e₂ e₃ e₄ = rw (e₄, e₂, e₃, e₁) (f .second)
-
-pub split-so :
-    (l : Rings) (h₁ h₂ m parties wr : ℕ) (s t₁ t₂ t₃ t₄ : List ℕ) → t₁ ≡ fillM l m parties s →
-    t₂ ≡ walkM l parties (2 * m + parties) (begun t₁) .words →
-    wr ≡ walkM l parties (2 * m + parties) (begun t₁) .walk .written → t₃ ≡ halfM l h₁ 0 m wr t₂ → t₄ ≡ halfM l h₂ 1 m wr t₃ →
-    t₄ ≡ splitM l h₁ h₂ m parties s
-unfolding splitM
-split-so l h₁ h₂ m parties wr s t₁ t₂ t₃ t₄ e₁ e₂ e₃ e₄ e₅ = rw (e₅, e₄, e₃, e₂, e₁)

@@ -1,8 +1,8 @@
 use native.Mathlib.Omega.{arith}
 use Prim.Native.Nat.{_+_, _*_}
 use mathlib.Core.Path.{sym, subst}
-use Rattle.euler.specs.Bounds.{Walks}
-use Rattle.euler.proofs.SplitWords.{first-asks, second-asks, split-so}
+use Rattle.euler.specs.Bounds.{Walks, Half-fits}
+use Rattle.euler.proofs.ModelLaws.{halves-ask, split-so}
 use borrow.Author.Needs.{needs}
 use Rattle.euler.proofs.split_words.Statement.{statement}
 use Rattle.euler.proofs.split_words.Tie as tie
@@ -12,46 +12,55 @@ fill-rings-requires c κs = let pre = c .before .before .pre in (pre .0, pre .3,
 
 euler-cycles-requires : tie.Need-euler-cycles-requires
 euler-cycles-requires c κs =
-    let a = c .before .before .before .before .before .before .args in
-    let pre = c .before .before .before .before .before .before .pre in (
+    let filled = c .before .before .before in
+    let start = filled .before .before .before in
+    let a = start .args in
+    let pre = start .pre in (
       pre .0,
       pre .3,
       pre .4,
-      subst (Walks (a .l) (a .parties) (2 * a .m + a .parties)) (sym (c .before .before .before .fill-rings .ensures)) (pre .5 .walks),
+      subst (Walks (a .l) (a .parties) (2 * a .m + a .parties)) (sym (filled .fill-rings .ensures)) (pre .5 .walks),
     )
 
 half-requires : tie.Need-half-requires
 half-requires c κs =
-    let a = c .before .before .before .before .before .before .before .before .before .before .args in
-    let pre = c .before .before .before .before .before .before .before .before .before .before .pre in (
+    let walked = c .before .before .before in
+    let filled = walked .before .before .before .before in
+    let pre = filled .before .before .before .pre in (
       pre .0,
       pre .1,
       omega arith,
       pre .3,
-      c .before .before .before .euler-cycles .ensures .2,
-      first-asks (a .l) (a .first) (a .second) (a .m) (a .parties) (c .before .before .before .euler-cycles .result) (a .s .now) (c .before .before .before .before .before .before .before .fill-rings .last .0) (c .before .before .before .euler-cycles .last .0) (pre .5)
-          (c .before .before .before .before .before .before .before .fill-rings .ensures) (c .before .before .before .euler-cycles .ensures .0) (c .before .before .before .euler-cycles .ensures .1),
+      walked .euler-cycles .ensures .2,
+      halves-ask (pre .5) (filled .fill-rings .ensures) (walked .euler-cycles .ensures .0) (walked .euler-cycles .ensures .1) .0,
     )
 
 half-requires-2 : tie.Need-half-requires-2
 half-requires-2 c κs =
-    let a = c .before .before .before .before .before .before .before .before .before .before .before .before .before .before .args in
-    let pre = c .before .before .before .before .before .before .before .before .before .before .before .before .before .before .pre in (
+    let first = c .before .before .before in
+    let walked = first .before .before .before .before in
+    let filled = walked .before .before .before .before in
+    let start = filled .before .before .before in
+    let a = start .args in
+    let pre = start .pre in (
       pre .0,
       pre .2,
       omega arith,
       pre .3,
-      c .before .before .before .before .before .before .before .euler-cycles .ensures .2,
-      second-asks (a .l) (a .first) (a .second) (a .m) (a .parties) (c .before .before .before .before .before .before .before .euler-cycles .result) (a .s .now) (c .before .before .before .before .before .before .before .before .before .before .before .fill-rings .last .0) (c .before .before .before .before .before .before .before .euler-cycles .last .0) (c .before .before .before .half .last .0) (pre .5)
-          (c .before .before .before .before .before .before .before .before .before .before .before .fill-rings .ensures) (c .before .before .before .before .before .before .before .euler-cycles .ensures .0) (c .before .before .before .before .before .before .before .euler-cycles .ensures .1) (c .before .before .before .half .ensures),
+      walked .euler-cycles .ensures .2,
+      subst (Half-fits (a .l) (a .second) 1 (a .m) (walked .euler-cycles .result)) (sym (first .half .ensures))
+          (halves-ask (pre .5) (filled .fill-rings .ensures) (walked .euler-cycles .ensures .0) (walked .euler-cycles .ensures .1) .1),
     )
 
 returns : tie.Need-returns
 returns c =
-    let a = c .before .before .before .before .before .before .before .before .before .before .before .before .before .before .before .before .before .args in
-    split-so (a .l) (a .first) (a .second) (a .m) (a .parties) (c .before .before .before .before .before .before .before .before .before .before .euler-cycles .result) (a .s .now) (c .before .before .before .before .before .before .before .before .before .before .before .before .before .before .fill-rings .last .0)
-    (c .before .before .before .before .before .before .before .before .before .before .euler-cycles .last .0) (c .before .before .before .before .before .before .half .last .0) (c .before .before .half2 .last .0) (c .before .before .before .before .before .before .before .before .before .before .before .before .before .before .fill-rings .ensures)
-    (c .before .before .before .before .before .before .before .before .before .before .euler-cycles .ensures .0) (c .before .before .before .before .before .before .before .before .before .before .euler-cycles .ensures .1) (c .before .before .before .before .before .before .half .ensures) (c .before .before .half2 .ensures)
+    let second = c .before .before in
+    let first = second .before .before .before .before in
+    let walked = first .before .before .before .before in
+    let filled = walked .before .before .before .before in
+    let a = filled .before .before .before .args in
+    split-so (a .l) (a .first) (a .second) (a .m) (a .parties) (a .s .now) (filled .fill-rings .ensures)
+    (walked .euler-cycles .ensures .0) (walked .euler-cycles .ensures .1) (first .half .ensures) (second .half2 .ensures)
 
 pub split-words-spec : {M : Type 1} → statement M
 split-words-spec =

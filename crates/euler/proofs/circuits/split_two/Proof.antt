@@ -1,42 +1,69 @@
-use Rattle.euler.proofs.RoundModelLaws.{two-firsts-ask, two-seconds-ask, two-walks-ask, split-two-so}
 use native.Mathlib.Omega.{arith}
+use mathlib.Core.Path.{sym, _∙_, ap, subst}
+use mathlib.Core.List.{List}
+use Prim.Native.Nat.{ℕ}
+use Rattle.euler.specs.RoundModel.{twoFillM}
+use Rattle.euler.specs.RoundBounds.{Two-fills, Two-walks}
+use Rattle.euler.proofs.RoundModelLaws.{two-asks, split-two-so}
 use borrow.Author.Needs.{needs}
 use Rattle.euler.proofs.circuits.split_two.Statement.{statement}
 use Rattle.euler.proofs.circuits.split_two.Tie as tie
 
 two-fill-requires : tie.Need-two-fill-requires
 two-fill-requires c κs =
-    let a = c .before .before .before .before .before .before .before .before .before .before .args in
-    let pre = c .before .before .before .before .before .before .before .before .before .before .pre in (
+    let sifted = c .before .before .before in
+    let started = sifted .before .before .before .before in
+    let pre = started .before .before .before .pre in (
       pre .0,
       omega arith,
-      omega (arith, pre .1, c .before .before .before .two-sift-all .ensures .2),
-      two-firsts-ask (a .l) (a .m) (a .parties) (c .before .before .before .two-sift-all .result) (a .s .now) (c .before .before .before .before .before .before .before .two-start .last .0) (c .before .before .before .two-sift-all .last .0) (pre .3) (c .before .before .before .before .before .before .before .two-start .ensures) (c .before .before .before .two-sift-all .ensures .0),
+      omega (arith, pre .1, sifted .two-sift-all .ensures .2),
+      two-asks (pre .3) (started .two-start .ensures) (sifted .two-sift-all .ensures .0) .0,
     )
 
 two-fill-requires-2 : tie.Need-two-fill-requires-2
 two-fill-requires-2 c κs =
-    let a = c .before .before .before .before .before .before .before .before .before .before .before .before .before .before .args in
-    let pre = c .before .before .before .before .before .before .before .before .before .before .before .before .before .before .pre in (
+    let firsts = c .before .before .before in
+    let sifted = firsts .before .before .before .before in
+    let started = sifted .before .before .before .before in
+    let start = started .before .before .before in
+    let pre = start .pre in (
       pre .0,
       omega arith,
-      omega (arith, pre .1, c .before .before .before .before .before .before .before .two-sift-all .ensures .2),
-      two-seconds-ask (a .l) (a .m) (a .parties) (c .before .before .before .before .before .before .before .two-sift-all .result) (a .s .now) (c .before .before .before .before .before .before .before .before .before .before .before .two-start .last .0) (c .before .before .before .before .before .before .before .two-sift-all .last .0) (c .before .before .before .two-fill .last .0) (pre .3) (c .before .before .before .before .before .before .before .before .before .before .before .two-start .ensures) (c .before .before .before .before .before .before .before .two-sift-all .ensures .0) (c .before .before .before .two-fill .ensures),
+      omega (arith, pre .1, sifted .two-sift-all .ensures .2),
+      subst (Two-fills (start .args .l) 1 (sifted .two-sift-all .result .odd)) (sym (firsts .two-fill .ensures))
+          (two-asks (pre .3) (started .two-start .ensures) (sifted .two-sift-all .ensures .0) .1),
     )
 
 two-walk-requires : tie.Need-two-walk-requires
 two-walk-requires c κs =
-    let a = c .before .before .before .before .before .before .before .before .before .before .before .before .before .before .before .before .before .before .args in
-    let pre = c .before .before .before .before .before .before .before .before .before .before .before .before .before .before .before .before .before .before .pre in (
+    let seconds = c .before .before .before in
+    let firsts = seconds .before .before .before .before in
+    let sifted = firsts .before .before .before .before in
+    let started = sifted .before .before .before .before in
+    let start = started .before .before .before in
+    let a = start .args in
+    let pre = start .pre in
+    let n = sifted .two-sift-all .result in (
       pre .0,
       pre .2,
-      two-walks-ask (a .l) (a .m) (a .parties) (c .before .before .before .before .before .before .before .before .before .before .before .two-sift-all .result) (a .s .now) (c .before .before .before .before .before .before .before .before .before .before .before .before .before .before .before .two-start .last .0) (c .before .before .before .before .before .before .before .before .before .before .before .two-sift-all .last .0) (c .before .before .before .before .before .before .before .two-fill .last .0) (c .before .before .before .two-fill2 .last .0) (pre .3) (c .before .before .before .before .before .before .before .before .before .before .before .before .before .before .before .two-start .ensures) (c .before .before .before .before .before .before .before .before .before .before .before .two-sift-all .ensures .0) (c .before .before .before .before .before .before .before .two-fill .ensures) (c .before .before .before .two-fill2 .ensures),
+      subst (λ (z : List ℕ). Two-walks (a .l) (a .m) (a .parties) (record { words = z; number = n .even }))
+          (sym (seconds .two-fill2 .ensures ∙ ap (twoFillM (a .l) 1 (n .odd)) (firsts .two-fill .ensures)))
+          (two-asks (pre .3) (started .two-start .ensures) (sifted .two-sift-all .ensures .0) .2),
     )
 
 returns : tie.Need-returns
 returns c =
-    let a = c .before .before .before .before .before .before .before .before .before .before .before .before .before .before .before .before .before .before .before .before .before .before .before .before .before .before .before .before .before .args in
-    split-two-so (a .l) (a .m) (a .parties) (c .before .before .before .before .before .before .before .before .before .before .before .before .before .before .before .before .before .before .before .before .before .before .two-sift-all .result) (a .s .now) (c .before .before .before .before .before .before .before .before .before .before .before .before .before .before .before .before .before .before .before .before .before .before .before .before .before .before .two-start .last .0) (c .before .before .before .before .before .before .before .before .before .before .before .before .before .before .before .before .before .before .before .before .before .before .two-sift-all .last .0) (c .before .before .before .before .before .before .before .before .before .before .before .before .before .before .before .before .before .before .two-fill .last .0) (c .before .before .before .before .before .before .before .before .before .before .before .before .before .before .two-fill2 .last .0) (c .before .before .before .before .before .before .before .before .before .before .two-walk .last .0) (c .before .before .before .before .before .before .two-head .last .0) (c .before .before .two-head2 .last .0) (c .before .before .before .before .before .before .before .before .before .before .two-walk .result) (c .before .before .before .before .before .before .before .before .before .before .before .before .before .before .before .before .before .before .before .before .before .before .before .before .before .before .two-start .ensures) (c .before .before .before .before .before .before .before .before .before .before .before .before .before .before .before .before .before .before .before .before .before .before .two-sift-all .ensures .0) (c .before .before .before .before .before .before .before .before .before .before .before .before .before .before .before .before .before .before .two-fill .ensures) (c .before .before .before .before .before .before .before .before .before .before .before .before .before .before .two-fill2 .ensures) (c .before .before .before .before .before .before .before .before .before .before .two-walk .ensures) (c .before .before .before .before .before .before .two-head .ensures) (c .before .before .two-head2 .ensures)
+    let second-head = c .before .before in
+    let first-head = second-head .before .before .before .before in
+    let walked = first-head .before .before .before .before in
+    let seconds = walked .before .before .before .before in
+    let firsts = seconds .before .before .before .before in
+    let sifted = firsts .before .before .before .before in
+    let started = sifted .before .before .before .before in
+    let a = started .before .before .before .args in
+    split-two-so (a .l) (a .m) (a .parties) (a .s .now) (started .two-start .ensures) (sifted .two-sift-all .ensures .0)
+    (firsts .two-fill .ensures) (seconds .two-fill2 .ensures) (walked .two-walk .ensures) (first-head .two-head .ensures)
+    (second-head .two-head2 .ensures)
 
 pub split-two-spec : {M : Type 1} → statement M
 split-two-spec =
