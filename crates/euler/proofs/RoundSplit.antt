@@ -21,13 +21,11 @@ use Rattle.euler.specs.Room.{Splits, Halves-stored}
 use Rattle.euler.specs.RoundModel.{Lies, Told, Apart-so-far, twoFillM, twoFilledM, twoWalkM, headM, splitTwoM, copiesSumM, fewSumM, two-laid}
 use Rattle.euler.specs.RoundBounds.{Two-fills, Two-walks, Two-splits}
 use Rattle.euler.proofs.Trail.{aslant}
-use Rattle.euler.proofs.Straight.{along}
+use Rattle.euler.proofs.Straight.{along, along-total, split-along}
 use Rattle.euler.proofs.RoundEnds as Ends
-use Rattle.euler.proofs.RoundTours as Tours
 use Rattle.euler.proofs.RoundFill as Fill
 use Rattle.euler.proofs.RoundHeld.{Held, held-same}
 use Rattle.euler.proofs.RoundFill.{Ground}
-use Rattle.euler.proofs.RoundSteps as Steps
 use Rattle.euler.proofs.RoundWalk as Walk
 use Rattle.euler.proofs.RoundGraph as Graphs
 use Rattle.euler.proofs.RoundBegun as Begun
@@ -144,8 +142,8 @@ module _ {s : List ℕ} {u table graph n width : ℕ} (q : Splits s u table grap
           total-map (Graphs.btw x y) pn (reverse ps),
           total-reverse (λ z. Graphs.btw x y (pn z)) ps,
           every-other-le (Graphs.btw x y) b (along (tour .cycles)),
-          Tours.along-total (Graphs.btw x y) (tour .cycles),
-          walk-done .rounded .toured .whole (Graphs.btw x y),
+          along-total (Graphs.btw x y) (tour .cycles),
+          walk-done .rounded .so-far .toured .whole (Graphs.btw x y),
           Begun.places-total q sum pairs (Graphs.btw x y),
           Graphs.parts ground pairs copies once x y m (omega arith),
           once x y,
@@ -160,9 +158,7 @@ module _ {s : List ℕ} {u table graph n width : ℕ} (q : Splits s u table grap
         rbmg-split-into-two N G
         ≡ ran (record { first-half = map pn (reverse (walk-done .firsts)); second-half = map pn (reverse (walk-done .seconds)) })
     splits-into =
-        Tours.halves-along r Ends.mate E (Ends.pr E flag es) (Ends.early E flag es) (Ends.late E flag es) (Ends.Half E flag es)
-        (Steps.ended ground flag r two) (q .side) slant (two .even) (Ends.first-is E flag es r two) N G tour refl
-        (walk-done .rounded)
+        split-along N G tour (walk-done .rounded .so-far)
         ∙ rw (behind true (walk-done .firsts) (walk-done .first-pairs), behind false (walk-done .seconds) (walk-done .second-pairs))
 
     -- ── the words ──

@@ -8,25 +8,18 @@ use mathlib.Core.Logic.{_⊎_, inl, inr}
 use native.Mathlib.Omega.{arith}
 use native.Mathlib.Decide.{ℕ-discrete}
 use lib.ListN.{length, length-reverse}
-use Rattle.words.specs.Basics.{pick, total, iterate, All, Run, ran, Ran, and-then}
-use Rattle.words.proofs.Sums.{is-eq, is-same, total-append, total-reverse, all-append}
-use Rattle.multigraph.specs.Multigraph.{Pair, Graph}
-use Rattle.euler.specs.Euler.{Taken, taken, none, first-pair, Walking, walk-step, Tour, walk-from, visited, tour-below, euler-cycles}
-use Rattle.euler.specs.Split.{Halves, add-halves, rest, every-other, add-pairs, deal, rbmg-split-into-two}
+use Rattle.words.specs.Basics.{total}
+use Rattle.words.proofs.Sums.{is-eq, is-same, total-append, total-reverse}
+use Rattle.multigraph.specs.Multigraph.{Pair}
+use Rattle.euler.specs.Euler.{Taken, taken, none, first-pair, Walking, Tour, visited}
 use Rattle.euler.proofs.Taken.{ends, Leads, leads-ends}
 use Rattle.euler.proofs.Trail.{Trail, aslant, trail-reverse}
-use Rattle.euler.proofs.Walks.{begin, Closed, walk-closes, walk-head}
-use Rattle.euler.proofs.Tours.{in-all, Toured, tour-below-tours, visited-named}
-use Rattle.euler.proofs.Straight.{along, closed-even, deal-along}
+use Rattle.euler.proofs.Walks.{Closed, walk-head}
+use Rattle.euler.proofs.Tours.{with-cycle, visited-named}
+use Rattle.euler.proofs.Straight.{along, along-total, walked, Tour-at, tour-start, tour-past, tour-closed, tour-walk}
 use Rattle.euler.proofs.Straight as Straight
 use Rattle.euler.proofs.Leading.{lead, Leaves, leaves-all, leaves-then, leaves-walk}
 use Rattle.euler.proofs.Rounds.{Two-ended, Round, round-of, meet, pair-same}
-
--- the sum over all the pairs of the cycles
-pub along-total : (f : Pair → ℕ) (cs : List (List Pair)) → total f (along cs) ≡ in-all f cs
-unfolding along total
-along-total f [] = refl
-along-total f (c ∷ cs) = total-append f c (along cs) ∙ ap (λ (x : ℕ). total f c + x) (along-total f cs)
 
 -- the pair that is taken
 lead-taken : (t : Taken) (p : Pair) → lead t ≡ p ∷ [] → (os : List Pair) × (t ≡ taken p os)
@@ -73,9 +66,7 @@ module _ (r : List Pair) (mate at : ℕ → ℕ) (pr : ℕ → Pair) (early late
 
   -- what the definition's tour has come to before party v
   pub record Rounded (v : ℕ) (t : Tour) : Type 0 where
-    pub runs : tour-below v r ≡ ran t
-    pub toured : Toured r v t
-    pub even : All (λ (c : List Pair). length c % 2 ≡ 0) (t .cycles)
+    pub so-far : Tour-at v r t
     pub leaves : Leaves (reverse r) (t .left)
 
   -- party v has no pair left, and adds nothing
@@ -99,45 +90,28 @@ module _ (r : List Pair) (mate at : ℕ → ℕ) (pr : ℕ → Pair) (early late
 
   module _ (v : ℕ) (t : Tour) (k : Rounded v t) where
     abbrev w : Walking
-    w = iterate (2 * length (t .left)) (walk-step v) (begin (t .left))
+    w = walked v (t .left)
 
     abbrev u : Tour
-    u = record { cycles = t .cycles ++ (reverse (w .written) ∷ []); left = w .left }
+    u = with-cycle t w
 
     closed : Closed v (t .left) w
-    closed = walk-closes v (t .left) (k .toured .even)
+    closed = tour-closed side r slant evens v t (k .so-far)
 
     cycle-even : length (reverse (w .written)) % 2 ≡ 0
-    cycle-even =
-        rw length-reverse (closed-even side v (t .left) w (omega (arith, slant, k .toured .whole (aslant side))) closed)
+    cycle-even = Straight.cycle-even side r slant evens v t (k .so-far)
 
     -- the walk from a party not visited
     walks-on : visited v (t .cycles) ≡ false → Rounded (suc v) u
-    unfolding tour-below walk-from
     walks-on e =
-        let walks : walk-from v t ≡ ran u = rw (closed .empty, closed .stuck) in
-        let runs : tour-below (suc v) r ≡ ran u =
-        ap (λ (x : Run Tour). and-then x (λ u. pick (visited v (u .cycles)) (ran u) (walk-from v u))) (k .runs) ∙ rw e walks in
         record {
-          runs = runs;
-          toured = subst (Ran (Toured r (suc v))) runs (tour-below-tours side r slant evens (suc v));
-          even =
-              all-append (λ (c : List Pair). length c % 2 ≡ 0) (t .cycles) (reverse (w .written) ∷ []) (k .even) (cycle-even, tt);
+          so-far = tour-walk side r slant evens v t (k .so-far) e;
           leaves = leaves-then (reverse r) (t .left) (w .left) (k .leaves) (leaves-walk v (2 * length (t .left)) (t .left));
         }
 
     -- a party visited
     stays : visited v (t .cycles) ≡ true → Rounded (suc v) t
-    unfolding tour-below
-    stays e =
-        let runs : tour-below (suc v) r ≡ ran t =
-        ap (λ (x : Run Tour). and-then x (λ u. pick (visited v (u .cycles)) (ran u) (walk-from v u))) (k .runs) ∙ rw e in
-        record {
-          runs = runs;
-          toured = subst (Ran (Toured r (suc v))) runs (tour-below-tours side r slant evens (suc v));
-          even = k .even;
-          leaves = k .leaves;
-        }
+    stays e = record { so-far = tour-past side r slant evens v t (k .so-far) e; leaves = k .leaves }
 
     along-u : along (u .cycles) ≡ along (t .cycles) ++ reverse (w .written)
     along-u = Straight.along-more (t .cycles) (reverse (w .written))
@@ -157,12 +131,12 @@ module _ (r : List Pair) (mate at : ℕ → ℕ) (pr : ℕ → Pair) (early late
     unfolding total
     round-more two =
         let p : Pair = pr (early v) in
-        let all : total (ends v) r ≡ 2 = omega (arith, h .few v, k .toured .whole (ends v)) in
+        let all : total (ends v) r ≡ 2 = omega (arith, h .few v, k .so-far .toured .whole (ends v)) in
         let first : (os : List Pair) × (first-pair v (t .left) ≡ taken p os) =
         lead-taken (first-pair v (t .left)) p
         (k .leaves .same v (omega (arith, total-reverse (ends v) r)) ∙ order v (omega arith)) in
         let last : (before : List Pair) × (w .written ≡ p ∷ before) =
-        walk-head v (t .left) p (first .0) (k .toured .even) two (first .1) in
+        walk-head v (t .left) p (first .0) (k .so-far .toured .even) two (first .1) in
         let as-cycle : reverse (w .written) ≡ reverse (last .0) ++ (p ∷ []) =
         ap reverse (last .1) ∙ reverse-cons p (last .0) in
         let goes : Round-of v (reverse (last .0) ++ (p ∷ [])) =
@@ -176,7 +150,7 @@ module _ (r : List Pair) (mate at : ℕ → ℕ) (pr : ℕ → Pair) (early late
           total-append f (w .left) (along (t .cycles)),
           along-total f (t .cycles),
           closed .whole f,
-          k .toured .whole f,
+          k .so-far .toured .whole f,
         ))
         (rw (← as-cycle) cycle-even) in
         record {
@@ -194,40 +168,16 @@ module _ (r : List Pair) (mate at : ℕ → ℕ) (pr : ℕ → Pair) (early late
     where
       go : (b : Bool) → visited v (t .cycles) ≡ b → Turned v t
       go true e =
-          let z : total (ends v) (t .left) ≡ 0 = k .toured .spent v (visited-named v (t .cycles) e) in
+          let z : total (ends v) (t .left) ≡ 0 = k .so-far .toured .spent v (visited-named v (t .cycles) e) in
           record { after = t; rounded = stays v t k e; by = inl (z, record { along-same = refl; left-same = λ f. refl }) }
       go false e =
           elim (ℕ-discrete (total (ends v) (t .left)) 0) [
             | yes z ↦ record { after = u v t k; rounded = walks-on v t k e; by = inl (z, nothing v t k z) }
             | no n ↦
-                let two : total (ends v) (t .left) ≡ 2 = omega (arith, h .few v, k .toured .whole (ends v), k .toured .even v) in
+                let two : total (ends v) (t .left) ≡ 2 = omega (arith, h .few v, k .so-far .toured .whole (ends v), k .so-far .toured .even v) in
                 record { after = u v t k; rounded = walks-on v t k e; by = inr (two, round-more v t k two) }
           ]
 
   -- before the first party
   pub begun : Rounded 0 (record { cycles = []; left = reverse r })
-  unfolding tour-below
-  begun =
-      record {
-        runs = refl;
-        toured = tour-below-tours side r slant evens 0;
-        even = tt;
-        leaves = leaves-all (reverse r);
-      }
-
-  -- the halves of a graph whose rest is r
-  pub halves-along :
-      (N : ℕ) (g : Graph) (t : Tour) → r ≡ rest g → Rounded N t →
-      rbmg-split-into-two N g
-      ≡ ran (record {
-        first-half = add-pairs (add-halves [] g) (every-other true (along (t .cycles)));
-        second-half = add-pairs (add-halves [] g) (every-other false (along (t .cycles)));
-      })
-  unfolding rbmg-split-into-two euler-cycles
-  halves-along N g t e k =
-      ap
-      (λ (x : Run Tour).
-      and-then (and-then x (λ t. ran (t .cycles)))
-      (λ cs. ran (deal (record { first-half = add-halves [] g; second-half = add-halves [] g }) cs)))
-      (ap (tour-below N) (sym e) ∙ k .runs)
-      ∙ ap (λ (x : Halves). ran x) (deal-along (record { first-half = add-halves [] g; second-half = add-halves [] g }) (t .cycles) (k .even))
+  begun = record { so-far = tour-start side r slant evens; leaves = leaves-all (reverse r) }

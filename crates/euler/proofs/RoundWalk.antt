@@ -20,7 +20,7 @@ use Rattle.euler.specs.RoundModel.{Told, twoPairM, twoRoundM, twoFromM, 
 use Rattle.euler.specs.RoundBounds.{Two-rounds, Two-froms, Two-walks}
 use Rattle.euler.proofs.Taken.{ends}
 use Rattle.euler.proofs.Trail.{aslant}
-use Rattle.euler.proofs.Straight.{along, every-other-even}
+use Rattle.euler.proofs.Straight.{along, along-total, every-other-even}
 use Rattle.euler.proofs.Rounds.{trace}
 use Rattle.euler.proofs.RoundEnds as Ends
 use Rattle.euler.proofs.RoundTours as Tours
@@ -171,8 +171,8 @@ module _ {l : Two} {N m k u : ℕ} {s₀ : List ℕ} (g : Ground l N m k u s₀)
     few-along t v h =
         omega (
           arith,
-          h .toured .whole (λ p. 1),
-          Tours.along-total (λ p. 1) (t .cycles),
+          h .so-far .toured .whole (λ p. 1),
+          along-total (λ p. 1) (t .cycles),
           total-const 1 (along (t .cycles)),
           total-const 1 r,
           ap length (two .places),
@@ -270,7 +270,7 @@ module _ {l : Two} {N m k u : ℕ} {s₀ : List ℕ} (g : Ground l N m k u s₀)
         let n : ℕ = d .0 in
         let y : ℕ = late v in
         let hs : List ℕ = trace next (double (suc n)) y in
-        let some : 0 < total (ends v) r = omega (arith, h .rounded .toured .whole (ends v)) in
+        let some : 0 < total (ends v) r = omega (arith, h .rounded .so-far .toured .whole (ends v)) in
         let twice : double (suc n) ≡ 2 * suc n = double-is (suc n) in
         let grown : length (along (t' .cycles)) ≡ length (along (t .cycles)) + length (o .cycle) =
         ap length (o .along-more) ∙ length-append (along (t .cycles)) (o .cycle) in
@@ -319,7 +319,7 @@ module _ {l : Two} {N m k u : ℕ} {s₀ : List ℕ} (g : Ground l N m k u s₀)
                     ];
                 alive = λ x c e.
                     let full : total (ends x) (t .left) ≡ 2 =
-                    omega (arith, o .left-less (ends x), h .rounded .toured .whole (ends x), two .few x) in
+                    omega (arith, o .left-less (ends x), h .rounded .so-far .toured .whole (ends x), two .few x) in
                     Steps.wipe-miss g flag r hs (h .marks) x (omega (arith, o .left-less (ends x), seen x)) ∙ h .alive x c full;
                 first-count = dealt-count true (suc n) hs (h .firsts) long ∙ omega (arith, h .first-count, q .number);
                 second-count = dealt-count false (suc n) hs (h .seconds) long ∙ omega (arith, h .second-count, q .number);

@@ -8,22 +8,20 @@ use native.Mathlib.Decide.{decLt}
 use native.Mathlib.Nat.{mul-le-mul-left, mul-le-mul-right}
 use lib.Dec.{leb}
 use lib.ListN.{length}
-use Rattle.words.specs.Basics.{pick, total, count, Run, ran, and-then}
+use Rattle.words.specs.Basics.{pick, total, count, ran}
 use Rattle.words.specs.Words.{word}
-use Rattle.words.proofs.Sums.{total-reverse, total-append}
+use Rattle.words.proofs.Sums.{total-reverse}
 use Rattle.words.proofs.Frames.{keeps-less, keeps-trans}
 use Rattle.multigraph.specs.Multigraph.{Pair, Graph, joins}
 use Rattle.multigraph.specs.Regular.{Regular}
 use Rattle.multigraph.specs.Stored.{entries, graph-at}
 use Rattle.euler.specs.declared.Rings.{Rings}
-use Rattle.euler.specs.Euler.{Tour, euler-cycles}
-use Rattle.euler.specs.Split.{Halves, add-halves, rest, every-other, add-pairs, deal, rbmg-split-into-two}
+use Rattle.euler.specs.Split.{add-halves, rest, every-other, add-pairs, rbmg-split-into-two}
 use Rattle.euler.specs.Room.{Splits, Halves-stored}
 use Rattle.euler.specs.Bounds.{Walks, Split-fits}
 use Rattle.euler.specs.Model.{Fits, Stage, copiesM, fillM, walked, halfM, laid, splitM}
 use Rattle.euler.proofs.Taken.{ends}
-use Rattle.euler.proofs.Tours.{in-all}
-use Rattle.euler.proofs.Straight.{along, Same-tour, same-tour, deal-along}
+use Rattle.euler.proofs.Straight.{along, along-total, Same-tour, same-tour, split-along}
 use Rattle.euler.proofs.Places.{keep}
 use Rattle.euler.proofs.Bases.{Laid, first-at, second-at}
 use Rattle.euler.proofs.Filling.{filled, fills-on}
@@ -35,13 +33,6 @@ use Rattle.euler.proofs.StoredGraphs.{Only, Same-entry, entries-same}
 use Rattle.euler.proofs.Pushes.{Ready}
 use Rattle.euler.proofs.HalfWords.{Half-done, half-done, half-fits}
 use Rattle.euler.proofs.Grounds.{few-pairs, joins-apart, ends-fit, rest-odd, rest-slant, rest-evens, places-once, upto-entries}
-
--- ── the cycles' pairs, all in a row ──
-
-along-total : (f : Pair → ℕ) (cs : List (List Pair)) → total f (along cs) ≡ in-all f cs
-unfolding along total
-along-total f [] = refl
-along-total f (c ∷ cs) = total-append f c (along cs) ∙ ap (λ (x : ℕ). total f c + x) (along-total f cs)
 
 module _ (s : List ℕ) (u ends g n width : ℕ) (q : Splits s u ends g n width) (fit : (i : ℕ) → word s i < 4294967296) where
   abbrev N : ℕ
@@ -143,7 +134,7 @@ module _ (s : List ℕ) (u ends g n width : ℕ) (q : Splits s u ends g n width)
           total-reverse f (map (one C F S flag) ws),
           ap (total f) along-is,
           along-total f (tours .tour .cycles),
-          tours .toured .whole f,
+          tours .so-far .toured .whole f,
         )
 
     once : (i : ℕ) → count i ws ≤ 1
@@ -174,16 +165,7 @@ module _ (s : List ℕ) (u ends g n width : ℕ) (q : Splits s u ends g n width)
           first-half = half-of C F S flag m apart (dealt 0 ws);
           second-half = half-of C F S flag m apart (dealt 1 ws);
         })
-    unfolding rbmg-split-into-two euler-cycles
-    splits-into =
-        ap
-        (λ (x : Run Tour).
-        and-then (and-then x (λ t. ran (t .cycles)))
-        (λ cs. ran (deal (record { first-half = add-halves [] G; second-half = add-halves [] G }) cs)))
-        (tours .runs)
-        ∙ ap (λ (x : Halves). ran x)
-        (deal-along (record { first-half = add-halves [] G; second-half = add-halves [] G }) (tours .tour .cycles) (tours .even)
-        ∙ rw (dealt-half true, dealt-half false))
+    splits-into = split-along N G (tours .tour) (tours .so-far) ∙ rw (dealt-half true, dealt-half false)
 
     -- ── the words ──
 

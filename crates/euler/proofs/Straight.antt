@@ -9,15 +9,15 @@ use native.Mathlib.Omega.{arith}
 use native.Mathlib.Nat.{add-comm}
 use lib.ListN.{length, length-reverse}
 use Rattle.words.specs.Basics.{pick, total, iterate, All, Run, ran, Ran, and-then}
-use Rattle.words.proofs.Sums.{is-same, all-append}
+use Rattle.words.proofs.Sums.{is-same, total-append, all-append}
 use Rattle.words.proofs.Runs.{iterate-add, iterate-rest}
 use Rattle.multigraph.specs.Multigraph.{Pair, Graph}
-use Rattle.euler.specs.Euler.{Taken, taken, none, first-pair, Step, Walking, standing, follow, walk-step, Tour, walk-from, visited, tour-below}
-use Rattle.euler.specs.Split.{Halves, every-other, evens, odds, add-pairs, deal}
+use Rattle.euler.specs.Euler.{Taken, taken, none, first-pair, Step, Walking, standing, follow, walk-step, Tour, walk-from, visited, tour-below, euler-cycles}
+use Rattle.euler.specs.Split.{Halves, add-halves, rest, every-other, evens, odds, add-pairs, deal, rbmg-split-into-two}
 use Rattle.euler.proofs.Taken.{ends, Found, first-pair-finds, leads-ends}
 use Rattle.euler.proofs.Trail.{Trail, aslant, leads-across}
 use Rattle.euler.proofs.Walks.{begin, Closed, walk-closes}
-use Rattle.euler.proofs.Tours.{Toured, tour-below-tours, visited-named}
+use Rattle.euler.proofs.Tours.{in-all, with-cycle, Toured, tour-below-tours, visited-named}
 
 -- ── the walk with something written before ──
 
@@ -58,15 +58,25 @@ unfolding along
 along-more [] c = append-nil c
 along-more (d ∷ cs) c = ap (λ (l : List Pair). d ++ l) (along-more cs c) ∙ sym (append-assoc d (along cs) c)
 
--- What the straight walk has come to before party v, against the definition's tour.
+-- the sum over all the pairs of the cycles
+pub along-total : (f : Pair → ℕ) (cs : List (List Pair)) → total f (along cs) ≡ in-all f cs
+unfolding along total
+along-total f [] = refl
+along-total f (c ∷ cs) = total-append f c (along cs) ∙ ap (λ (x : ℕ). total f c + x) (along-total f cs)
+
+-- What the definition's tour has come to before party v; every cycle is even.
+pub record Tour-at (v : ℕ) (r : List Pair) (t : Tour) : Type 0 where
+  pub runs : tour-below v r ≡ ran t
+  pub toured : Toured r v t
+  pub even : All (λ (c : List Pair). length c % 2 ≡ 0) (t .cycles)
+
+-- What the straight walk has come to before party v, against that tour.
 pub record Same-tour (v : ℕ) (r : List Pair) : Type 0 where
   pub tour : Tour
-  pub runs : tour-below v r ≡ ran tour
-  pub toured : Toured r v tour
+  pub so-far : Tour-at v r tour
   pub bare : straight v r .stack ≡ []
   pub left : straight v r .left ≡ tour .left
   pub written : reverse (straight v r .written) ≡ along (tour .cycles)
-  pub even : All (λ (c : List Pair). length c % 2 ≡ 0) (tour .cycles)
 
 -- ── the cycles are even ──
 
@@ -107,7 +117,7 @@ ended-rests v w e n = go (w .stack) e
     go (x ∷ st) e = let z : _≡_ {A = ℕ} 0 1 = cc in absurd (omega arith)
 
 -- the walk from v over the pairs r, whole
-abbrev walked : ℕ → List Pair → Walking
+abbrev pub walked : ℕ → List Pair → Walking
 walked v r = iterate (2 * length r) (walk-step v) (begin r)
 
 straight-more :
@@ -123,82 +133,103 @@ straight-more v r left e l =
     whole w e = ap (λ (st : List Step). record { stack = st; left = w .left; written = w .written }) e
 
 module _ (side : ℕ → ℕ) (r : List Pair) (slant : total (aslant side) r ≡ 0) (evens-all : (v : ℕ) → total (ends v) r % 2 ≡ 0) where
+  -- ── the definition's tour ──
+
   tour-is : (v : ℕ) (t : Tour) → tour-below v r ≡ ran t → Toured r v t
   tour-is v t e = subst (Ran (Toured r v)) e (tour-below-tours side r slant evens-all v)
 
-  -- a visited party
-  same-skip : (v : ℕ) (h : Same-tour v r) → visited v (h .tour .cycles) ≡ true → Same-tour (suc v) r
+  pub tour-start : Tour-at 0 r (record { cycles = []; left = reverse r })
   unfolding tour-below
-  same-skip v h e =
+  tour-start = record { runs = refl; toured = tour-is 0 (record { cycles = []; left = reverse r }) refl; even = tt }
+
+  -- a visited party
+  pub tour-past : (v : ℕ) (t : Tour) → Tour-at v r t → visited v (t .cycles) ≡ true → Tour-at (suc v) r t
+  unfolding tour-below
+  tour-past v t h e =
+      let runs : tour-below (suc v) r ≡ ran t =
+      ap (λ (x : Run Tour). and-then x (λ u. pick (visited v (u .cycles)) (ran u) (walk-from v u))) (h .runs) ∙ rw e in
+      record { runs = runs; toured = tour-is (suc v) t runs; even = h .even }
+
+  -- the walk from any other
+  pub tour-closed : (v : ℕ) (t : Tour) → Tour-at v r t → Closed v (t .left) (walked v (t .left))
+  tour-closed v t h = walk-closes v (t .left) (h .toured .even)
+
+  pub cycle-even : (v : ℕ) (t : Tour) → Tour-at v r t → length (reverse (walked v (t .left) .written)) % 2 ≡ 0
+  cycle-even v t h =
+      rw length-reverse
+      (closed-even side v (t .left) (walked v (t .left)) (omega (arith, h .toured .whole (aslant side))) (tour-closed v t h))
+
+  pub tour-walk : (v : ℕ) (t : Tour) → Tour-at v r t → visited v (t .cycles) ≡ false → Tour-at (suc v) r (with-cycle t (walked v (t .left)))
+  unfolding tour-below walk-from
+  tour-walk v t h e =
+      let w : Walking = walked v (t .left) in
+      let c : Closed v (t .left) w = tour-closed v t h in
+      let walks : walk-from v t ≡ ran (with-cycle t w) = rw (c .empty, c .stuck) in
+      let runs : tour-below (suc v) r ≡ ran (with-cycle t w) =
+      ap (λ (x : Run Tour). and-then x (λ u. pick (visited v (u .cycles)) (ran u) (walk-from v u))) (h .runs) ∙ rw e walks in
+      record {
+        runs = runs;
+        toured = tour-is (suc v) (with-cycle t w) runs;
+        even =
+            all-append (λ (c : List Pair). length c % 2 ≡ 0) (t .cycles) (reverse (w .written) ∷ []) (h .even) (cycle-even v t h, tt);
+      }
+
+  -- ── the straight walk beside it ──
+
+  same-past : (v : ℕ) (h : Same-tour v r) → visited v (h .tour .cycles) ≡ true → Same-tour (suc v) r
+  same-past v h e =
       let t : Tour = h .tour in
-      let none-left : first-pair v (t .left) ≡ none = none-there v (t .left) (h .toured .spent v (visited-named v (t .cycles) e)) in
+      let none-left : first-pair v (t .left) ≡ none = none-there v (t .left) (h .so-far .toured .spent v (visited-named v (t .cycles) e)) in
       let still : walked v (t .left) ≡ begin (t .left) =
       iterate-rest (2 * length (t .left)) (walk-step v) (begin (t .left)) (ended-rests v (begin (t .left)) refl none-left) in
       let more : straight (suc v) r ≡ onto (straight v r .written) (begin (t .left)) =
       straight-more v r (t .left) (h .bare) (h .left) ∙ ap (onto (straight v r .written)) still in
-      let runs : tour-below (suc v) r ≡ ran t =
-      ap (λ (x : Run Tour). and-then x (λ u. pick (visited v (u .cycles)) (ran u) (walk-from v u))) (h .runs) ∙ rw e in
       record {
         tour = t;
-        runs = runs;
-        toured = tour-is (suc v) t runs;
+        so-far = tour-past v t (h .so-far) e;
         bare = ap (λ (w : Walking). w .stack) more;
         left = ap (λ (w : Walking). w .left) more;
         written = ap (λ (w : Walking). reverse (w .written)) more ∙ h .written;
-        even = h .even;
       }
 
-  -- a party not visited
   same-walk : (v : ℕ) (h : Same-tour v r) → visited v (h .tour .cycles) ≡ false → Same-tour (suc v) r
-  unfolding tour-below walk-from
   same-walk v h e =
       let t : Tour = h .tour in
       let w : Walking = walked v (t .left) in
-      let c : Closed v (t .left) w = walk-closes v (t .left) (h .toured .even) in
-      let u : Tour = record { cycles = t .cycles ++ (reverse (w .written) ∷ []); left = w .left } in
       let more : straight (suc v) r ≡ onto (straight v r .written) w = straight-more v r (t .left) (h .bare) (h .left) in
-      let walks : walk-from v t ≡ ran u = rw (c .empty, c .stuck) in
-      let runs : tour-below (suc v) r ≡ ran u =
-      ap (λ (x : Run Tour). and-then x (λ u. pick (visited v (u .cycles)) (ran u) (walk-from v u))) (h .runs) ∙ rw e walks in
       record {
-        tour = u;
-        runs = runs;
-        toured = tour-is (suc v) u runs;
-        bare = ap (λ (x : Walking). x .stack) more ∙ c .empty;
+        tour = with-cycle t w;
+        so-far = tour-walk v t (h .so-far) e;
+        bare = ap (λ (x : Walking). x .stack) more ∙ tour-closed v t (h .so-far) .empty;
         left = ap (λ (x : Walking). x .left) more;
         written =
             ap (λ (x : Walking). reverse (x .written)) more
             ∙ reverse-append (w .written) (straight v r .written)
             ∙ ap (λ (l : List Pair). l ++ reverse (w .written)) (h .written)
             ∙ sym (along-more (t .cycles) (reverse (w .written)));
-        even =
-            all-append (λ (c : List Pair). length c % 2 ≡ 0) (t .cycles) (reverse (w .written) ∷ []) (h .even)
-            (rw length-reverse (closed-even side v (t .left) w (omega (arith, h .toured .whole (aslant side))) c), tt);
       }
 
   pub same-tour : (v : ℕ) → Same-tour v r
-  unfolding tour-below straight along
+  unfolding straight along
   same-tour zero =
       record {
         tour = record { cycles = []; left = reverse r };
-        runs = refl;
-        toured = tour-is 0 (record { cycles = []; left = reverse r }) refl;
+        so-far = tour-start;
         bare = refl;
         left = refl;
         written = refl;
-        even = tt;
       }
   same-tour (suc v) = go (same-tour v) (visited v (same-tour v .tour .cycles)) refl
     where
       go : (h : Same-tour v r) (b : Bool) → visited v (h .tour .cycles) ≡ b → Same-tour (suc v) r
-      go h true e = same-skip v h e
+      go h true e = same-past v h e
       go h false e = same-walk v h e
 
   -- after party v's walk its stack is empty and no pair is left there
   pub straight-ended : (v : ℕ) → (straight (suc v) r .stack ≡ []) × (first-pair v (straight (suc v) r .left) ≡ none)
   straight-ended v =
       let h : Same-tour (suc v) r = same-tour (suc v) in
-      (h .bare, rw (h .left) (none-there v (h .tour .left) (h .toured .below v (omega arith))))
+      (h .bare, rw (h .left) (none-there v (h .tour .left) (h .so-far .toured .below v (omega arith))))
 
 -- ── two ends of one walk ──
 
@@ -230,7 +261,7 @@ add-pairs-append h [] ys = refl
 add-pairs-append h (x ∷ xs) ys = add-pairs-append _ xs ys
 
 -- where all cycles are even, dealing goes on along all their pairs
-pub deal-along :
+deal-along :
     (h : Halves) (cs : List (List Pair)) → All (λ (c : List Pair). length c % 2 ≡ 0) cs →
     deal h cs
     ≡ record {
@@ -242,3 +273,21 @@ deal-along h [] e = refl
 deal-along h (c ∷ cs) e =
     deal-along (record { first-half = add-pairs (h .first-half) (evens c); second-half = add-pairs (h .second-half) (odds c) }) cs (e .1)
     ∙ rw (every-other-even true c (along cs) (e .0), every-other-even false c (along cs) (e .0), add-pairs-append, add-pairs-append)
+
+-- The halves of a graph, dealt along all the pairs of its cycles.
+pub split-along :
+    (N : ℕ) (g : Graph) (t : Tour) → Tour-at N (rest g) t →
+    rbmg-split-into-two N g
+    ≡ ran (record {
+      first-half = add-pairs (add-halves [] g) (evens (along (t .cycles)));
+      second-half = add-pairs (add-halves [] g) (odds (along (t .cycles)));
+    })
+unfolding rbmg-split-into-two euler-cycles
+split-along N g t h =
+    ap
+    (λ (x : Run Tour).
+    and-then (and-then x (λ t. ran (t .cycles)))
+    (λ cs. ran (deal (record { first-half = add-halves [] g; second-half = add-halves [] g }) cs)))
+    (h .runs)
+    ∙ ap (λ (x : Halves). ran x)
+    (deal-along (record { first-half = add-halves [] g; second-half = add-halves [] g }) (t .cycles) (h .even))

@@ -64,6 +64,10 @@ unfolding total
 in-all-more f cs written =
     total-append (λ (c : List Pair). total f c) cs (reverse written ∷ []) ∙ omega (arith, total-reverse f written)
 
+-- a tour with the cycle of a finished walk
+abbrev pub with-cycle : Tour → Walking → Tour
+with-cycle t w = record { cycles = t .cycles ++ (reverse (w .written) ∷ []); left = w .left }
+
 -- the cycle of a closed walk is balanced
 cycle-balanced :
     (side : ℕ → ℕ) (n : ℕ) (r : List Pair) (w : Walking) → total (aslant side) r ≡ 0 → Closed n r w → (v : ℕ) →
@@ -75,7 +79,7 @@ cycle-balanced side n r w z c =
 -- a closed walk from n is one more cycle
 one-more :
     (side : ℕ → ℕ) (r : List Pair) (n : ℕ) (t : Tour) (w : Walking) → total (aslant side) r ≡ 0 → Toured r n t →
-    Closed n (t .left) w → Toured r (suc n) (record { cycles = t .cycles ++ (reverse (w .written) ∷ []); left = w .left })
+    Closed n (t .left) w → Toured r (suc n) (with-cycle t w)
 one-more side r n t w z h c =
     record {
       whole = λ f. omega (arith, in-all-more f (t .cycles) (w .written), h .whole f, c .whole f);
