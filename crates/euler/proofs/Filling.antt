@@ -22,7 +22,9 @@ use Rattle.euler.proofs.Nodes.{Odd, odds, odds-below, odds-falling, odd
 use Rattle.euler.proofs.Bases.{Laid, P, Edge, edge-is, end-below, number-kept, end-kept, side-of}
 use Rattle.euler.proofs.Asides.{Aside, same-lead}
 use Rattle.euler.proofs.Ringed.{Ringed, ringed-same, ringed-more, ringed-appends, started}
-use Rattle.euler.proofs.Sifting.{Noted, noted-same, Sifted, sifted, sifts-on}
+use Rattle.euler.proofs.Sifting.{Sifted, sifted, sifts-on}
+use Rattle.euler.proofs.Notes.{Noted, noted-same}
+use Rattle.euler.proofs.Columns.{slot}
 
 module _ {l : Rings} {N m k : ℕ} {s₀ : List ℕ} (g : Laid l N m k s₀) (flag : ℕ → ℕ) where
   abbrev C : ℕ → ℕ
@@ -200,7 +202,7 @@ module _ {l : Rings} {N m k : ℕ} {s₀ : List ℕ} (g : Laid l N m k s₀) (fl
 
   sides :
       (d : Bool) (pre : ℕ → List ℕ) → ((i v : ℕ) → All (λ (y : ℕ). edge d i ≡ y → ⊥) (pre v)) → (xs ys s : List ℕ) (b : ℕ) →
-      b ≤ m → length xs ≤ m → All (λ (y : ℕ). b ≤ y) ys → All (λ (x : ℕ). x < b) xs → Falling xs → Noted l s xs →
+      b ≤ m → length xs ≤ m → All (λ (y : ℕ). b ≤ y) ys → All (λ (x : ℕ). x < b) xs → Falling xs → Noted (slot true l) s xs →
       Side d pre ys s → Side-filled d pre (ys ++ xs) (length xs) s
   unfolding endsM
   sides d pre fresh [] ys s b bm few done left fall n h =
@@ -220,7 +222,7 @@ module _ {l : Rings} {N m k : ℕ} {s₀ : List ℕ} (g : Laid l N m k s₀) (fl
       let r : Side-filled d pre ((ys ++ (x ∷ [])) ++ xs) j t =
       sides d pre fresh xs (ys ++ (x ∷ [])) t x (omega arith) (omega arith)
       (all-append (λ y. x ≤ y) ys (x ∷ []) (all-map (λ y c. omega (arith, left .0)) ys done) (omega arith, tt)) (fall .0) (fall .1)
-      (noted-same l s t xs (λ i c. q .1 .high (l .col + 2 * i) (omega (arith, g .column))) (n .1)) (q .0) in
+      (noted-same (slot true l) s t xs (λ i c. q .1 .high (l .col + 2 * i) (omega (arith, g .column))) (n .1)) (q .0) in
       record {
         fills = (rings-end d (λ v. pre v ++ part d v ys) s j x (n .0) (omega (arith, g .entries)) xm (h .rung), r .fills);
         side = subst (λ (zs : List ℕ). Side d pre zs (endsM l (side-of d) j t)) (append-assoc ys (x ∷ []) xs) (r .side);
@@ -265,7 +267,7 @@ module _ {l : Rings} {N m k : ℕ} {s₀ : List ℕ} (g : Laid l N m k s₀) (fl
 
   -- one side of all odd entries
   all-places :
-      (d : Bool) (pre : ℕ → List ℕ) → ((i v : ℕ) → All (λ (y : ℕ). edge d i ≡ y → ⊥) (pre v)) → (s : List ℕ) → Noted l s places →
+      (d : Bool) (pre : ℕ → List ℕ) → ((i v : ℕ) → All (λ (y : ℕ). edge d i ≡ y → ⊥) (pre v)) → (s : List ℕ) → Noted (slot true l) s places →
       Rung pre s → Side-filled d pre places (length places) s
   all-places d pre fresh s n h =
       sides d pre fresh places [] s m (omega arith) (odds-length C m) tt
@@ -283,7 +285,7 @@ module _ {l : Rings} {N m k : ℕ} {s₀ : List ℕ} (g : Laid l N m k s₀) (fl
   seconds-filled : Side-filled false (λ v. part true v places) places (length places) half-filled
   seconds-filled =
       all-places false (λ v. part true v places) (λ i v. apart i (keep (λ j. eqb v (end Q true j)) places)) half-filled
-      (noted-same l (noted-words .words) half-filled places
+      (noted-same (slot true l) (noted-words .words) half-filled places
       (λ j c. firsts-filled .beside .high (l .col + 2 * j) (omega (arith, g .column))) (noted-is .noted))
       (firsts-filled .side .rung)
     where

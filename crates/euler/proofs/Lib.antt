@@ -12,6 +12,7 @@ pub mod Chains
 pub mod Nodes
 pub mod Bases
 pub mod Asides
+pub mod Notes
 pub mod Ringed
 pub mod Sifting
 pub mod Filling

@@ -5,6 +5,7 @@ use mathlib.Core.Bool.{Bool, true, false}
 use mathlib.Core.List.{List, [], _∷_, _++_, map, reverse, reverseAux, append-nil}
 use native.Mathlib.Omega.{arith}
 use native.Mathlib.Nat.{mul-le-mul-left}
+use native.Mathlib.Decide.{ℕ-discrete}
 use lib.Dec.{eqb, leb}
 use lib.ListN.{length}
 use Rattle.words.specs.Basics.{pick, total, All}
@@ -94,16 +95,18 @@ module _ {s : List ℕ} {u table graph n width : ℕ} (q : Splits s u table grap
         entries = omega (arith, q .pairs, q .some);
         graph = omega (arith, q .graph);
         table = q .table;
-        firsts = λ i b. at i b .first-below;
-        seconds = λ i b.
-            subst (λ (x : ℕ). word s x < N) (omega arith) (at i b .second-below);
+        ends = λ i side b c.
+            elim (ℕ-discrete side 0) [
+              | yes z ↦ subst (λ (x : ℕ). word s x < N) (omega arith) (at i b .first-below)
+              | no z ↦ subst (λ (x : ℕ). word s x < N) (omega arith) (at i b .second-below)
+            ];
       }
 
   abbrev pub es : List ℕ
-  es = Fill.odds-of ground m
+  es = Fill.odds-of s graph m
 
   abbrev pub ps : List ℕ
-  ps = Fill.evens-of ground m
+  ps = Fill.evens-of s graph m
 
   abbrev pub E : ℕ → ℕ
   E y = word s (table + y)
@@ -122,25 +125,8 @@ module _ {s : List ℕ} {u table graph n width : ℕ} (q : Splits s u table grap
   pub sift : Fill.Sift-done ground s₁ m sifted
   sift = Fill.sift-done ground s₁ (start .keeps) m (omega arith)
 
-  fine-first : All (λ (e : ℕ). Fill.Fine ground (2 * e + 0)) es
-  fine-first =
-      all-map
-      (λ e i.
-      let z : 2 * e + 0 ≡ 2 * word s (graph + 2 + 2 * i .place) = omega (arith, i .is-there) in
-      record {
-        table = omega (arith, q .table (i .place) (i .below));
-        party = rw z (ground .firsts (i .place) (i .below));
-      }) es (Fill.odds-nums ground m (omega arith))
-
-  fine-second : All (λ (e : ℕ). Fill.Fine ground (2 * e + 1)) es
-  fine-second =
-      all-map
-      (λ e i.
-      let z : 2 * e + 1 ≡ 2 * word s (graph + 2 + 2 * i .place) + 1 = omega (arith, i .is-there) in
-      record {
-        table = omega (arith, q .table (i .place) (i .below));
-        party = rw z (ground .seconds (i .place) (i .below));
-      }) es (Fill.odds-nums ground m (omega arith))
+  fine : (side : ℕ) → side < 2 → All (λ (e : ℕ). Fill.Fine ground (2 * e + side)) es
+  fine side b = all-map (λ e i. Fill.fine ground e side b i) es (Fill.those-nums ground (λ c. eqb (c % 2) 1) m (omega arith))
 
   begun : Fill.Filled ground (sifted .words) [] (sifted .words)
   unfolding keep
@@ -154,7 +140,7 @@ module _ {s : List ℕ} {u table graph n width : ℕ} (q : Splits s u table grap
       }
 
   few-odds : length es ≤ k
-  few-odds = omega (arith, Fill.odds-length ground m, ground .entries)
+  few-odds = omega (arith, Fill.those-length (λ c. eqb (c % 2) 1) s graph m, ground .entries)
 
   abbrev pub done₁ : List ℕ
   done₁ = reverseAux (map (λ e. 2 * e + 0) es) []
@@ -169,10 +155,10 @@ module _ {s : List ℕ} {u table graph n width : ℕ} (q : Splits s u table grap
   s₄ = twoFillM l 1 (length es) s₃
 
   pub filled-first : Two-fills l 0 (length es) (sifted .words) × Fill.Filled ground (sifted .words) done₁ s₃
-  filled-first = Fill.fill-done ground (sifted .words) 0 (sift .keeps) es fine-first (sift .noted) few-odds [] (sifted .words) begun
+  filled-first = Fill.fill-done ground (sifted .words) 0 (sift .keeps) es (fine 0 (omega arith)) (sift .noted) few-odds [] (sifted .words) begun
 
   pub filled : Two-fills l 1 (length es) s₃ × Fill.Filled ground (sifted .words) done s₄
-  filled = Fill.fill-done ground (sifted .words) 1 (sift .keeps) es fine-second (sift .noted) few-odds done₁ s₃ (filled-first .1)
+  filled = Fill.fill-done ground (sifted .words) 1 (sift .keeps) es (fine 1 (omega arith)) (sift .noted) few-odds done₁ s₃ (filled-first .1)
 
   -- ── the rounds ──
 
@@ -236,20 +222,20 @@ module _ {s : List ℕ} {u table graph n width : ℕ} (q : Splits s u table grap
     mark-none : (v : ℕ) → v < N → total (ends v) r ≡ 0 → word s₄ (l .b + 2 * v) ≡ 0
     mark-none v b z =
         filled .1 .marks v b
-        ∙ ap (Fill.top1 ground)
+        ∙ ap Fill.last-plus-one
         (own-done v ∙ ap reverse (empty-list (Ends.own E flag es v) (Ends.own-length E flag es r two v ∙ z)))
 
     mark-late : (v : ℕ) → v < N → total (ends v) r ≡ 2 → word s₄ (l .b + 2 * v) ≡ Ends.late E flag es v + 1
     mark-late v b z =
         filled .1 .marks v b
-        ∙ ap (Fill.top1 ground) (own-done v ∙ ap reverse (Ends.own-two E flag es r two v (omega arith)))
+        ∙ ap Fill.last-plus-one (own-done v ∙ ap reverse (Ends.own-two E flag es r two v (omega arith)))
 
     sum-is :
         (v : ℕ) → v < N → 0 < total (ends v) r →
         word s₄ (l .b + 2 * v + 1) ≡ (Ends.early E flag es v + Ends.late E flag es v) % 4294967296
     sum-is v b some =
         filled .1 .sums v b
-        ∙ ap (Fill.sum1 ground) (own-done v ∙ ap reverse (Ends.own-two E flag es r two v some))
+        ∙ ap Fill.cut-sum (own-done v ∙ ap reverse (Ends.own-two E flag es r two v some))
         ∙ cut (Ends.early E flag es v) (Ends.late E flag es v) (early-small v some)
       where
         cut : (a c : ℕ) → a < 4294967296 → ((0 + a) % 4294967296 + c) % 4294967296 ≡ (a + c) % 4294967296
@@ -281,10 +267,10 @@ module _ {s : List ℕ} {u table graph n width : ℕ} (q : Splits s u table grap
                     };
                 first =
                     held-same (sifted .words) s₄ u ps
-                    (λ a lo hi. filled .1 .low a (omega (arith, Fill.evens-length ground m, ground .entries))) (sift .first);
+                    (λ a lo hi. filled .1 .low a (omega (arith, Fill.those-length (λ c. leb 2 c) s graph m, ground .entries))) (sift .first);
                 second =
                     held-same (sifted .words) s₄ h₂ ps
-                    (λ a lo hi. filled .1 .low a (omega (arith, Fill.evens-length ground m, ground .entries))) (sift .second);
+                    (λ a lo hi. filled .1 .low a (omega (arith, Fill.those-length (λ c. leb 2 c) s graph m, ground .entries))) (sift .second);
                 marks = λ v b. refl;
                 sums = sum-is;
               };
@@ -295,8 +281,8 @@ module _ {s : List ℕ} {u table graph n width : ℕ} (q : Splits s u table grap
           size = omega arith;
           first-pairs = sym (append-nil (map pn (reverse ps)));
           second-pairs = sym (append-nil (map pn (reverse ps)));
-          first-nums = Fill.evens-nums ground m (omega arith);
-          second-nums = Fill.evens-nums ground m (omega arith);
+          first-nums = Fill.those-nums ground (λ c. leb 2 c) m (omega arith);
+          second-nums = Fill.those-nums ground (λ c. leb 2 c) m (omega arith);
         }
 
     pub walk-done : Walk.Walked ground flag r two (q .side) slant copies N (twoWalkM l m N w₀)

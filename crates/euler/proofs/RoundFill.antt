@@ -7,7 +7,7 @@ use native.Mathlib.Omega.{arith}
 use native.Mathlib.Decide.{ℕ-discrete, decLt}
 use borrow.Author.Tests.{eq-eqb, ne-eqb, lt-ltb, le-ltb, le-leb, lt-leb}
 use lib.Dec.{eqb, leb}
-use lib.ListN.{length}
+use lib.ListN.{length, length-map}
 use lib.Seq.{getD-set-same}
 use Rattle.words.specs.Basics.{pick, All}
 use Rattle.words.specs.Words.{word, put-word}
@@ -17,8 +17,9 @@ use Rattle.euler.specs.declared.circuits.Two.{Two}
 use Rattle.euler.specs.Model.{manyM}
 use Rattle.euler.specs.RoundModel.{Apart-so-far, singleM, twoStartM, twoSiftM, twoSiftAllM, halfEdgeM, twoNoteM, twoFillM}
 use Rattle.euler.specs.RoundBounds.{Two-notes, Two-fills}
-use Rattle.euler.proofs.Places.{keep, keep-yes, keep-no}
-use Rattle.euler.proofs.RoundHeld.{Held, held-same, single-away, held-more, Noted, noted-same}
+use Rattle.euler.proofs.Places.{keep, keep-yes, keep-no, keep-all, keep-length, descend, descend-below, descend-length}
+use Rattle.euler.proofs.RoundHeld.{Held, held-same, single-away, held-more}
+use Rattle.euler.proofs.Notes.{Noted, noted-same}
 use Rattle.euler.proofs.RoundModelLaws.{single-length}
 
 -- one entry sifted, by what is read
@@ -45,8 +46,42 @@ pub record Ground (l : Two) (N m k u : ℕ) (s₀ : List ℕ) : Type 0 where
   pub entries : m < k
   pub graph : l .g + 3 + 2 * m ≤ u
   pub table : (i : ℕ) → i < m → l .ends + 2 * word s₀ (l .g + 2 + 2 * i) + 1 < u
-  pub firsts : (i : ℕ) → i < m → word s₀ (l .ends + 2 * word s₀ (l .g + 2 + 2 * i)) < N
-  pub seconds : (i : ℕ) → i < m → word s₀ (l .ends + (2 * word s₀ (l .g + 2 + 2 * i) + 1)) < N
+  pub ends : (i side : ℕ) → i < m → side < 2 → word s₀ (l .ends + (2 * word s₀ (l .g + 2 + 2 * i) + side)) < N
+
+-- ── the pairs of some entries ──
+
+-- of the first j entries of the graph at `graph`, the pair numbers of those whose copies pass a test, newest first
+abbrev pub those-of : (ℕ → Bool) → List ℕ → ℕ → ℕ → List ℕ
+those-of test s graph j =
+    map (λ i. word s (graph + 2 + 2 * i)) (keep (λ i. test (word s (graph + 3 + 2 * i))) (descend j))
+
+-- those of 2 copies or more
+abbrev pub evens-of : List ℕ → ℕ → ℕ → List ℕ
+evens-of s graph j = those-of (λ c. leb 2 c) s graph j
+
+-- those of odd copies
+abbrev pub odds-of : List ℕ → ℕ → ℕ → List ℕ
+odds-of s graph j = those-of (λ c. eqb (c % 2) 1) s graph j
+
+pub those-length : (test : ℕ → Bool) (s : List ℕ) (graph j : ℕ) → length (those-of test s graph j) ≤ j
+those-length test s graph j =
+    let q : ℕ → Bool = λ i. test (word s (graph + 3 + 2 * i)) in
+    omega (
+      arith,
+      length-map (keep q (descend j)) (λ i. word s (graph + 2 + 2 * i)),
+      keep-length q (descend j),
+      descend-length j,
+    )
+
+-- a party's first word after its half-edges, the last first: that last one plus 1
+abbrev pub last-plus-one : List ℕ → ℕ
+last-plus-one [] = 0
+last-plus-one (y ∷ ys) = y + 1
+
+-- its second: their sum, cut to 32 bits
+abbrev pub cut-sum : List ℕ → ℕ
+cut-sum [] = 0
+cut-sum (y ∷ ys) = (cut-sum ys + y) % 4294967296
 
 module _ {l : Two} {N m k u : ℕ} {s₀ : List ℕ} (g : Ground l N m k u s₀) where
   abbrev pub num : ℕ → ℕ
@@ -58,15 +93,11 @@ module _ {l : Two} {N m k u : ℕ} {s₀ : List ℕ} (g : Ground l N m k u s₀)
   abbrev pub E : ℕ → ℕ
   E y = word s₀ (l .ends + y)
 
-  -- the pairs of 2 copies or more among the first j entries, newest first
-  unfoldable pub evens-of : ℕ → List ℕ
-  evens-of zero = []
-  evens-of (suc j) = let before = evens-of j in pick (leb 2 (C j)) (num j ∷ before) before
+  abbrev evens : ℕ → List ℕ
+  evens j = evens-of s₀ (l .g) j
 
-  -- those of odd copies
-  unfoldable pub odds-of : ℕ → List ℕ
-  odds-of zero = []
-  odds-of (suc j) = let before = odds-of j in pick (eqb (C j % 2) 1) (num j ∷ before) before
+  abbrev odds : ℕ → List ℕ
+  odds j = odds-of s₀ (l .g) j
 
   -- a pair number of the graph
   pub record Num (e : ℕ) : Type 0 where
@@ -77,48 +108,39 @@ module _ {l : Two} {N m k u : ℕ} {s₀ : List ℕ} (g : Ground l N m k u s₀)
   num-small : (j : ℕ) → j < m → num j < 4294967296
   num-small j b = omega (arith, g .table j b, g .room, g .small)
 
-  pub evens-length : (j : ℕ) → length (evens-of j) ≤ j
-  unfolding evens-of
-  evens-length zero = omega arith
-  evens-length (suc j) = go (leb 2 (C j)) (evens-length j)
+  pub those-nums : (test : ℕ → Bool) (j : ℕ) → j ≤ m → All Num (those-of test s₀ (l .g) j)
+  those-nums test j b =
+      let q : ℕ → Bool = λ i. test (C i) in
+      go (keep q (descend j)) (keep-all (λ i. i < j) q (descend j) (descend-below j))
     where
-      go : (b : Bool) → length (evens-of j) ≤ j → length (pick b (num j ∷ evens-of j) (evens-of j)) ≤ suc j
-      go true h = omega arith
-      go false h = omega arith
-
-  pub odds-length : (j : ℕ) → length (odds-of j) ≤ j
-  unfolding odds-of
-  odds-length zero = omega arith
-  odds-length (suc j) = go (eqb (C j % 2) 1) (odds-length j)
-    where
-      go : (b : Bool) → length (odds-of j) ≤ j → length (pick b (num j ∷ odds-of j) (odds-of j)) ≤ suc j
-      go true h = omega arith
-      go false h = omega arith
+      go : (xs : List ℕ) → All (λ (i : ℕ). i < j) xs → All Num (map num xs)
+      go [] h = tt
+      go (x ∷ xs) h = (record { place = x; below = omega (arith, h .0); is-there = refl }, go xs (h .1))
 
   -- ── sifting ──
 
   pub record Sift-done (s₁ : List ℕ) (j : ℕ) (t : Apart-so-far) : Type 0 where
     pub keeps : Keeps u s₀ (t .words)
     pub parties : (a : ℕ) → l .b ≤ a → a < l .notes → word (t .words) a ≡ word s₁ a
-    pub first : Held (t .words) u (evens-of j)
-    pub second : Held (t .words) (u + 2 * k) (evens-of j)
-    pub noted : Noted (t .words) (l .notes) (odds-of j)
-    pub even : t .sifted .even ≡ length (evens-of j)
-    pub odd : t .sifted .odd ≡ length (odds-of j)
+    pub first : Held (t .words) u (evens j)
+    pub second : Held (t .words) (u + 2 * k) (evens j)
+    pub noted : Noted (λ i. l .notes + i) (t .words) (odds j)
+    pub even : t .sifted .even ≡ length (evens j)
+    pub odd : t .sifted .odd ≡ length (odds j)
 
   sift-step : (s₁ : List ℕ) (j : ℕ) (t : Apart-so-far) → j < m → Sift-done s₁ j t → Sift-done s₁ (suc j) (twoSiftM l t j)
-  unfolding twoSiftM evens-of odds-of
+  unfolding twoSiftM keep descend
   sift-step s₁ j t b h =
       let s : List ℕ = t .words in
-      let p : ℕ = length (evens-of j) in
-      let q : ℕ = length (odds-of j) in
+      let p : ℕ = length (evens j) in
+      let q : ℕ = length (odds j) in
       let e : ℕ = num j in
       let en : word s (l .g + 2 + 2 * j) ≡ e = h .keeps .same (l .g + 2 + 2 * j) (omega (arith, g .graph)) in
       let ec : word s (l .g + 3 + 2 * j) ≡ C j = h .keeps .same (l .g + 3 + 2 * j) (omega (arith, g .graph)) in
       let ep : t .sifted .even ≡ p = h .even in
       let eq : t .sifted .odd ≡ q = h .odd in
-      let pb : p ≤ j = evens-length j in
-      let qb : q ≤ j = odds-length j in
+      let pb : p ≤ j = those-length (λ c. leb 2 c) s₀ (l .g) j in
+      let qb : q ≤ j = those-length (λ c. eqb (c % 2) 1) s₀ (l .g) j in
       let f : List ℕ = singleM u s p e in
       let f₂ : List ℕ = singleM (u + 2 * k) f p e in
       let w : List ℕ = put-word f₂ (l .notes + q) e in
@@ -131,23 +153,23 @@ module _ {l : Two} {N m k u : ℕ} {s₀ : List ℕ} (g : Ground l N m k u s₀)
       λ a lt. away f₂ (l .notes + q) a e (λ x. omega (arith, g .notes)) ∙ single-away (u + 2 * k) f p e a (λ x. omega arith) (λ x. omega arith) in
       let to-second : (a : ℕ) → u + 2 * k ≤ a → a < l .notes → word w a ≡ word f₂ a =
       λ a lo hi. away f₂ (l .notes + q) a e (λ x. omega arith) in
-      let held₁ : Held w u (e ∷ evens-of j) =
-      held-same f w u (e ∷ evens-of j) (λ a lo hi. to-first a (omega (arith, g .entries)))
-      (held-more s u e (evens-of j) (omega (arith, h .keeps .len, g .room, g .entries)) (num-small j b) (h .first)) in
-      let old₂ : Held f (u + 2 * k) (evens-of j) =
-      held-same s f (u + 2 * k) (evens-of j)
+      let held₁ : Held w u (e ∷ evens j) =
+      held-same f w u (e ∷ evens j) (λ a lo hi. to-first a (omega (arith, g .entries)))
+      (held-more s u e (evens j) (omega (arith, h .keeps .len, g .room, g .entries)) (num-small j b) (h .first)) in
+      let old₂ : Held f (u + 2 * k) (evens j) =
+      held-same s f (u + 2 * k) (evens j)
       (λ a lo hi. single-away u s p e a (λ x. omega (arith, g .entries)) (λ x. omega (arith, g .entries))) (h .second) in
-      let held₂ : Held w (u + 2 * k) (e ∷ evens-of j) =
-      held-same f₂ w (u + 2 * k) (e ∷ evens-of j) (λ a lo hi. to-second a (omega arith) (omega (arith, g .notes, g .entries)))
-      (held-more f (u + 2 * k) e (evens-of j) (omega (arith, lf, h .keeps .len, g .room, g .entries)) (num-small j b) old₂) in
+      let held₂ : Held w (u + 2 * k) (e ∷ evens j) =
+      held-same f₂ w (u + 2 * k) (e ∷ evens j) (λ a lo hi. to-second a (omega arith) (omega (arith, g .notes, g .entries)))
+      (held-more f (u + 2 * k) e (evens j) (omega (arith, lf, h .keeps .len, g .room, g .entries)) (num-small j b) old₂) in
       let far : (a : ℕ) → u + 4 * k ≤ a → word f₂ a ≡ word s a =
       λ a lo.
       single-away (u + 2 * k) f p e a (λ x. omega (arith, g .entries)) (λ x. omega (arith, g .entries))
       ∙ single-away u s p e a (λ x. omega (arith, g .entries)) (λ x. omega (arith, g .entries)) in
-      let noted' : Noted w (l .notes) (e ∷ odds-of j) = (
+      let noted' : Noted (λ i. l .notes + i) w (e ∷ odds j) = (
         here f₂ (l .notes + q) e (omega (arith, lf₂, lf, h .keeps .len, g .notes, g .room, g .entries)) (num-small j b),
-        noted-same s w (l .notes) (odds-of j)
-            (λ a lo hi. away f₂ (l .notes + q) a e (λ x. omega arith) ∙ far a (omega (arith, g .notes))) (h .noted),
+        noted-same (λ i. l .notes + i) s w (odds j)
+            (λ i b. away f₂ (l .notes + q) (l .notes + i) e (λ x. omega arith) ∙ far (l .notes + i) (omega (arith, g .notes))) (h .noted),
       ) in
       let keeps' : Keeps u s₀ w =
       record {
@@ -189,7 +211,7 @@ module _ {l : Two} {N m k u : ℕ} {s₀ : List ℕ} (g : Ground l N m k u s₀)
       })
 
   pub sift-done : (s₁ : List ℕ) → Keeps u s₀ s₁ → (j : ℕ) → j ≤ m → Sift-done s₁ j (twoSiftAllM l j s₁)
-  unfolding twoSiftAllM evens-of odds-of
+  unfolding twoSiftAllM keep descend
   sift-done s₁ kept zero b =
       record {
         keeps = kept;
@@ -201,25 +223,6 @@ module _ {l : Two} {N m k u : ℕ} {s₀ : List ℕ} (g : Ground l N m k u s₀)
         odd = refl;
       }
   sift-done s₁ kept (suc j) b = sift-step s₁ j (twoSiftAllM l j s₁) (omega arith) (sift-done s₁ kept j (omega arith))
-
-  -- every one of them is a number of the graph
-  pub evens-nums : (j : ℕ) → j ≤ m → All Num (evens-of j)
-  unfolding evens-of
-  evens-nums zero b = tt
-  evens-nums (suc j) b = go (leb 2 (C j)) (evens-nums j (omega arith))
-    where
-      go : (c : Bool) → All Num (evens-of j) → All Num (pick c (num j ∷ evens-of j) (evens-of j))
-      go true h = (record { place = j; below = omega arith; is-there = refl }, h)
-      go false h = h
-
-  pub odds-nums : (j : ℕ) → j ≤ m → All Num (odds-of j)
-  unfolding odds-of
-  odds-nums zero b = tt
-  odds-nums (suc j) b = go (eqb (C j % 2) 1) (odds-nums j (omega arith))
-    where
-      go : (c : Bool) → All Num (odds-of j) → All Num (pick c (num j ∷ odds-of j) (odds-of j))
-      go true h = (record { place = j; below = omega arith; is-there = refl }, h)
-      go false h = h
 
   -- ── the start ──
 
@@ -259,24 +262,16 @@ module _ {l : Two} {N m k u : ℕ} {s₀ : List ℕ} (g : Ground l N m k u s₀)
 
   -- ── filling ──
 
-  abbrev pub top1 : List ℕ → ℕ
-  top1 [] = 0
-  top1 (y ∷ ys) = y + 1
-
-  abbrev pub sum1 : List ℕ → ℕ
-  sum1 [] = 0
-  sum1 (y ∷ ys) = (sum1 ys + y) % 4294967296
-
   -- the half-edges of v among some
   abbrev pub at-party : ℕ → List ℕ → List ℕ
   at-party v ys = keep (λ y. eqb v (E y)) ys
 
   -- the words of v after the half-edges `done`, the last first
   abbrev pub mark-of : ℕ → List ℕ → ℕ
-  mark-of v done = top1 (at-party v done)
+  mark-of v done = last-plus-one (at-party v done)
 
   abbrev pub sum-of : ℕ → List ℕ → ℕ
-  sum-of v done = sum1 (at-party v done)
+  sum-of v done = cut-sum (at-party v done)
 
   pub record Filled (s₂ done s : List ℕ) : Type 0 where
     pub len : length s ≡ length s₀
@@ -289,6 +284,12 @@ module _ {l : Two} {N m k u : ℕ} {s₀ : List ℕ} (g : Ground l N m k u s₀)
   pub record Fine (y : ℕ) : Type 0 where
     pub table : l .ends + y < u
     pub party : E y < N
+
+  -- both half-edges of the graph's pairs can
+  pub fine : (e side : ℕ) → side < 2 → Num e → Fine (2 * e + side)
+  fine e side b i =
+      let z : 2 * e + side ≡ 2 * num (i .place) + side = omega (arith, i .is-there) in
+      record { table = omega (arith, g .table (i .place) (i .below)); party = rw z (g .ends (i .place) side (i .below) b) }
 
   note-is :
       (side : ℕ) (s : List ℕ) (j y v sum : ℕ) → halfEdgeM l side s j ≡ y → word s (l .ends + y) ≡ v →
@@ -334,11 +335,11 @@ module _ {l : Two} {N m k u : ℕ} {s₀ : List ℕ} (g : Ground l N m k u s₀)
                     | yes q ↦
                         ap (λ (z : ℕ). word t (l .b + 2 * z)) q
                         ∙ here s (l .b + 2 * v) (y + 1) (omega arith) (omega (arith, fine .table, g .room, g .small, g .entries))
-                        ∙ ap top1 (sym (keep-yes (λ z. eqb x (E z)) y done (eq-eqb x (E y) q)))
+                        ∙ ap last-plus-one (sym (keep-yes (λ z. eqb x (E z)) y done (eq-eqb x (E y) q)))
                     | no q ↦
                         away s (l .b + 2 * v) (l .b + 2 * x) (y + 1) (λ z. q (omega arith))
                         ∙ h .marks x b
-                        ∙ ap top1 (sym (keep-no (λ z. eqb x (E z)) y done (ne-eqb x (E y) q)))
+                        ∙ ap last-plus-one (sym (keep-no (λ z. eqb x (E z)) y done (ne-eqb x (E y) q)))
                   ];
               sums = λ x b.
                   elim (ℕ-discrete x v) [
@@ -346,18 +347,18 @@ module _ {l : Two} {N m k u : ℕ} {s₀ : List ℕ} (g : Ground l N m k u s₀)
                         ap (λ (z : ℕ). word w (l .b + 2 * z + 1)) q
                         ∙ getD-set-same t (l .b + 2 * v + 1) ((sum + y) % 4294967296) 0 (omega arith)
                         ∙ ap (λ (z : ℕ). (sum-of z done + y) % 4294967296) (sym q)
-                        ∙ ap sum1 (sym (keep-yes (λ z. eqb x (E z)) y done (eq-eqb x (E y) q)))
+                        ∙ ap cut-sum (sym (keep-yes (λ z. eqb x (E z)) y done (eq-eqb x (E y) q)))
                     | no q ↦
                         away t (l .b + 2 * v + 1) (l .b + 2 * x + 1) (sum + y) (λ z. q (omega arith))
                         ∙ away s (l .b + 2 * v) (l .b + 2 * x + 1) (y + 1) (λ z. omega arith)
                         ∙ h .sums x b
-                        ∙ ap sum1 (sym (keep-no (λ z. eqb x (E z)) y done (ne-eqb x (E y) q)))
+                        ∙ ap cut-sum (sym (keep-no (λ z. eqb x (E z)) y done (ne-eqb x (E y) q)))
                   ];
             }),
       )
 
   pub fill-done :
-      (s₂ : List ℕ) (side : ℕ) → Keeps u s₀ s₂ → (es : List ℕ) → All (λ (e : ℕ). Fine (2 * e + side)) es → Noted s₂ (l .notes) es →
+      (s₂ : List ℕ) (side : ℕ) → Keeps u s₀ s₂ → (es : List ℕ) → All (λ (e : ℕ). Fine (2 * e + side)) es → Noted (λ i. l .notes + i) s₂ es →
       length es ≤ k → (done s : List ℕ) → Filled s₂ done s →
       Two-fills l side (length es) s
       × Filled s₂ (reverseAux (map (λ e. 2 * e + side) es) done) (twoFillM l side (length es) s)

@@ -25,6 +25,8 @@ use Rattle.euler.proofs.RoundFill as Fill
 use Rattle.euler.proofs.RoundHeld.{Held}
 use Rattle.euler.proofs.RoundFill.{Ground}
 use Rattle.euler.proofs.Dealing.{rest-append, halves-append}
+use Rattle.euler.proofs.Places.{keep, descend}
+use Rattle.euler.proofs.Nodes.{odds}
 
 -- ── adding behind ──
 
@@ -79,7 +81,7 @@ module _ {l : Two} {N m k u : ℕ} {s₀ : List ℕ} (g : Ground l N m k u s₀)
   C i = word s₀ (l .g + 3 + 2 * i)
 
   abbrev es : List ℕ
-  es = Fill.odds-of g m
+  es = Fill.odds-of s₀ (l .g) m
 
   abbrev pub pn : ℕ → Pair
   pn e = Ends.pn E flag es e
@@ -104,33 +106,33 @@ module _ {l : Two} {N m k u : ℕ} {s₀ : List ℕ} (g : Ground l N m k u s₀)
 
   -- ── the rest ──
 
-  pub rest-places : (j : ℕ) → reverse (rest (G j)) ≡ map pn (Fill.odds-of g j)
-  unfolding rest Fill.odds-of
+  pub rest-places : (j : ℕ) → reverse (rest (G j)) ≡ map pn (Fill.odds-of s₀ (l .g) j)
+  unfolding rest keep descend
   rest-places zero = ap (λ (x : Graph). reverse (rest x)) G-none
   rest-places (suc j) =
       ap (λ (x : Graph). reverse (rest x)) (G-more j)
       ∙ ap reverse (rest-append (G j) (at j))
       ∙ reverse-append (rest (G j)) (rest (at j ∷ []))
       ∙ elim (ℕ-discrete (C j % 2) 1) [
-        | yes o ↦ rw (eq-eqb (C j % 2) 1 o) (ap (λ (x : Graph). with-copies 1 (at j) ∷ x) (rest-places j) ∙ ap (λ (p : Pair). p ∷ map pn (Fill.odds-of g j)) (one-copy j))
+        | yes o ↦ rw (eq-eqb (C j % 2) 1 o) (ap (λ (x : Graph). with-copies 1 (at j) ∷ x) (rest-places j) ∙ ap (λ (p : Pair). p ∷ map pn (Fill.odds-of s₀ (l .g) j)) (one-copy j))
         | no q ↦ rw (ne-eqb (C j % 2) 1 q) (rest-places j)
       ]
 
   -- ── both halves before the rest is dealt ──
 
   abbrev evens : ℕ → List ℕ
-  evens j = Fill.evens-of g j
+  evens j = Fill.evens-of s₀ (l .g) j
 
   btw-at : (a b j : ℕ) → btw a b (at j) ≡ btw a b (pn (num j))
   btw-at a b j = ap (btw a b) (one-copy j)
 
   module _ (copies : (i : ℕ) → i < m → C i ≤ 2) (once : (a b : ℕ) → total (btw a b) (G m) ≤ 1) where
     -- even and odd ones are no more than all
-    pub parts : (a b j : ℕ) → j ≤ m → total (λ e. btw a b (pn e)) (evens j) + total (λ e. btw a b (pn e)) (Fill.odds-of g j) ≤ total (btw a b) (G j)
-    unfolding Fill.evens-of Fill.odds-of total
+    pub parts : (a b j : ℕ) → j ≤ m → total (λ e. btw a b (pn e)) (evens j) + total (λ e. btw a b (pn e)) (Fill.odds-of s₀ (l .g) j) ≤ total (btw a b) (G j)
+    unfolding keep descend total
     parts a b zero h = omega arith
     parts a b (suc j) h =
-        let before : total (λ e. btw a b (pn e)) (evens j) + total (λ e. btw a b (pn e)) (Fill.odds-of g j) ≤ total (btw a b) (G j) = parts a b j (omega arith) in
+        let before : total (λ e. btw a b (pn e)) (evens j) + total (λ e. btw a b (pn e)) (Fill.odds-of s₀ (l .g) j) ≤ total (btw a b) (G j) = parts a b j (omega arith) in
         let more : total (btw a b) (G (suc j)) ≡ total (btw a b) (G j) + btw a b (pn (num j)) =
         ap (total (btw a b)) (G-more j) ∙ total-append (btw a b) (G j) (at j ∷ []) ∙ omega (arith, btw-at a b j) in
         elim (decLt (C j) 2) [
@@ -142,10 +144,10 @@ module _ {l : Two} {N m k u : ℕ} {s₀ : List ℕ} (g : Ground l N m k u s₀)
       where
         odd :
             (q : Bool) →
-            total (λ e. btw a b (pn e)) (evens j) + total (λ e. btw a b (pn e)) (Fill.odds-of g j) ≤ total (btw a b) (G j) →
+            total (λ e. btw a b (pn e)) (evens j) + total (λ e. btw a b (pn e)) (Fill.odds-of s₀ (l .g) j) ≤ total (btw a b) (G j) →
             total (btw a b) (G (suc j)) ≡ total (btw a b) (G j) + btw a b (pn (num j)) →
             total (λ e. btw a b (pn e)) (evens j)
-            + total (λ e. btw a b (pn e)) (pick q (num j ∷ Fill.odds-of g j) (Fill.odds-of g j))
+            + total (λ e. btw a b (pn e)) (map num (pick q (j ∷ odds C (descend j)) (odds C (descend j))))
             ≤ total (btw a b) (G (suc j))
         odd true x y = omega arith
         odd false x y = omega arith
@@ -164,7 +166,7 @@ module _ {l : Two} {N m k u : ℕ} {s₀ : List ℕ} (g : Ground l N m k u s₀)
             )
 
     pub halves-are : (j : ℕ) → j ≤ m → add-halves [] (G j) ≡ map pn (reverse (evens j))
-    unfolding Fill.evens-of add-halves total
+    unfolding keep descend add-halves total
     halves-are zero h = ap (add-halves []) G-none
     halves-are (suc j) h =
         let before : add-halves [] (G j) ≡ map pn (reverse (evens j)) = halves-are j (omega arith) in

@@ -1,4 +1,4 @@
--- Pair numbers in words: what a half holds, and what is noted. Assumes nothing.
+-- Pair numbers in words: what a half holds. Assumes nothing.
 use Prim.Native.Nat.{ℕ, _+_, _*_, _≤_, _<_}
 use mathlib.Core.Path.{_≡_, _∙_}
 use mathlib.Core.List.{List, [], _∷_}
@@ -7,6 +7,7 @@ use lib.ListN.{length}
 use Rattle.words.specs.Words.{word, put-word}
 use Rattle.words.proofs.Frames.{here, away, length-put}
 use Rattle.euler.specs.RoundModel.{singleM}
+use Rattle.euler.proofs.Bases.{away2}
 
 -- the half at h holds one copy each of the pairs es, the last first
 abbrev pub Held : List ℕ → ℕ → List ℕ → Type 0
@@ -26,7 +27,7 @@ held-same s t h (e ∷ es) f k = (
 pub single-away :
     (h : ℕ) (s : List ℕ) (at e a : ℕ) → (a ≡ h + 2 + 2 * at → ⊥) → (a ≡ h + 3 + 2 * at → ⊥) → word (singleM h s at e) a ≡ word s a
 single-away h s at e a p q =
-    away (put-word s (h + 2 + 2 * at) e) (h + 3 + 2 * at) a 1 q ∙ away s (h + 2 + 2 * at) a e p
+    away2 s (h + 2 + 2 * at) e (h + 3 + 2 * at) 1 a p q
 
 pub held-more :
     (s : List ℕ) (h e : ℕ) (es : List ℕ) → h + 3 + 2 * length es < length s → e < 4294967296 → Held s h es →
@@ -40,14 +41,3 @@ held-more s h e es b f k =
       held-same s (singleM h s (length es) e) h es
           (λ a lo hi. single-away h s (length es) e a (λ x. omega arith) (λ x. omega arith)) k,
     )
-
--- the notes are es, the last first
-abbrev pub Noted : List ℕ → ℕ → List ℕ → Type 0
-Noted s n [] = Unit {0}
-Noted s n (e ∷ es) = (word s (n + length es) ≡ e) × Noted s n es
-
-pub noted-same :
-    (s t : List ℕ) (n : ℕ) (es : List ℕ) → ((a : ℕ) → n ≤ a → a < n + length es → word t a ≡ word s a) → Noted s n es → Noted t n es
-noted-same s t n [] f k = tt
-noted-same s t n (e ∷ es) f k =
-    (f (n + length es) (omega arith) (omega arith) ∙ k .0, noted-same s t n es (λ a lo hi. f a lo (omega arith)) (k .1))

@@ -4,7 +4,7 @@ use Prim.Native.Nat.{ℕ, zero, suc, _+_, _*_, _-_, _/_, _%_, _≤_, _<_}
 use mathlib.Core.Path.{_≡_, refl, sym, _∙_, ap, subst}
 use mathlib.Core.Bool.{Bool, true, false}
 use mathlib.Core.List.{List, [], _∷_, map}
-use mathlib.Core.Logic.{⊎-elim}
+use mathlib.Core.Logic.{_⊎_, ⊎-elim}
 use native.Mathlib.Omega.{arith}
 use native.Mathlib.Decide.{ℕ-discrete}
 use borrow.Author.Tests.{eq-eqb, ne-eqb}
@@ -47,7 +47,7 @@ module _ {l : Two} {N m k u : ℕ} {s₀ : List ℕ} (g : Ground l N m k u s₀)
   E y = word s₀ (l .ends + y)
 
   abbrev pub es : List ℕ
-  es = Fill.odds-of g m
+  es = Fill.odds-of s₀ (l .g) m
 
   abbrev pub early : ℕ → ℕ
   early v = Ends.early E flag es v
@@ -115,23 +115,9 @@ module _ {l : Two} {N m k u : ℕ} {s₀ : List ℕ} (g : Ground l N m k u s₀)
     pub fine : (y : ℕ) → Half y → Fill.Fine g y
     fine y i =
         let n : Fill.Num g (y / 2) =
-        all-counted (Fill.Num g) (y / 2) es (Fill.odds-nums g m (omega arith)) i in
-        let p : ℕ = n .place in
-        let e : y / 2 ≡ word s₀ (l .g + 2 + 2 * p) = n .is-there in
-        elim (ℕ-discrete (y % 2) 0) [
-          | yes z ↦
-              let q : y ≡ 2 * word s₀ (l .g + 2 + 2 * p) = omega arith in
-              record {
-                table = omega (arith, g .table p (n .below));
-                party = rw q (g .firsts p (n .below));
-              }
-          | no z ↦
-              let q : y ≡ 2 * word s₀ (l .g + 2 + 2 * p) + 1 = omega arith in
-              record {
-                table = omega (arith, g .table p (n .below));
-                party = rw q (g .seconds p (n .below));
-              }
-        ]
+        all-counted (Fill.Num g) (y / 2) es (Fill.those-nums g (λ c. eqb (c % 2) 1) m (omega arith)) i in
+        let e : 2 * (y / 2) + y % 2 ≡ y = omega arith in
+        subst (Fill.Fine g) e (Fill.fine g (y / 2) (y % 2) (omega arith) n)
 
     half-small : (y : ℕ) → Half y → y < 4294967296
     half-small y i = omega (arith, fine y i .table, g .room, g .small)
@@ -165,14 +151,12 @@ module _ {l : Two} {N m k u : ℕ} {s₀ : List ℕ} (g : Ground l N m k u s₀)
         let s : 0 < total (ends v) r = ended .some (Ends.mate y) j in
         let a : early v < 4294967296 = half-small (early v) (ended .early-half v s .0) in
         let b : late v < 4294967296 = half-small (late v) (ended .late-half v s .0) in
-        ⊎-elim (λ e. other (early v) (late v) (Ends.mate y) a b e) (λ e. other' (early v) (late v) (Ends.mate y) a b e)
-        (ended .one-of (Ends.mate y) j)
+        other (early v) (late v) (Ends.mate y) a b (ended .one-of (Ends.mate y) j)
       where
-        other : (a b c : ℕ) → a < 4294967296 → b < 4294967296 → c ≡ a → ((a + b) % 4294967296 + 4294967296 - c) % 4294967296 ≡ a + b - c
-        other a b c h k e = omega arith
-
-        other' : (a b c : ℕ) → a < 4294967296 → b < 4294967296 → c ≡ b → ((a + b) % 4294967296 + 4294967296 - c) % 4294967296 ≡ a + b - c
-        other' a b c h k e = omega arith
+        other :
+            (a b c : ℕ) → a < 4294967296 → b < 4294967296 → (c ≡ a) ⊎ (c ≡ b) →
+            ((a + b) % 4294967296 + 4294967296 - c) % 4294967296 ≡ a + b - c
+        other a b c h k e = ⊎-elim (λ x. omega arith) (λ x. omega arith) e
 
     stepped :
         (h : ℕ) (ds₁ ds₂ : List ℕ) (M : ℕ → ℕ) (s : List ℕ) (at y : ℕ) → u ≤ h → h ≤ u + 2 * k → at < m → Going ds₁ ds₂ M s →

@@ -22,6 +22,8 @@ use Rattle.euler.proofs.Taken.{ends}
 use Rattle.euler.proofs.Trail.{aslant}
 use Rattle.euler.proofs.Straight.{along, along-total, every-other-even}
 use Rattle.euler.proofs.Rounds.{trace}
+use Rattle.euler.proofs.Places.{keep, descend}
+use Rattle.euler.proofs.Nodes.{odds}
 use Rattle.euler.proofs.RoundEnds as Ends
 use Rattle.euler.proofs.RoundTours as Tours
 use Rattle.euler.proofs.RoundFill as Fill
@@ -36,7 +38,7 @@ module _ {l : Two} {N m k u : ℕ} {s₀ : List ℕ} (g : Ground l N m k u s₀)
   E y = word s₀ (l .ends + y)
 
   abbrev es : List ℕ
-  es = Fill.odds-of g m
+  es = Fill.odds-of s₀ (l .g) m
 
   abbrev pr : ℕ → Pair
   pr y = Ends.pr E flag es y
@@ -114,7 +116,7 @@ module _ {l : Two} {N m k u : ℕ} {s₀ : List ℕ} (g : Ground l N m k u s₀)
     early v = Ends.early E flag es v
 
     abbrev ps : List ℕ
-    ps = Fill.evens-of g m
+    ps = Fill.evens-of s₀ (l .g) m
 
     abbrev Rounded : ℕ → Tour → Type 0
     Rounded v t =
@@ -146,12 +148,12 @@ module _ {l : Two} {N m k u : ℕ} {s₀ : List ℕ} (g : Ground l N m k u s₀)
       pub second-nums : All Num seconds
 
     -- no more than the graph has
-    split-length : (j : ℕ) → j ≤ m → length (Fill.evens-of g j) + length (Fill.odds-of g j) ≤ j
-    unfolding Fill.evens-of Fill.odds-of
+    split-length : (j : ℕ) → j ≤ m → length (Fill.evens-of s₀ (l .g) j) + length (Fill.odds-of s₀ (l .g) j) ≤ j
+    unfolding keep descend
     split-length zero b = omega arith
     split-length (suc j) b =
         let c : ℕ = Fill.C g j in
-        let before : length (Fill.evens-of g j) + length (Fill.odds-of g j) ≤ j = split-length j (omega arith) in
+        let before : length (Fill.evens-of s₀ (l .g) j) + length (Fill.odds-of s₀ (l .g) j) ≤ j = split-length j (omega arith) in
         elim (decLt c 2) [
           | yes q ↦ rw (lt-leb 2 c q) (one (eqb (c % 2) 1) before)
           | no q ↦
@@ -160,9 +162,9 @@ module _ {l : Two} {N m k u : ℕ} {s₀ : List ℕ} (g : Ground l N m k u s₀)
         ]
       where
         one :
-            (q : Bool) → length (Fill.evens-of g j) + length (Fill.odds-of g j) ≤ j →
-            length (Fill.evens-of g j)
-            + length (pick q (Fill.num g j ∷ Fill.odds-of g j) (Fill.odds-of g j))
+            (q : Bool) → length (Fill.evens-of s₀ (l .g) j) + length (Fill.odds-of s₀ (l .g) j) ≤ j →
+            length (Fill.evens-of s₀ (l .g) j)
+            + length (map (Fill.num g) (pick q (j ∷ odds (Fill.C g) (descend j)) (odds (Fill.C g) (descend j))))
             ≤ suc j
         one true h = omega arith
         one false h = omega arith
@@ -198,7 +200,7 @@ module _ {l : Two} {N m k u : ℕ} {s₀ : List ℕ} (g : Ground l N m k u s₀)
         omega (arith, onto-length (numbers (others b hs)) ds, length-map (others b hs) (λ y. y / 2), others-length n hs e b)
 
     half-num : (y : ℕ) → Half y → Num (y / 2)
-    half-num y i = all-counted Num (y / 2) es (Fill.odds-nums g m (omega arith)) i
+    half-num y i = all-counted Num (y / 2) es (Fill.those-nums g (λ c. eqb (c % 2) 1) m (omega arith)) i
 
     dealt-nums : (b : Bool) (hs ds : List ℕ) → All Half hs → All Num ds → All Num (dealt b hs ds)
     dealt-nums b hs ds h k =

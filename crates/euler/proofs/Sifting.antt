@@ -1,7 +1,8 @@
 -- Sifting: the odd entries are noted in the stack's column, and every mark is cleared. Assumes nothing.
 use Prim.Native.Nat.{ℕ, zero, suc, _+_, _*_, _%_, _≤_, _<_}
 use mathlib.Core.Path.{_≡_, refl, sym, _∙_, ap, subst}
-use mathlib.Core.List.{List, [], _∷_}
+use mathlib.Core.Bool.{true}
+use mathlib.Core.List.{List, _∷_}
 use native.Mathlib.Omega.{arith}
 use native.Mathlib.Decide.{ℕ-discrete}
 use borrow.Author.Tests.{eq-eqb, ne-eqb}
@@ -11,25 +12,14 @@ use Rattle.words.specs.Words.{word, put-word}
 use Rattle.words.specs.Frames.{Keeps}
 use Rattle.words.proofs.Frames.{here, away, length-put, keeps-refl, keeps-trans}
 use Rattle.euler.specs.declared.Rings.{Rings}
-use Rattle.euler.specs.Model.{Counted, copiesM, siftM, siftAllM, notedM}
+use Rattle.euler.specs.Model.{Counted, copiesM, siftM, siftAllM}
 use Rattle.euler.specs.Bounds.{Sifts-all}
 use Rattle.euler.proofs.Places.{keep, keep-yes, keep-no, descend}
 use Rattle.euler.proofs.Nodes.{odds, odds-length}
 use Rattle.euler.proofs.Bases.{Laid, copies-kept, away2}
 use Rattle.euler.proofs.Asides.{Same-nodes, same-mark, same-high, same-trans}
-
--- the notes are xs, the last first
-abbrev pub Noted : Rings → List ℕ → List ℕ → Type 0
-Noted l s [] = Unit {0}
-Noted l s (x ∷ xs) = (notedM l s (length xs) ≡ x) × Noted l s xs
-
-pub noted-same :
-    (l : Rings) (s t xs : List ℕ) → ((j : ℕ) → j < length xs → notedM l t j ≡ notedM l s j) → Noted l s xs → Noted l t xs
-noted-same l s t [] f h = tt
-noted-same l s t (x ∷ xs) f h = (
-  f (length xs) (omega arith) ∙ h .0,
-  noted-same l s t xs (λ j b. f j (omega arith)) (h .1),
-)
+use Rattle.euler.proofs.Notes.{Noted, noted-same}
+use Rattle.euler.proofs.Columns.{slot}
 
 module _ {l : Rings} {N m k : ℕ} {s₀ : List ℕ} (g : Laid l N m k s₀) where
   abbrev C : ℕ → ℕ
@@ -43,7 +33,7 @@ module _ {l : Rings} {N m k : ℕ} {s₀ : List ℕ} (g : Laid l N m k s₀) whe
   pub record Sifted (j : ℕ) (s : List ℕ) (t : Counted) : Type 0 where
     pub same : Same-nodes g s (t .words)
     pub marks : (i : ℕ) → i < j → word (t .words) (l .b + 8 * i + 2) ≡ 0
-    pub noted : Noted l (t .words) (first-odds j)
+    pub noted : Noted (slot true l) (t .words) (first-odds j)
     pub counted : t .count ≡ length (first-odds j)
 
   -- the words after entry j, noted at the place n
@@ -68,14 +58,14 @@ module _ {l : Rings} {N m k : ℕ} {s₀ : List ℕ} (g : Laid l N m k s₀) whe
 
   -- the notes below stay, and the new one stands above them
   note-noted :
-      (s : List ℕ) (j : ℕ) (xs : List ℕ) → length s ≡ length s₀ → j < m → length xs < k → Noted l s xs →
-      Noted l (put-note s j (length xs)) (j ∷ xs)
+      (s : List ℕ) (j : ℕ) (xs : List ℕ) → length s ≡ length s₀ → j < m → length xs < k → Noted (slot true l) s xs →
+      Noted (slot true l) (put-note s j (length xs)) (j ∷ xs)
   note-noted s j xs len b c h =
       let n : ℕ = length xs in
       let t : List ℕ = put-word s (l .b + 8 * j + 2) 0 in
       let lt : length t ≡ length s = length-put s (l .b + 8 * j + 2) 0 in (
         here t (l .col + 2 * n) j (omega (arith, g .column, g .room)) (omega (arith, g .short)),
-        noted-same l s (put-note s j n) xs
+        noted-same (slot true l) s (put-note s j n) xs
             (λ i e.
             away2 s (l .b + 8 * j + 2) 0 (l .col + 2 * n) j (l .col + 2 * i) (λ q. omega (arith, g .column, g .entries)) (λ q. omega arith))
             h,
@@ -90,7 +80,7 @@ module _ {l : Rings} {N m k : ℕ} {s₀ : List ℕ} (g : Laid l N m k s₀) whe
       let now' : Keeps (l .b) s₀ w = keeps-trans kept (h .same .keeps) in
       let c : copiesM l w j % 2 ≡ C j % 2 = ap (λ (x : ℕ). x % 2) (copies-kept g w now' j b) in
       let at : put-note w j (t .count) ≡ put-note w j (length (first-odds j)) = rw (h .counted) in
-      let new : Noted l (put-note w j (t .count)) (j ∷ first-odds j) =
+      let new : Noted (slot true l) (put-note w j (t .count)) (j ∷ first-odds j) =
       rw at (note-noted w j (first-odds j) (now' .len) b (omega (arith, odds-length C j)) (h .noted)) in
       let same : Same-nodes g s (put-note w j (t .count)) =
       same-trans g s w (put-note w j (t .count)) (h .same) (note-same w j (t .count) jk) in
@@ -103,7 +93,7 @@ module _ {l : Rings} {N m k : ℕ} {s₀ : List ℕ} (g : Laid l N m k s₀) whe
             record {
               same = same;
               marks = marks;
-              noted = subst (Noted l (put-note w j (t .count))) (sym list) new;
+              noted = subst (Noted (slot true l) (put-note w j (t .count))) (sym list) new;
               counted = omega (arith, h .counted, ap length list);
             }
         | no n ↦
@@ -112,7 +102,7 @@ module _ {l : Rings} {N m k : ℕ} {s₀ : List ℕ} (g : Laid l N m k s₀) whe
             record {
               same = same;
               marks = marks;
-              noted = subst (Noted l (put-note w j (t .count))) (sym list) (new .1);
+              noted = subst (Noted (slot true l) (put-note w j (t .count))) (sym list) (new .1);
               counted = omega (arith, h .counted, ap length list);
             }
       ]
