@@ -37,8 +37,11 @@ unfolding total
 none-left N side [] z h f = refl
 none-left N side (p ∷ ps) z h f = absurd (omega (arith, h (p .first) (omega arith), is-same (p .first)))
 
+pub none-aslant : (N : ℕ) (side : ℕ → ℕ) (ps : List Pair) → All (Across N side) ps → total (aslant side) ps ≡ 0
+none-aslant N side ps h = total-all-zero (aslant side) ps (all-map (λ p a. omega arith) ps h)
+
 -- a party not below N has no ends
-beyond :
+pub beyond :
     (N : ℕ) (side : ℕ → ℕ) (r : List Pair) → All (Across N side) r → (v : ℕ) → (v < N → ⊥) → total (ends v) r ≡ 0
 beyond N side r h v n = total-all-zero (ends v) r (all-map off r h)
   where
@@ -55,11 +58,8 @@ pub euler-law :
 unfolding euler-cycles
 euler-law N side r h even =
     ran-then (Toured r N) (Cycles-of r) (tour-below N r) (λ t. ran (t .cycles))
-    (tour-below-tours side r slant all-even N) finish
+    (tour-below-tours side r (none-aslant N side r h) all-even N) finish
   where
-    slant : total (aslant side) r ≡ 0
-    slant = total-all-zero (aslant side) r (all-map (λ p a. omega arith) r h)
-
     all-even : (v : ℕ) → total (ends v) r % 2 ≡ 0
     all-even v = elim (decLt v N) [ yes k ↦ even v k | no n ↦ omega (arith, beyond N side r h v n) ]
 

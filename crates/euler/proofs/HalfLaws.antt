@@ -13,13 +13,21 @@ use lib.Dec.{leb}
 use lib.ListN.{length, length-append}
 use Rattle.words.specs.Basics.{pick, is, count, All, sum-below}
 use Rattle.words.proofs.Sums.{is-eq, is-ne, count-append, all-append, sum-below-count, sum-below-le, sum-below-add, sum-below-const}
-use Rattle.multigraph.specs.Multigraph.{Pair, pair, Graph, joins, add-edge}
-use Rattle.multigraph.proofs.Ends.{true-joins}
+use Rattle.multigraph.specs.Multigraph.{Pair, pair, Graph, joins, add-edge, with-copies}
+use Rattle.multigraph.specs.Regular.{Same-ends}
+use Rattle.multigraph.proofs.Ends.{joins-true, true-joins}
 use Rattle.euler.specs.Split.{add-halves, add-pairs}
 use Rattle.euler.proofs.Places.{keep, keep-yes, keep-no, keep-append, keep-all}
 use Rattle.euler.proofs.Dealing.{halves-append}
 
 -- ── adding to a graph whose front doesn't have the pair ──
+
+pub not-joined : (a b : ℕ) (p : Pair) → (Same-ends a b (p .first) (p .second) → ⊥) → joins a b p ≡ false
+not-joined a b p n = go (joins a b p) refl
+  where
+    go : (t : Bool) → joins a b p ≡ t → t ≡ false
+    go false e = refl
+    go true e = absurd (n (joins-true a b p e))
 
 pub add-past :
     (g h : Graph) (a b n f : ℕ) → All (λ (p : Pair). joins a b p ≡ false) g →
@@ -35,15 +43,33 @@ add-new g a b n f e = ap (λ (x : Graph). add-edge x a b n f) (sym (append-nil g
 
 -- ── the two parts of a half ──
 
-module _ (C F S flag : ℕ → ℕ) where
+-- no two of the first m entries have the same ends
+abbrev pub Apart-at : (ℕ → Pair) → ℕ → Type 0
+Apart-at A m =
+    (i j c : ℕ) → i < m → j < m → (i ≡ j → ⊥) → joins (A i .first) (A i .second) (with-copies c (A j)) ≡ false
+
+-- of a graph whose entry at the place i is A i
+module _ (A : ℕ → Pair) where
+  abbrev C : ℕ → ℕ
+  C i = A i .copies
+
+  abbrev F : ℕ → ℕ
+  F i = A i .first
+
+  abbrev S : ℕ → ℕ
+  S i = A i .second
+
+  abbrev flag : ℕ → ℕ
+  flag i = A i .bad
+
   -- the entry at a place, with c copies
   abbrev pub held : ℕ → ℕ → Pair
-  held i c = pair (F i) (S i) c (flag i)
+  held i c = with-copies c (A i)
 
   -- the graph's first n entries
   unfoldable pub upto : ℕ → Graph
   upto zero = []
-  upto (suc n) = upto n ++ (held n (C n) ∷ [])
+  upto (suc n) = upto n ++ (A n ∷ [])
 
   -- what a half gets of entry i, with e copies dealt to it
   unfoldable pub big : ℕ → ℕ → Graph
@@ -128,7 +154,7 @@ module _ (C F S flag : ℕ → ℕ) where
   unfolding keep
   small-none i h = keep-no (λ j. not (leb 2 (C j))) i [] (rw (le-leb 2 (C i) h))
 
-  module _ (m : ℕ) (apart : (i j c : ℕ) → i < m → j < m → (i ≡ j → ⊥) → joins (F i) (S i) (held j c) ≡ false) where
+  module _ (m : ℕ) (apart : Apart-at A m) where
     own : (i c : ℕ) → joins (F i) (S i) (held i c) ≡ true
     own i c = true-joins (F i) (S i) (held i c) (inl (refl, refl))
 
@@ -138,7 +164,7 @@ module _ (C F S flag : ℕ → ℕ) where
     unfolding add-halves upto bigs big
     halves-are zero b = refl
     halves-are (suc n) b =
-        halves-append [] (upto n) (held n (C n))
+        halves-append [] (upto n) (A n)
         ∙ rw (halves-are n (omega arith)) (go (leb 2 (C n)) (add-new (bigs (λ i. 0) n) (F n) (S n) (C n / 2) (flag n) (bigs-all (λ p. joins (F n) (S n) p ≡ false) (λ i. 0) n (λ i c d t. apart n i c (omega arith) (omega arith) (λ e. omega arith)))))
       where
         go :

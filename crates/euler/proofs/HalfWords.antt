@@ -12,32 +12,27 @@ use Rattle.words.specs.Basics.{pick, count, All}
 use Rattle.words.specs.Words.{word, put-word}
 use Rattle.words.proofs.Sums.{all-left, all-right, count-append}
 use Rattle.words.proofs.Frames.{here, away, length-put}
-use Rattle.multigraph.specs.Multigraph.{pair, Graph, joins}
-use Rattle.multigraph.specs.Stored.{entries, graph-at}
+use Rattle.multigraph.specs.Multigraph.{Pair, Graph}
+use Rattle.multigraph.specs.Stored.{entry, entries, graph-at}
 use Rattle.euler.specs.declared.Rings.{Rings}
 use Rattle.euler.specs.Model.{Counted, copiesM, moreM, manyM, entryM, entriesM, singleM, singlesM, halfM}
 use Rattle.euler.specs.Bounds.{Half-fits}
 use Rattle.euler.proofs.ModelLaws.{many-none, many-one, entry-count}
 use Rattle.euler.proofs.Places.{keep, keep-append}
-use Rattle.euler.proofs.Bases.{first-at, second-at, away2}
+use Rattle.euler.proofs.Bases.{away2}
 use Rattle.euler.proofs.Columns.{mark-of}
 use Rattle.euler.proofs.StoredGraphs.{Only, only-put, Same-entry, entries-same}
 use Rattle.euler.proofs.Pushes.{Ready, So-far, nothing-yet, known, so-far-count, reads, put-next, passed, pushed}
-use Rattle.euler.proofs.HalfLaws.{big, bigs, big-yes, big-no, bigs-length, bigs-where, small, one, small-one, small-none, half-length}
+use Rattle.euler.proofs.HalfLaws.{Apart-at, big, bigs, big-yes, big-no, bigs-length, bigs-where, small, one, small-one, small-none, half-length}
 use Rattle.euler.proofs.Parities.{dealt, dealt-all, dealt-count, more-dealt, picks, picks-dealt}
 
-module _ {l : Rings} {m k u h n : ℕ} (pairs parity : ℕ) {s₀ s ws : List ℕ} (g : Ready l m k u h n s₀ s ws) (p2 : parity < 2) (apart : (i j c : ℕ) → i < m → j < m → (i ≡ j → ⊥) → joins (first-at l s₀ i) (second-at l s₀ i) (pair (first-at l s₀ j) (second-at l s₀ j) c (pick (leb pairs (word s₀ (l .g + 2 + 2 * j))) 1 0)) ≡ false) where
+module _ {l : Rings} {m k u h n : ℕ} (pairs parity : ℕ) {s₀ s ws : List ℕ} (g : Ready l m k u h n s₀ s ws) (p2 : parity < 2) (apart : Apart-at (λ i. entry s₀ (l .ends) pairs (l .g) i) m) where
+  -- the graph's entries
+  abbrev A : ℕ → Pair
+  A i = entry s₀ (l .ends) pairs (l .g) i
+
   abbrev C : ℕ → ℕ
   C i = copiesM l s₀ i
-
-  abbrev F : ℕ → ℕ
-  F i = first-at l s₀ i
-
-  abbrev S : ℕ → ℕ
-  S i = second-at l s₀ i
-
-  abbrev flag : ℕ → ℕ
-  flag i = pick (leb pairs (word s₀ (l .g + 2 + 2 * i))) 1 0
 
   -- what the half holds
   abbrev Holding : Counted → Graph → Type 0
@@ -70,18 +65,18 @@ module _ {l : Rings} {m k u h n : ℕ} (pairs parity : ℕ) {s₀ s ws : List �
 
   entry-pushed :
       (i : ℕ) (t : Counted) (x : Graph) → Holding t x → t .count ≤ i → i < m →
-      Holding (entryM l h parity t i) (x ++ big C F S flag i (extra i))
+      Holding (entryM l h parity t i) (x ++ big A i (extra i))
   entry-pushed i t x f few b =
       let c : ℕ = C i / 2 + extra i in
       let room : t .count + 2 ≤ k = omega (arith, g .less) in
       elim (decLt (C i) 2) [
         | yes z ↦
             let q : t .count + manyM (C i) ≡ t .count = omega (arith, many-none (C i) z) in
-            rw (entry-is i t x f b, q, big-no C F S flag i (extra i) z, append-nil x) (passed pairs g t x i c f room)
+            rw (entry-is i t x f b, q, big-no A i (extra i) z, append-nil x) (passed pairs g t x i c f room)
         | no z ↦
             let two : 2 ≤ C i = omega arith in
             let q : t .count + manyM (C i) ≡ t .count + 1 = omega (arith, many-one (C i) two) in
-            rw (entry-is i t x f b, q, big-yes C F S flag i (extra i) two)
+            rw (entry-is i t x f b, q, big-yes A i (extra i) two)
             (pushed pairs g t x i c f b (omega (arith, extra-le i, g .fits i b)) room)
       ]
 
@@ -90,11 +85,11 @@ module _ {l : Rings} {m k u h n : ℕ} (pairs parity : ℕ) {s₀ s ws : List �
   entries-count zero = omega arith
   entries-count (suc i) = omega (arith, entries-count i, entry-count l h parity (entriesM l h parity i s) i)
 
-  entries-so-far : (i : ℕ) → i ≤ m → Holding (entriesM l h parity i s) (bigs C F S flag extra i)
+  entries-so-far : (i : ℕ) → i ≤ m → Holding (entriesM l h parity i s) (bigs A extra i)
   unfolding entriesM bigs
   entries-so-far zero b = nothing-yet pairs g
   entries-so-far (suc i) b =
-      entry-pushed i (entriesM l h parity i s) (bigs C F S flag extra i) (entries-so-far i (omega arith)) (entries-count i) (omega arith)
+      entry-pushed i (entriesM l h parity i s) (bigs A extra i) (entries-so-far i (omega arith)) (entries-count i) (omega arith)
 
   -- ── places of one copy ──
 
@@ -129,12 +124,12 @@ module _ {l : Rings} {m k u h n : ℕ} (pairs parity : ℕ) {s₀ s ws : List �
       read-front (λ xs. count i xs ≤ 1) (λ xs ys r. omega (arith, count-append i xs ys)) (full - j) j (rw e a)
 
   abbrev both-parts : ℕ → Graph
-  both-parts j = bigs C F S flag extra m ++ map (one C F S flag) (small C F S flag (read j))
+  both-parts j = bigs A extra m ++ map (one A) (small A (read j))
 
   abbrev stage : ℕ → Counted
   stage j = singlesM l h parity j (entriesM l h parity m s)
 
-  small-last : (j i : ℕ) → small C F S flag (read j ++ (i ∷ [])) ≡ small C F S flag (read j) ++ small C F S flag (i ∷ [])
+  small-last : (j i : ℕ) → small A (read j ++ (i ∷ [])) ≡ small A (read j) ++ small A (i ∷ [])
   small-last j i = keep-append (λ x. not (leb 2 (C x))) (read j) (i ∷ [])
 
   -- no half has more entries than the graph
@@ -143,25 +138,25 @@ module _ {l : Rings} {m k u h n : ℕ} (pairs parity : ℕ) {s₀ s ws : List �
       omega (
         arith,
         so-far-count pairs g t (both-parts j) f,
-        length-append (bigs C F S flag extra m) (map (one C F S flag) (small C F S flag (read j))),
-        length-map (small C F S flag (read j)) (one C F S flag),
-        bigs-length C F S flag extra m,
-        half-length C F S flag m apart (read j) (read-all j b) (read-once j b),
+        length-append (bigs A extra m) (map (one A) (small A (read j))),
+        length-map (small A (read j)) (one A),
+        bigs-length A extra m,
+        half-length A m apart (read j) (read-all j b) (read-once j b),
       )
 
   -- both parts with the place i read next
-  parts-more : (j i : ℕ) → C i < 2 → bigs C F S flag extra m ++ map (one C F S flag) (small C F S flag (read j ++ (i ∷ []))) ≡ both-parts j ++ (one C F S flag i ∷ [])
+  parts-more : (j i : ℕ) → C i < 2 → bigs A extra m ++ map (one A) (small A (read j ++ (i ∷ []))) ≡ both-parts j ++ (one A i ∷ [])
   parts-more j i z =
-      let list : map (one C F S flag) (small C F S flag (read j ++ (i ∷ []))) ≡ map (one C F S flag) (small C F S flag (read j)) ++ (one C F S flag i ∷ []) =
-      ap (map (one C F S flag)) (small-last j i ∙ ap (λ (x : List ℕ). small C F S flag (read j) ++ x) (small-one C F S flag i z))
-      ∙ map-append (one C F S flag) (small C F S flag (read j)) (i ∷ []) in
-      ap (λ (x : Graph). bigs C F S flag extra m ++ x) list
-      ∙ sym (append-assoc (bigs C F S flag extra m) (map (one C F S flag) (small C F S flag (read j))) (one C F S flag i ∷ []))
+      let list : map (one A) (small A (read j ++ (i ∷ []))) ≡ map (one A) (small A (read j)) ++ (one A i ∷ []) =
+      ap (map (one A)) (small-last j i ∙ ap (λ (x : List ℕ). small A (read j) ++ x) (small-one A i z))
+      ∙ map-append (one A) (small A (read j)) (i ∷ []) in
+      ap (λ (x : Graph). bigs A extra m ++ x) list
+      ∙ sym (append-assoc (bigs A extra m) (map (one A) (small A (read j))) (one A i ∷ []))
 
-  parts-same : (j i : ℕ) → 2 ≤ C i → bigs C F S flag extra m ++ map (one C F S flag) (small C F S flag (read j ++ (i ∷ []))) ≡ both-parts j
+  parts-same : (j i : ℕ) → 2 ≤ C i → bigs A extra m ++ map (one A) (small A (read j ++ (i ∷ []))) ≡ both-parts j
   parts-same j i two =
-      ap (λ (x : List ℕ). bigs C F S flag extra m ++ map (one C F S flag) x)
-      (small-last j i ∙ ap (λ (x : List ℕ). small C F S flag (read j) ++ x) (small-none C F S flag i two) ∙ append-nil (small C F S flag (read j)))
+      ap (λ (x : List ℕ). bigs A extra m ++ map (one A) x)
+      (small-last j i ∙ ap (λ (x : List ℕ). small A (read j) ++ x) (small-none A i two) ∙ append-nil (small A (read j)))
 
   single-is :
       (j i : ℕ) (t : Counted) (x : Graph) → Holding t x → word s (l .col + 2 * (parity + 2 * j) + 1) ≡ i → i < m →
@@ -177,7 +172,7 @@ module _ {l : Rings} {m k u h n : ℕ} (pairs parity : ℕ) {s₀ s ws : List �
 
   single-pushed :
       (j i : ℕ) (t : Counted) → Holding t (both-parts j) → word s (l .col + 2 * (parity + 2 * j) + 1) ≡ i → i < m → t .count ≤ m →
-      Holding (singleM l h t (parity + 2 * j)) (bigs C F S flag extra m ++ map (one C F S flag) (small C F S flag (read j ++ (i ∷ []))))
+      Holding (singleM l h t (parity + 2 * j)) (bigs A extra m ++ map (one A) (small A (read j ++ (i ∷ []))))
   single-pushed j i t f e b few =
       let room : t .count + 2 ≤ k = omega (arith, g .less) in
       elim (decLt (C i) 2) [
@@ -190,9 +185,9 @@ module _ {l : Rings} {m k u h n : ℕ} (pairs parity : ℕ) {s₀ s ws : List �
             rw (single-is j i t (both-parts j) f e b, q, parts-same j i two) (passed pairs g t (both-parts j) i 1 f room)
       ]
 
-  no-singles : both-parts 0 ≡ bigs C F S flag extra m
+  no-singles : both-parts 0 ≡ bigs A extra m
   unfolding picks keep
-  no-singles = append-nil (bigs C F S flag extra m)
+  no-singles = append-nil (bigs A extra m)
 
   read-more : (j : ℕ) → read (suc j) ≡ read j ++ (word s (l .col + 2 * (parity + 2 * j) + 1) ∷ [])
   unfolding picks
@@ -223,12 +218,12 @@ module _ {l : Rings} {m k u h n : ℕ} (pairs parity : ℕ) {s₀ s ws : List �
         (j : ℕ) → j < word t (h + 1) → (i : ℕ) × (i < m) × (word t (h + 2 + 2 * j) ≡ word s₀ (l .g + 2 + 2 * i))
 
   -- what it holds: the places of its parity dealt
-  parts-are : both-parts full ≡ bigs C F S flag (λ i. count i (dealt parity ws)) m ++ map (one C F S flag) (small C F S flag (dealt parity ws))
+  parts-are : both-parts full ≡ bigs A (λ i. count i (dealt parity ws)) m ++ map (one A) (small A (dealt parity ws))
   unfolding full
   parts-are =
       rw (picks-dealt l s parity n p2, g .written)
-      (ap (λ (x : Graph). x ++ map (one C F S flag) (small C F S flag (dealt parity ws)))
-      (bigs-where C F S flag m extra (λ i. count i (dealt parity ws)) (λ i b. more-dealt i parity ws p2 (g .once i))))
+      (ap (λ (x : Graph). x ++ map (one A) (small A (dealt parity ws)))
+      (bigs-where A m extra (λ i. count i (dealt parity ws)) (λ i b. more-dealt i parity ws p2 (g .once i))))
 
   -- the two words in front
   headed :
@@ -266,7 +261,7 @@ module _ {l : Rings} {m k u h n : ℕ} (pairs parity : ℕ) {s₀ s ws : List �
 
   pub half-done :
       Half-done (halfM l h parity m n s)
-      (bigs C F S flag (λ i. count i (dealt parity ws)) m ++ map (one C F S flag) (small C F S flag (dealt parity ws)))
+      (bigs A (λ i. count i (dealt parity ws)) m ++ map (one A) (small A (dealt parity ws)))
   unfolding halfM full
   half-done =
       subst (Half-done (halfM l h parity m n s)) parts-are (headed (stage full) (both-parts full) (singles-so-far full (omega arith))

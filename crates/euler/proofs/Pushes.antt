@@ -11,11 +11,11 @@ use Rattle.words.specs.Basics.{pick, count, All}
 use Rattle.words.specs.Words.{word, put-word}
 use Rattle.words.specs.Frames.{Keeps}
 use Rattle.words.proofs.Frames.{here, away, length-put}
-use Rattle.multigraph.specs.Multigraph.{Graph}
+use Rattle.multigraph.specs.Multigraph.{Pair, Graph}
 use Rattle.multigraph.specs.Stored.{entry, entries}
 use Rattle.euler.specs.declared.Rings.{Rings}
 use Rattle.euler.specs.Model.{Counted, copiesM, pushM}
-use Rattle.euler.proofs.Bases.{first-at, second-at, away2}
+use Rattle.euler.proofs.Bases.{away2}
 use Rattle.euler.proofs.Columns.{column, mark-of}
 use Rattle.euler.proofs.StoredGraphs.{Only, only-refl, only-put, Same-entry, entries-same, entries-snoc, entries-length}
 use Rattle.euler.proofs.HalfLaws.{held}
@@ -41,17 +41,9 @@ pub record Ready (l : Rings) (m k u h n : ℕ) (s₀ s : List ℕ) (ws : List �
   pub small : length s ≤ 4294967296
 
 module _ {l : Rings} {m k u h n : ℕ} (pairs : ℕ) {s₀ s ws : List ℕ} (g : Ready l m k u h n s₀ s ws) where
-  abbrev C : ℕ → ℕ
-  C i = copiesM l s₀ i
-
-  abbrev F : ℕ → ℕ
-  F i = first-at l s₀ i
-
-  abbrev S : ℕ → ℕ
-  S i = second-at l s₀ i
-
-  abbrev flag : ℕ → ℕ
-  flag i = pick (leb pairs (word s₀ (l .g + 2 + 2 * i))) 1 0
+  -- the graph's entries
+  abbrev A : ℕ → Pair
+  A i = entry s₀ (l .ends) pairs (l .g) i
 
   -- what a half holds after some pushes
   pub record So-far (t : Counted) (x : Graph) : Type 0 where
@@ -126,7 +118,7 @@ module _ {l : Rings} {m k u h n : ℕ} (pairs : ℕ) {s₀ s ws : List ℕ} (g :
 
   pub pushed :
       (t : Counted) (x : Graph) (i c : ℕ) → So-far t x → i < m → c < 4294967296 → t .count + 2 ≤ k →
-      So-far (record { words = put-next t i c; count = t .count + 1 }) (x ++ (held C F S flag i c ∷ []))
+      So-far (record { words = put-next t i c; count = t .count + 1 }) (x ++ (held A i c ∷ []))
   pushed t x i c f b cb room =
       let q : ℕ = t .count in
       let e : ℕ = word s₀ (l .g + 2 + 2 * i) in
@@ -140,7 +132,7 @@ module _ {l : Rings} {m k u h n : ℕ} (pairs : ℕ) {s₀ s ws : List ℕ} (g :
       let num : word w₂ (h + 2 + 2 * q) ≡ e =
       away w₁ (h + 3 + 2 * q) (h + 2 + 2 * q) c (λ z. omega arith) ∙ here w (h + 2 + 2 * q) e (omega arith) (omega arith) in
       let cop : word w₂ (h + 3 + 2 * q) ≡ c = here w₁ (h + 3 + 2 * q) c (omega arith) cb in
-      let new : entry w₂ (l .ends) pairs h (0 + q) ≡ held C F S flag i c =
+      let new : entry w₂ (l .ends) pairs h (0 + q) ≡ held A i c =
       let z : 0 + q ≡ q = omega arith in
       rw (z, num, cop, reads w₂ (l .ends + 2 * e) only₂ (omega arith), reads w₂ (l .ends + 2 * e + 1) only₂ tb) in
       record {

@@ -12,7 +12,7 @@ use Rattle.words.specs.Basics.{pick, total, All}
 use Rattle.words.specs.Words.{word}
 use Rattle.words.proofs.Sums.{total-reverse, total-map, all-map}
 use Rattle.multigraph.specs.Multigraph.{Pair, Graph}
-use Rattle.multigraph.specs.Regular.{pairs-between, Regular}
+use Rattle.multigraph.specs.Regular.{pairs-between}
 use Rattle.multigraph.specs.Stored.{entries, graph-at}
 use Rattle.euler.specs.declared.circuits.Two.{Two}
 use Rattle.euler.specs.Split.{rest, every-other}
@@ -31,7 +31,8 @@ use Rattle.euler.proofs.RoundFill.{Ground}
 use Rattle.euler.proofs.RoundSteps as Steps
 use Rattle.euler.proofs.RoundWalk as Walk
 use Rattle.euler.proofs.RoundGraph as Graphs
-use Rattle.euler.proofs.RoundGrounds as Grounds
+use Rattle.euler.proofs.RoundGrounds as Two-grounds
+use Rattle.euler.proofs.Grounds.{across-at, rest-slant, rest-evens}
 
 -- ── reversed lists of half-edges ──
 
@@ -57,13 +58,13 @@ empty-list [] e = refl
 empty-list (x ∷ xs) e = absurd (omega arith)
 
 module _ {s : List ℕ} {u table graph n width : ℕ} (q : Splits s u table graph n width) (sum : copiesSumM graph (word s (graph + 1)) s ≡ 2 * n) where
-  abbrev pub N : ℕ
+  abbrev N : ℕ
   N = 2 * n
 
-  abbrev pub k : ℕ
+  abbrev k : ℕ
   k = n * (width + 1)
 
-  abbrev pub m : ℕ
+  abbrev m : ℕ
   m = word s (graph + 1)
 
   abbrev pub l : Two
@@ -72,18 +73,13 @@ module _ {s : List ℕ} {u table graph n width : ℕ} (q : Splits s u table grap
   abbrev pub h₂ : ℕ
   h₂ = u + 2 * k
 
-  pub reg : Regular N (q .side) (2 * q .half) (entries s table 0 graph 0 m)
-  unfolding graph-at
-  reg = q .regular
-
   pub is-two : 2 * q .half ≡ 2
-  is-two = Grounds.degree-two s table graph n m (2 * q .half) (q .side) reg (q .some) sum
+  is-two = Two-grounds.degree-two q sum
 
   pub ground : Ground l N m k u s
   ground =
       let kk : n * (width + 1) ≡ n * width + n = omega arith in
       let two : n * 2 ≤ n * width = mul-le-mul-left n (q .two) in
-      let at : (i : ℕ) → i < m → _ = Grounds.across-at s table graph n m (2 * q .half) (q .side) reg is-two 0 in
       record {
         first = refl;
         second = refl;
@@ -97,8 +93,8 @@ module _ {s : List ℕ} {u table graph n width : ℕ} (q : Splits s u table grap
         table = q .table;
         ends = λ i side b c.
             elim (ℕ-discrete side 0) [
-              | yes z ↦ subst (λ (x : ℕ). word s x < N) (omega arith) (at i b .first-below)
-              | no z ↦ subst (λ (x : ℕ). word s x < N) (omega arith) (at i b .second-below)
+              | yes z ↦ subst (λ (x : ℕ). word s x < N) (omega arith) (across-at q i b .first-below)
+              | no z ↦ subst (λ (x : ℕ). word s x < N) (omega arith) (across-at q i b .second-below)
             ];
       }
 
@@ -176,34 +172,34 @@ module _ {s : List ℕ} {u table graph n width : ℕ} (q : Splits s u table grap
     pn e = Ends.pn E flag es e
 
     pub copies : (i : ℕ) → i < m → word s (graph + 3 + 2 * i) ≤ 2
-    copies i b = Grounds.copies-two s table graph n m (2 * q .half) (q .side) reg is-two pairs i b
+    copies i b = Two-grounds.copies-two q is-two pairs i b
 
     pub once : (a b : ℕ) → total (Graphs.btw a b) G ≤ 1
-    once a b = Grounds.once s table graph n m (2 * q .half) (q .side) reg is-two pairs a b
+    once a b = Two-grounds.once q is-two pairs a b
 
     pub places-total : (f : Pair → ℕ) → total f r ≡ total (λ e. f (pn e)) es
     places-total f =
-        sym (total-reverse f r) ∙ ap (total f) (Graphs.rest-places ground pairs m) ∙ total-map f pn es
+        sym (total-reverse f r) ∙ ap (total f) (Graphs.rest-are ground pairs m) ∙ total-map f pn es
 
     pub two : Ends.Twos E flag es r
     unfolding pairs-between
     two =
         record {
-          places = Graphs.rest-places ground pairs m;
-          few = Grounds.rest-few s table graph n m (2 * q .half) (q .side) reg is-two pairs;
-          even = Grounds.rest-even s table graph n m (2 * q .half) (q .side) reg is-two pairs;
-          thin = Grounds.rest-thin s table graph n m (2 * q .half) (q .side) reg is-two pairs;
+          places = Graphs.rest-are ground pairs m;
+          few = Two-grounds.rest-few q is-two pairs;
+          even = rest-evens q pairs;
+          thin = Two-grounds.rest-thin q is-two pairs;
           once = λ a b.
               omega (
                 arith,
                 places-total (Graphs.btw a b),
-                Graphs.parts ground pairs copies once a b m (omega arith),
+                Graphs.parts ground pairs copies (Graphs.btw a b) (λ p. refl) m (omega arith),
                 once a b,
               );
         }
 
     pub slant : total (aslant (q .side)) r ≡ 0
-    slant = Grounds.rest-slant s table graph n m (2 * q .half) (q .side) reg is-two pairs
+    slant = rest-slant q pairs
 
     -- a party's half-edges, the last first
     own-done : (v : ℕ) → Fill.at-party ground v done ≡ reverse (Ends.own E flag es v)

@@ -3,7 +3,7 @@
 use Prim.Native.Nat.{ℕ, zero, suc, _+_, _*_, _-_, _/_, _%_, _≤_, _<_}
 use mathlib.Core.Path.{_≡_, refl, sym, _∙_, ap}
 use mathlib.Core.Bool.{Bool, true, false}
-use mathlib.Core.List.{List, [], _∷_, _++_, map, map-append, reverse, reverse-cons, reverse-append, append-assoc, append-nil}
+use mathlib.Core.List.{List, [], _∷_, _++_, map, map-append, reverse, reverse-cons, append-assoc, append-nil}
 use native.Mathlib.Omega.{arith}
 use native.Mathlib.Decide.{ℕ-discrete, decLt}
 use borrow.Author.Tests.{eq-eqb, ne-eqb, le-leb, lt-leb}
@@ -12,19 +12,20 @@ use lib.ListN.{length}
 use Rattle.words.specs.Basics.{pick, total, All}
 use Rattle.words.specs.Words.{word}
 use Rattle.words.specs.Frames.{Keeps}
-use Rattle.words.proofs.Sums.{total-append, total-reverse, total-map}
-use Rattle.multigraph.specs.Multigraph.{Pair, pair, Graph, joins, add-edge, with-copies}
+use Rattle.words.proofs.Sums.{total-append, total-zero-all, all-map}
+use Rattle.multigraph.specs.Multigraph.{Pair, pair, Graph, add-edge, with-copies}
 use Rattle.multigraph.specs.Regular.{between}
 use Rattle.multigraph.specs.Stored.{entry, entries}
-use Rattle.euler.proofs.Grounds.{entries-none, entries-more}
-use Rattle.multigraph.proofs.Ends.{joins-true, between-same, between-self}
+use Rattle.euler.proofs.Grounds.{entries-more, upto-entries, rest-places}
+use Rattle.multigraph.proofs.Ends.{between-same, between-self}
 use Rattle.euler.specs.declared.circuits.Two.{Two}
 use Rattle.euler.specs.Split.{add-halves, rest, add-pairs}
 use Rattle.euler.proofs.RoundEnds as Ends
 use Rattle.euler.proofs.RoundFill as Fill
 use Rattle.euler.proofs.RoundHeld.{Held}
 use Rattle.euler.proofs.RoundFill.{Ground}
-use Rattle.euler.proofs.Dealing.{rest-append, halves-append}
+use Rattle.euler.proofs.HalfLaws as Halves
+use Rattle.euler.proofs.HalfLaws.{not-joined, add-new, Apart-at, bigs, big-yes, big-no}
 use Rattle.euler.proofs.Places.{keep, descend}
 use Rattle.euler.proofs.Nodes.{odds}
 
@@ -34,19 +35,11 @@ use Rattle.euler.proofs.Nodes.{odds}
 abbrev pub btw : ℕ → ℕ → Pair → ℕ
 btw a b p = between a b (p .first) (p .second)
 
-not-joined : (a b : ℕ) (p : Pair) → btw a b p ≡ 0 → joins a b p ≡ false
-not-joined a b p z = go (joins a b p) refl
-  where
-    go : (t : Bool) → joins a b p ≡ t → t ≡ false
-    go false e = refl
-    go true e = absurd (omega (arith, between-same a b (p .first) (p .second) (joins-true a b p e)))
-
 add-behind :
     (h : Graph) (a b n f : ℕ) → total (btw a b) h ≡ 0 → add-edge h a b n f ≡ h ++ (pair a b n f ∷ [])
-unfolding add-edge total
-add-behind [] a b n f z = refl
-add-behind (p ∷ h) a b n f z =
-    rw (not-joined a b p (omega arith)) (ap (λ (x : Graph). p ∷ x) (add-behind h a b n f (omega arith)))
+add-behind h a b n f z =
+    add-new h a b n f
+    (all-map (λ p e. not-joined a b p (λ x. omega (arith, between-same a b (p .first) (p .second) x))) h (total-zero-all (btw a b) h z))
 
 -- where no two pairs have the same ends, all come behind
 pub add-pairs-behind :
@@ -93,12 +86,6 @@ module _ {l : Two} {N m k u : ℕ} {s₀ : List ℕ} (g : Ground l N m k u s₀)
   abbrev at : ℕ → Pair
   at j = entry s₀ (l .ends) pairs (l .g) j
 
-  G-more : (j : ℕ) → G (suc j) ≡ G j ++ (at j ∷ [])
-  G-more j = entries-more s₀ (l .ends) pairs (l .g) j
-
-  G-none : G 0 ≡ []
-  G-none = entries-none s₀ (l .ends) pairs (l .g)
-
   one-copy : (j : ℕ) → with-copies 1 (at j) ≡ pn (num j)
   one-copy j =
       let e : l .ends + 2 * num j + 1 ≡ l .ends + (2 * num j + 1) = omega arith in
@@ -106,35 +93,32 @@ module _ {l : Two} {N m k u : ℕ} {s₀ : List ℕ} (g : Ground l N m k u s₀)
 
   -- ── the rest ──
 
-  pub rest-places : (j : ℕ) → reverse (rest (G j)) ≡ map pn (Fill.odds-of s₀ (l .g) j)
-  unfolding rest keep descend
-  rest-places zero = ap (λ (x : Graph). reverse (rest x)) G-none
-  rest-places (suc j) =
-      ap (λ (x : Graph). reverse (rest x)) (G-more j)
-      ∙ ap reverse (rest-append (G j) (at j))
-      ∙ reverse-append (rest (G j)) (rest (at j ∷ []))
-      ∙ elim (ℕ-discrete (C j % 2) 1) [
-        | yes o ↦ rw (eq-eqb (C j % 2) 1 o) (ap (λ (x : Graph). with-copies 1 (at j) ∷ x) (rest-places j) ∙ ap (λ (p : Pair). p ∷ map pn (Fill.odds-of s₀ (l .g) j)) (one-copy j))
-        | no q ↦ rw (ne-eqb (C j % 2) 1 q) (rest-places j)
-      ]
+  pub rest-are : (j : ℕ) → reverse (rest (G j)) ≡ map pn (Fill.odds-of s₀ (l .g) j)
+  rest-are j = rest-places s₀ (l .ends) (l .g) pairs j ∙ go (odds C (descend j))
+    where
+      go : (xs : List ℕ) → map (λ i. with-copies 1 (at i)) xs ≡ map pn (map num xs)
+      go [] = refl
+      go (x ∷ xs) = rw (one-copy x, go xs)
 
   -- ── both halves before the rest is dealt ──
 
   abbrev evens : ℕ → List ℕ
   evens j = Fill.evens-of s₀ (l .g) j
 
-  btw-at : (a b j : ℕ) → btw a b (at j) ≡ btw a b (pn (num j))
-  btw-at a b j = ap (btw a b) (one-copy j)
-
-  module _ (copies : (i : ℕ) → i < m → C i ≤ 2) (once : (a b : ℕ) → total (btw a b) (G m) ≤ 1) where
-    -- even and odd ones are no more than all
-    pub parts : (a b j : ℕ) → j ≤ m → total (λ e. btw a b (pn e)) (evens j) + total (λ e. btw a b (pn e)) (Fill.odds-of s₀ (l .g) j) ≤ total (btw a b) (G j)
+  module _ (copies : (i : ℕ) → i < m → C i ≤ 2) where
+    -- even and odd ones are no more than all, by any weight that doesn't ask for copies
+    pub parts :
+        (f : Pair → ℕ) → ((p : Pair) → f (with-copies 1 p) ≡ f p) → (j : ℕ) → j ≤ m →
+        total (λ e. f (pn e)) (evens j) + total (λ e. f (pn e)) (Fill.odds-of s₀ (l .g) j) ≤ total f (G j)
     unfolding keep descend total
-    parts a b zero h = omega arith
-    parts a b (suc j) h =
-        let before : total (λ e. btw a b (pn e)) (evens j) + total (λ e. btw a b (pn e)) (Fill.odds-of s₀ (l .g) j) ≤ total (btw a b) (G j) = parts a b j (omega arith) in
-        let more : total (btw a b) (G (suc j)) ≡ total (btw a b) (G j) + btw a b (pn (num j)) =
-        ap (total (btw a b)) (G-more j) ∙ total-append (btw a b) (G j) (at j ∷ []) ∙ omega (arith, btw-at a b j) in
+    parts f same zero h = omega arith
+    parts f same (suc j) h =
+        let before : total (λ e. f (pn e)) (evens j) + total (λ e. f (pn e)) (Fill.odds-of s₀ (l .g) j) ≤ total f (G j) =
+        parts f same j (omega arith) in
+        let more : total f (G (suc j)) ≡ total f (G j) + f (pn (num j)) =
+        ap (total f) (entries-more s₀ (l .ends) (l .g) pairs j)
+        ∙ total-append f (G j) (at j ∷ [])
+        ∙ omega (arith, same (at j), ap f (one-copy j)) in
         elim (decLt (C j) 2) [
           | yes q ↦ rw (lt-leb 2 (C j) q) (odd (eqb (C j % 2) 1) before more)
           | no q ↦
@@ -144,59 +128,33 @@ module _ {l : Two} {N m k u : ℕ} {s₀ : List ℕ} (g : Ground l N m k u s₀)
       where
         odd :
             (q : Bool) →
-            total (λ e. btw a b (pn e)) (evens j) + total (λ e. btw a b (pn e)) (Fill.odds-of s₀ (l .g) j) ≤ total (btw a b) (G j) →
-            total (btw a b) (G (suc j)) ≡ total (btw a b) (G j) + btw a b (pn (num j)) →
-            total (λ e. btw a b (pn e)) (evens j)
-            + total (λ e. btw a b (pn e)) (map num (pick q (j ∷ odds C (descend j)) (odds C (descend j))))
-            ≤ total (btw a b) (G (suc j))
+            total (λ e. f (pn e)) (evens j) + total (λ e. f (pn e)) (Fill.odds-of s₀ (l .g) j) ≤ total f (G j) →
+            total f (G (suc j)) ≡ total f (G j) + f (pn (num j)) →
+            total (λ e. f (pn e)) (evens j)
+            + total (λ e. f (pn e)) (map num (pick q (j ∷ odds C (descend j)) (odds C (descend j))))
+            ≤ total f (G (suc j))
         odd true x y = omega arith
         odd false x y = omega arith
 
-    G-grows : (a b j : ℕ) → j ≤ m → total (btw a b) (G j) ≤ 1
-    G-grows a b j h = go (m - j) j (omega arith)
-      where
-        go : (d j : ℕ) → d + j ≡ m → total (btw a b) (G j) ≤ 1
-        go zero j e = let q : j ≡ m = omega arith in rw q (once a b)
-        go (suc d) j e =
-            omega (
-              arith,
-              go d (suc j) (omega arith),
-              ap (total (btw a b)) (G-more j),
-              total-append (btw a b) (G j) (at j ∷ []),
-            )
-
-    pub halves-are : (j : ℕ) → j ≤ m → add-halves [] (G j) ≡ map pn (reverse (evens j))
-    unfolding keep descend add-halves total
-    halves-are zero h = ap (add-halves []) G-none
-    halves-are (suc j) h =
-        let before : add-halves [] (G j) ≡ map pn (reverse (evens j)) = halves-are j (omega arith) in
-        let step : add-halves [] (G (suc j)) ≡ pick (leb 2 (C j)) (add-edge (add-halves [] (G j)) (at j .first) (at j .second) (C j / 2) (flag (num j))) (add-halves [] (G j)) =
-        ap (add-halves []) (G-more j) ∙ halves-append [] (G j) (at j) in
+    -- a half's big entries are the pairs of 2 copies
+    bigs-are : (j : ℕ) → j ≤ m → bigs at (λ i. 0) j ≡ map pn (reverse (evens j))
+    unfolding bigs keep descend
+    bigs-are zero h = refl
+    bigs-are (suc j) h =
         elim (decLt (C j) 2) [
-          | yes q ↦ step ∙ rw (lt-leb 2 (C j) q) before
+          | yes q ↦ rw (big-no at j 0 q, lt-leb 2 (C j) q) (append-nil (bigs at (λ i. 0) j) ∙ bigs-are j (omega arith))
           | no q ↦
               let t : 2 ≤ C j = omega arith in
-              let c : C j / 2 ≡ 1 = omega (arith, copies j (omega arith)) in
-              let a : ℕ = at j .first in
-              let b : ℕ = at j .second in
-              let few : total (btw a b) (map pn (reverse (evens j))) ≤ total (btw a b) (G j) =
-              omega (arith, total-map (btw a b) pn (reverse (evens j)), total-reverse (λ e. btw a b (pn e)) (evens j), parts a b j (omega arith)) in
-              let new : total (btw a b) (map pn (reverse (evens j))) ≡ 0 =
-              omega (
-                arith,
-                few,
-                G-grows a b (suc j) h,
-                ap (total (btw a b)) (G-more j),
-                total-append (btw a b) (G j) (at j ∷ []),
-                between-self a b,
-              ) in
-              step
-              ∙ rw (le-leb 2 (C j) t, c, before) (add-behind (map pn (reverse (evens j))) a b 1 (flag (num j)) new)
-              ∙ ap (λ (x : Pair). map pn (reverse (evens j)) ++ (x ∷ [])) (one-copy j)
-              ∙ sym (map-append pn (reverse (evens j)) (num j ∷ []))
-              ∙ ap (map pn) (sym (reverse-cons (num j) (evens j)))
-              ∙ rw (le-leb 2 (C j) t)
+              let c : C j / 2 + 0 ≡ 1 = omega (arith, copies j (omega arith)) in
+              rw (big-yes at j 0 t, le-leb 2 (C j) t, c, one-copy j, bigs-are j (omega arith))
+              (sym (map-append pn (reverse (evens j)) (num j ∷ [])) ∙ ap (map pn) (sym (reverse-cons (num j) (evens j))))
         ]
+
+    pub halves-are : Apart-at at m → add-halves [] (G m) ≡ map pn (reverse (evens m))
+    halves-are apart =
+        ap (add-halves []) (sym (upto-entries s₀ (l .ends) (l .g) pairs m))
+        ∙ Halves.halves-are at m apart m (omega arith)
+        ∙ bigs-are m (omega arith)
 
   -- ── what a half holds ──
 
@@ -213,5 +171,5 @@ module _ {l : Two} {N m k u : ℕ} {s₀ : List ℕ} (g : Ground l N m k u s₀)
       rw (d .0, d .1)
       (ap (λ (x : ℕ). pair x (word t (l .ends + 2 * e + 1)) 1 (flag e)) (kept .same (l .ends + 2 * e) (omega arith))
       ∙ ap (λ (x : ℕ). pair (E (2 * e)) x 1 (flag e)) (kept .same (l .ends + 2 * e + 1) table ∙ ap (word s₀) (omega arith))) in
-      entries-more t (l .ends) pairs h j
+      entries-more t (l .ends) h pairs j
       ∙ rw (one, held-graph t h ds kept (nums .1) (d .2)) (sym (ap (map pn) (reverse-cons e ds) ∙ map-append pn (reverse ds) (e ∷ [])))

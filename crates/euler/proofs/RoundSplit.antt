@@ -29,6 +29,7 @@ use Rattle.euler.proofs.RoundFill.{Ground}
 use Rattle.euler.proofs.RoundWalk as Walk
 use Rattle.euler.proofs.RoundGraph as Graphs
 use Rattle.euler.proofs.RoundBegun as Begun
+use Rattle.euler.proofs.Grounds.{apart-at}
 use Rattle.euler.proofs.RoundModelLaws.{few-sum-all}
 
 every-other-le : (f : Pair → ℕ) (b : Bool) (c : List Pair) → total f (every-other b c) ≤ total f c
@@ -133,7 +134,7 @@ module _ {s : List ℕ} {u table graph n width : ℕ} (q : Splits s u table grap
         add-pairs (add-halves [] G) (every-other b (along (tour .cycles))) ≡ map pn (reverse ds)
     behind b ds e =
         let dealt : List Pair = every-other b (along (tour .cycles)) in
-        ap (λ (x : Graph). add-pairs x dealt) (Graphs.halves-are ground pairs copies once m (omega arith))
+        ap (λ (x : Graph). add-pairs x dealt) (Graphs.halves-are ground pairs copies (apart-at q pairs))
         ∙ Graphs.add-pairs-behind (map pn (reverse ps)) dealt
         (all-right (λ (p : Pair). p .copies ≡ 1) (map pn (reverse ps)) dealt (subst (All (λ (p : Pair). p .copies ≡ 1)) e (ones (reverse ds))))
         (λ x y.
@@ -145,7 +146,7 @@ module _ {s : List ℕ} {u table graph n width : ℕ} (q : Splits s u table grap
           along-total (Graphs.btw x y) (tour .cycles),
           walk-done .rounded .so-far .toured .whole (Graphs.btw x y),
           Begun.places-total q sum pairs (Graphs.btw x y),
-          Graphs.parts ground pairs copies once x y m (omega arith),
+          Graphs.parts ground pairs copies (Graphs.btw x y) (λ p. refl) m (omega arith),
           once x y,
         ))
         ∙ sym e
@@ -291,14 +292,14 @@ module _ {s : List ℕ} {u table graph n width : ℕ} (q : Splits s u table grap
   filled-is : _≡_ {A = Told} (record { words = twoFilledM l sifted; number = sifted .sifted .even }) (w₀ 0)
   filled-is = rw (Begun.sift q sum .odd, Begun.sift q sum .even)
 
-  pub split-two-stored : Halves-stored s (splitTwoM l m N s) u (u + 4 * k) table graph n width
+  split-two-stored : Halves-stored s (splitTwoM l m N s) u (u + 4 * k) table graph n width
   unfolding splitTwoM
   split-two-stored =
       subst (λ (x : Told). Halves-stored s (headM h₂ (headM u (twoWalkM l m N x .words) (twoWalkM l m N x .number)) (twoWalkM l m N x .number)) u (u + 4 * k) table graph n width)
       (sym filled-is) two-stored
 
   -- every place that it touches is one
-  pub split-two-fits : Two-splits l m N s
+  split-two-fits : Two-splits l m N s
   split-two-fits =
       record {
         starts = omega (arith, q .room, ground .few);
@@ -316,17 +317,17 @@ module _ {s : List ℕ} {u table graph n width : ℕ} (q : Splits s u table grap
 
 -- ── for the code's proof ──
 
+-- what `split_two` asks, and what its words hold
 pub split-two-asks :
-    (s : List ℕ) (u table graph n width m r : ℕ) → Splits s u table graph n width → ((i : ℕ) → word s i < 4294967296) →
+    {s : List ℕ} {u table graph n width m r : ℕ} → Splits s u table graph n width → ((i : ℕ) → word s i < 4294967296) →
     m ≡ word s (graph + 1) → r ≡ fewSumM graph m (2 * n) s → r ≡ 2 * n →
     Lies (two-laid u (n * (width + 1)) table graph)
     × (m < 4294967296)
     × (2 * n < 4294967296)
     × Two-splits (two-laid u (n * (width + 1)) table graph) m (2 * n) s
-split-two-asks s u table graph n width m r q fit em er e =
+split-two-asks {s = s} {graph = graph} {n = n} {m = m} q fit em er e =
     let sum : copiesSumM graph m s ≡ 2 * n = few-sum-all graph m (2 * n) s (omega (arith, q .some)) (sym er ∙ e) in
-    let g : Ground (two-laid u (n * (width + 1)) table graph) (2 * n) (word s (graph + 1)) (n * (width + 1)) u s =
-    Begun.ground q (rw em at sum) in (
+    let g = Begun.ground q (rw em at sum) in (
       record {
         graph = omega (arith, q .graph, q .room, q .short);
         table = omega (arith, q .base, q .room, q .short, g .entries);
@@ -341,11 +342,9 @@ split-two-asks s u table graph n width m r q fit em er e =
     )
 
 pub split-two-gives :
-    (s : List ℕ) (u table graph n width m r : ℕ) (t : List ℕ) → Splits s u table graph n width → m ≡ word s (graph + 1) → r ≡ fewSumM graph m (2 * n) s → r ≡ 2 * n →
-    t ≡ splitTwoM (two-laid u (n * (width + 1)) table graph) m (2 * n) s →
+    {s t : List ℕ} {u table graph n width m r : ℕ} → Splits s u table graph n width → m ≡ word s (graph + 1) →
+    r ≡ fewSumM graph m (2 * n) s → r ≡ 2 * n → t ≡ splitTwoM (two-laid u (n * (width + 1)) table graph) m (2 * n) s →
     Halves-stored s t u (u + 4 * (n * (width + 1))) table graph n width
-split-two-gives s u table graph n width m r t q em er e et =
+split-two-gives {s = s} {graph = graph} {n = n} {m = m} q em er e et =
     let sum : copiesSumM graph m s ≡ 2 * n = few-sum-all graph m (2 * n) s (omega (arith, q .some)) (sym er ∙ e) in
-    subst (λ (x : List ℕ). Halves-stored s x u (u + 4 * (n * (width + 1))) table graph n width)
-    (sym (et ∙ ap (λ (x : ℕ). splitTwoM (two-laid u (n * (width + 1)) table graph) x (2 * n) s) em))
-    (split-two-stored q (rw em at sum))
+    rw (et, em) (split-two-stored q (rw em at sum))

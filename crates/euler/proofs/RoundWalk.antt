@@ -22,8 +22,8 @@ use Rattle.euler.proofs.Taken.{ends}
 use Rattle.euler.proofs.Trail.{aslant}
 use Rattle.euler.proofs.Straight.{along, along-total, every-other-even}
 use Rattle.euler.proofs.Rounds.{trace}
-use Rattle.euler.proofs.Places.{keep, descend}
-use Rattle.euler.proofs.Nodes.{odds}
+use Rattle.euler.proofs.StoredGraphs.{entries-length}
+use Rattle.euler.proofs.RoundGraph as Graphs
 use Rattle.euler.proofs.RoundEnds as Ends
 use Rattle.euler.proofs.RoundTours as Tours
 use Rattle.euler.proofs.RoundFill as Fill
@@ -148,26 +148,16 @@ module _ {l : Two} {N m k u : ℕ} {s₀ : List ℕ} (g : Ground l N m k u s₀)
       pub second-nums : All Num seconds
 
     -- no more than the graph has
-    split-length : (j : ℕ) → j ≤ m → length (Fill.evens-of s₀ (l .g) j) + length (Fill.odds-of s₀ (l .g) j) ≤ j
-    unfolding keep descend
-    split-length zero b = omega arith
-    split-length (suc j) b =
-        let c : ℕ = Fill.C g j in
-        let before : length (Fill.evens-of s₀ (l .g) j) + length (Fill.odds-of s₀ (l .g) j) ≤ j = split-length j (omega arith) in
-        elim (decLt c 2) [
-          | yes q ↦ rw (lt-leb 2 c q) (one (eqb (c % 2) 1) before)
-          | no q ↦
-              let t : 2 ≤ c = omega arith in
-              rw (le-leb 2 c t, ne-eqb (c % 2) 1 (λ e. omega (arith, copies j (omega arith)))) (omega arith)
-        ]
-      where
-        one :
-            (q : Bool) → length (Fill.evens-of s₀ (l .g) j) + length (Fill.odds-of s₀ (l .g) j) ≤ j →
-            length (Fill.evens-of s₀ (l .g) j)
-            + length (map (Fill.num g) (pick q (j ∷ odds (Fill.C g) (descend j)) (odds (Fill.C g) (descend j))))
-            ≤ suc j
-        one true h = omega arith
-        one false h = omega arith
+    split-length : length ps + length es ≤ m
+    split-length =
+        omega (
+          arith,
+          Graphs.parts g 0 copies (λ p. 1) (λ p. refl) m (omega arith),
+          total-const 1 ps,
+          total-const 1 es,
+          total-const 1 (Graphs.G g 0 m),
+          entries-length s₀ (l .ends) 0 (l .g) 0 m,
+        )
 
     few-along : (t : Tour) (v : ℕ) → Rounded v t → length (along (t .cycles)) ≤ length es
     few-along t v h =
@@ -183,7 +173,7 @@ module _ {l : Two} {N m k u : ℕ} {s₀ : List ℕ} (g : Ground l N m k u s₀)
         )
 
     pub walked-few : (v : ℕ) (w : Told) → Walked v w → w .number ≤ m
-    walked-few v w h = omega (arith, h .size, few-along (h .tour) v (h .rounded), split-length m (omega arith))
+    walked-few v w h = omega (arith, h .size, few-along (h .tour) v (h .rounded), split-length)
 
     -- the pairs of one half with a round dealt to it
     dealt-pairs :
@@ -277,7 +267,7 @@ module _ {l : Two} {N m k u : ℕ} {s₀ : List ℕ} (g : Ground l N m k u s₀)
         let grown : length (along (t' .cycles)) ≡ length (along (t .cycles)) + length (o .cycle) =
         ap length (o .along-more) ∙ length-append (along (t .cycles)) (o .cycle) in
         let room : w .number + suc n ≤ m =
-        omega (arith, h .size, grown, d .1, twice, few-along t' (suc v) after, split-length m (omega arith)) in
+        omega (arith, h .size, grown, d .1, twice, few-along t' (suc v) after, split-length) in
         let half : Half y = Steps.ended g flag r two .late-half v some .0 in
         let back : iterate (double (suc n)) next y ≡ y = ap (λ (c : ℕ). iterate c next y) (sym (d .1)) ∙ o .round .closes in
         let not : (j : ℕ) → 0 < j → j < suc n → (iterate (double j) next y ≡ y → ⊥) =

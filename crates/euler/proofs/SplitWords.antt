@@ -12,9 +12,8 @@ use Rattle.words.specs.Basics.{pick, total, count, ran}
 use Rattle.words.specs.Words.{word}
 use Rattle.words.proofs.Sums.{total-reverse}
 use Rattle.words.proofs.Frames.{keeps-less, keeps-trans}
-use Rattle.multigraph.specs.Multigraph.{Pair, Graph, joins}
-use Rattle.multigraph.specs.Regular.{Regular}
-use Rattle.multigraph.specs.Stored.{entries, graph-at}
+use Rattle.multigraph.specs.Multigraph.{Pair, Graph}
+use Rattle.multigraph.specs.Stored.{entry, entries, graph-at}
 use Rattle.euler.specs.declared.Rings.{Rings}
 use Rattle.euler.specs.Split.{add-halves, rest, every-other, add-pairs, rbmg-split-into-two}
 use Rattle.euler.specs.Room.{Splits, Halves-stored}
@@ -23,18 +22,18 @@ use Rattle.euler.specs.Model.{Fits, Stage, copiesM, fillM, walked, halfM
 use Rattle.euler.proofs.Taken.{ends}
 use Rattle.euler.proofs.Straight.{along, along-total, Same-tour, same-tour, split-along}
 use Rattle.euler.proofs.Places.{keep}
-use Rattle.euler.proofs.Bases.{Laid, first-at, second-at}
+use Rattle.euler.proofs.Bases.{Laid}
 use Rattle.euler.proofs.Filling.{filled, fills-on}
 use Rattle.euler.proofs.Columns.{column-same}
 use Rattle.euler.proofs.Stepping.{Walked-all, walked-all, walks-on}
 use Rattle.euler.proofs.Parities.{dealt, dealt-all, dealt-count, every-other-dealt}
-use Rattle.euler.proofs.HalfLaws.{held, bigs, small, one, halves-are, half-of, deal-all}
+use Rattle.euler.proofs.HalfLaws.{Apart-at, bigs, one, halves-are, half-of, deal-all}
 use Rattle.euler.proofs.StoredGraphs.{Only, Same-entry, entries-same}
 use Rattle.euler.proofs.Pushes.{Ready}
 use Rattle.euler.proofs.HalfWords.{Half-done, half-done, half-fits}
-use Rattle.euler.proofs.Grounds.{few-pairs, joins-apart, ends-fit, rest-odd, rest-slant, rest-evens, places-once, upto-entries}
+use Rattle.euler.proofs.Grounds.{upto-entries, few-pairs, apart-at, ends-fit, rest-odd, rest-slant, rest-evens, places-once}
 
-module _ (s : List ℕ) (u ends g n width : ℕ) (q : Splits s u ends g n width) (fit : (i : ℕ) → word s i < 4294967296) where
+module _ {s : List ℕ} {u ends g n width : ℕ} (q : Splits s u ends g n width) (fit : (i : ℕ) → word s i < 4294967296) where
   abbrev N : ℕ
   N = 2 * n
 
@@ -49,10 +48,6 @@ module _ (s : List ℕ) (u ends g n width : ℕ) (q : Splits s u ends g n width)
 
   abbrev h₂ : ℕ
   h₂ = u + 2 * k
-
-  reg : Regular N (q .side) (2 * q .half) (entries s ends 0 g 0 m)
-  unfolding graph-at
-  reg = q .regular
 
   -- ── room ──
 
@@ -72,18 +67,13 @@ module _ (s : List ℕ) (u ends g n width : ℕ) (q : Splits s u ends g n width)
         short = omega (arith, q .pairs, q .size);
         graph = omega (arith, q .graph);
         table = λ i b. omega (arith, q .table i b);
-        fit = ends-fit l s N m (q .side) (2 * q .half) reg;
+        fit = ends-fit q;
       }
 
   module _ (pairs : ℕ) where
-    abbrev C : ℕ → ℕ
-    C i = copiesM l s i
-
-    abbrev F : ℕ → ℕ
-    F i = first-at l s i
-
-    abbrev S : ℕ → ℕ
-    S i = second-at l s i
+    -- the graph's entries
+    abbrev A : ℕ → Pair
+    A i = entry s ends pairs g i
 
     abbrev flag : ℕ → ℕ
     flag i = pick (leb pairs (word s (g + 2 + 2 * i))) 1 0
@@ -94,76 +84,76 @@ module _ (s : List ℕ) (u ends g n width : ℕ) (q : Splits s u ends g n width)
     abbrev r : Graph
     r = rest G
 
-    apart : (i j c : ℕ) → i < m → j < m → (i ≡ j → ⊥) → joins (F i) (S i) (held C F S flag j c) ≡ false
-    apart i j c b e x = joins-apart l s N m (q .side) (2 * q .half) reg i j c (flag j) b e x
+    apart : Apart-at A m
+    apart = apart-at q pairs
 
     tours : Same-tour N r
     tours =
-        same-tour (q .side) r (rest-slant l s N m (q .side) (2 * q .half) reg pairs)
-        (rest-evens l s N m (q .side) (2 * q .half) reg pairs (q .half) refl) N
+        same-tour (q .side) r (rest-slant q pairs)
+        (rest-evens q pairs) N
 
     -- the walk on words, over filled rings
     abbrev ended : Stage
     ended = walked l m N s
 
     walk-done :
-        Walked-all grounds flag r (q .side) (rest-slant l s N m (q .side) (2 * q .half) reg pairs)
-        (rest-evens l s N m (q .side) (2 * q .half) reg pairs (q .half) refl) ended
+        Walked-all grounds flag r (q .side) (rest-slant q pairs)
+        (rest-evens q pairs) ended
     walk-done =
-        walked-all grounds flag r (q .side) (rest-slant l s N m (q .side) (2 * q .half) reg pairs)
-        (rest-evens l s N m (q .side) (2 * q .half) reg pairs (q .half) refl) (fillM l m N s) (filled grounds flag)
-        (rest-odd l s N m (q .side) (2 * q .half) reg pairs)
+        walked-all grounds flag r (q .side) (rest-slant q pairs)
+        (rest-evens q pairs) (fillM l m N s) (filled grounds flag)
+        (rest-odd q pairs)
 
     walks : Walks l N (2 * m + N) (fillM l m N s)
     walks =
-        walks-on grounds flag r (q .side) (rest-slant l s N m (q .side) (2 * q .half) reg pairs)
-        (rest-evens l s N m (q .side) (2 * q .half) reg pairs (q .half) refl) (fillM l m N s) (2 * m + N) (filled grounds flag)
-        (rest-odd l s N m (q .side) (2 * q .half) reg pairs)
+        walks-on grounds flag r (q .side) (rest-slant q pairs)
+        (rest-evens q pairs) (fillM l m N s) (2 * m + N) (filled grounds flag)
+        (rest-odd q pairs)
 
     abbrev ws : List ℕ
     ws = walk-done .ws
 
     -- what is written is along the cycles
-    along-is : along (tours .tour .cycles) ≡ reverse (map (one C F S flag) ws)
+    along-is : along (tours .tour .cycles) ≡ reverse (map (one A) ws)
     along-is = sym (tours .written) ∙ ap reverse (sym (walk-done .same))
 
-    written-few : (f : Pair → ℕ) → total f (map (one C F S flag) ws) ≤ total f r
+    written-few : (f : Pair → ℕ) → total f (map (one A) ws) ≤ total f r
     written-few f =
         omega (
           arith,
-          total-reverse f (map (one C F S flag) ws),
+          total-reverse f (map (one A) ws),
           ap (total f) along-is,
           along-total f (tours .tour .cycles),
           tours .so-far .toured .whole f,
         )
 
     once : (i : ℕ) → count i ws ≤ 1
-    once = places-once l s N m (q .side) (2 * q .half) reg pairs ws (walk-done .places) written-few
+    once = places-once q pairs ws (walk-done .places) written-few
 
     -- ── the definition's halves ──
 
     -- both halves before the rest is dealt
-    undealt : add-halves [] G ≡ half-of C F S flag m apart []
+    undealt : add-halves [] G ≡ half-of A m apart []
     unfolding keep count
     undealt =
-        ap (add-halves []) (sym (upto-entries l s N m (q .side) (2 * q .half) reg pairs m))
-        ∙ halves-are C F S flag m apart m (omega arith)
-        ∙ sym (append-nil (bigs C F S flag (λ i. 0) m))
+        ap (add-halves []) (sym (upto-entries s ends g pairs m))
+        ∙ halves-are A m apart m (omega arith)
+        ∙ sym (append-nil (bigs A (λ i. 0) m))
 
-    dealt-half : (b : Bool) → add-pairs (add-halves [] G) (every-other b (along (tours .tour .cycles))) ≡ half-of C F S flag m apart (dealt (pick b 0 1) ws)
+    dealt-half : (b : Bool) → add-pairs (add-halves [] G) (every-other b (along (tours .tour .cycles))) ≡ half-of A m apart (dealt (pick b 0 1) ws)
     dealt-half b =
         let cs : List ℕ = dealt (pick b 0 1) ws in
         ap (λ (x : List Pair). add-pairs (add-halves [] G) (every-other b x)) along-is
-        ∙ ap (add-pairs (add-halves [] G)) (every-other-dealt (one C F S flag) b ws)
-        ∙ ap (λ (x : Graph). add-pairs x (map (one C F S flag) cs)) undealt
-        ∙ deal-all C F S flag m apart cs [] tt (dealt-all (λ i. i < m) (pick b 0 1) ws (walk-done .places))
+        ∙ ap (add-pairs (add-halves [] G)) (every-other-dealt (one A) b ws)
+        ∙ ap (λ (x : Graph). add-pairs x (map (one A) cs)) undealt
+        ∙ deal-all A m apart cs [] tt (dealt-all (λ i. i < m) (pick b 0 1) ws (walk-done .places))
         (λ i. omega (arith, dealt-count i (pick b 0 1) ws, once i))
 
     splits-into :
         rbmg-split-into-two N G
         ≡ ran (record {
-          first-half = half-of C F S flag m apart (dealt 0 ws);
-          second-half = half-of C F S flag m apart (dealt 1 ws);
+          first-half = half-of A m apart (dealt 0 ws);
+          second-half = half-of A m apart (dealt 1 ws);
         })
     splits-into = split-along N G (tours .tour) (tours .so-far) ∙ rw (dealt-half true, dealt-half false)
 
@@ -189,7 +179,7 @@ module _ (s : List ℕ) (u ends g n width : ℕ) (q : Splits s u ends g n width)
           | no p ↦
               let one' : n ≡ 1 = omega (arith, q .some) in
               let all : n * (width + 1) ≡ 1 * (width + 1) = ap (λ (x : ℕ). x * (width + 1)) one' in
-              omega (arith, few-pairs l s N m (q .side) (2 * q .half) reg (omega arith), q .two)
+              omega (arith, few-pairs q (omega arith), q .two)
         ]
 
     ready-first : Ready l m k u u wr s s₂ ws
@@ -214,7 +204,7 @@ module _ (s : List ℕ) (u ends g n width : ℕ) (q : Splits s u ends g n width)
           small = omega (arith, q .short);
         }
 
-    first-done : Half-done pairs 0 ready-first (omega arith) apart s₃ (half-of C F S flag m apart (dealt 0 ws))
+    first-done : Half-done pairs 0 ready-first (omega arith) apart s₃ (half-of A m apart (dealt 0 ws))
     first-done = half-done pairs 0 ready-first (omega arith) apart
 
     ready-second : Ready l m k u h₂ wr s s₃ ws
@@ -240,7 +230,7 @@ module _ (s : List ℕ) (u ends g n width : ℕ) (q : Splits s u ends g n width)
           small = omega (arith, q .short);
         }
 
-    second-done : Half-done pairs 1 ready-second (omega arith) apart s₄ (half-of C F S flag m apart (dealt 1 ws))
+    second-done : Half-done pairs 1 ready-second (omega arith) apart s₄ (half-of A m apart (dealt 1 ws))
     second-done = half-done pairs 1 ready-second (omega arith) apart
 
     -- the second half leaves the first
@@ -262,7 +252,7 @@ module _ (s : List ℕ) (u ends g n width : ℕ) (q : Splits s u ends g n width)
     first-count-is : word s₄ (u + 1) ≡ word s₃ (u + 1)
     first-count-is = first-word (u + 1) (omega (arith, less))
 
-    first-graph : graph-at s₄ ends pairs u ≡ half-of C F S flag m apart (dealt 0 ws)
+    first-graph : graph-at s₄ ends pairs u ≡ half-of A m apart (dealt 0 ws)
     unfolding graph-at
     first-graph =
         ap (entries s₄ ends pairs u 0) first-count-is
@@ -276,7 +266,7 @@ module _ (s : List ℕ) (u ends g n width : ℕ) (q : Splits s u ends g n width)
     stored = splits-into ∙ rw (← first-graph, ← second-done .graph)
 
   -- Module 4 of document 01, on words.
-  pub split-stored : Halves-stored s (splitM l u h₂ m N s) u (u + 4 * k) ends g n width
+  split-stored : Halves-stored s (splitM l u h₂ m N s) u (u + 4 * k) ends g n width
   unfolding splitM
   split-stored =
       record {
@@ -300,7 +290,7 @@ module _ (s : List ℕ) (u ends g n width : ℕ) (q : Splits s u ends g n width)
       }
 
   -- every place that it touches is one
-  pub split-fits : Split-fits l u h₂ m N s
+  split-fits : Split-fits l u h₂ m N s
   split-fits =
       record {
         fills = fills-on grounds (λ i. 0);
@@ -316,14 +306,16 @@ width-small s u ends g n width q =
     let one : 1 * (width + 1) ≤ n * (width + 1) = mul-le-mul-right (width + 1) (q .some) in
     omega (arith, q .size)
 
+-- what `split_words` asks, and what its words hold
 pub split-asks :
-    (s : List ℕ) (u ends g n width m : ℕ) → Splits s u ends g n width → m < 4294967296 →
+    {s : List ℕ} {u ends g n width m : ℕ} → Splits s u ends g n width → ((i : ℕ) → word s i < 4294967296) → m ≡ word s (g + 1) →
     Fits (laid u (n * (width + 1)) ends g)
     × (u < 4294967296)
     × (u + 2 * (n * (width + 1)) < 4294967296)
     × (m < 4294967296)
     × (2 * n < 4294967296)
-split-asks s u ends g n width m q b =
+    × Split-fits (laid u (n * (width + 1)) ends g) u (u + 2 * (n * (width + 1))) m (2 * n) s
+split-asks {g = g} {n = n} {width = width} q fit em =
     let one : 1 * (width + 1) ≤ n * (width + 1) = mul-le-mul-right (width + 1) (q .some) in (
       record {
         graph = omega (arith, q .graph, q .room, q .short);
@@ -334,6 +326,13 @@ split-asks s u ends g n width m q b =
       },
       omega (arith, q .room, q .short),
       omega (arith, q .room, q .short),
-      b,
+      omega (arith, em, fit (g + 1)),
       omega (arith, q .few),
+      rw em (split-fits q fit),
     )
+
+pub split-gives :
+    {s t : List ℕ} {u ends g n width m : ℕ} → Splits s u ends g n width → ((i : ℕ) → word s i < 4294967296) → m ≡ word s (g + 1) →
+    t ≡ splitM (laid u (n * (width + 1)) ends g) u (u + 2 * (n * (width + 1))) m (2 * n) s →
+    Halves-stored s t u (u + 4 * (n * (width + 1))) ends g n width
+split-gives q fit em et = rw (et, em) (split-stored q fit)
