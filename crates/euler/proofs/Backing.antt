@@ -160,7 +160,7 @@ module _ {l : Rings} {N m k : ℕ} {s₀ : List ℕ} (g : Laid l N m k s₀) (fl
     live-next s w xs ws is h b z q =
         let flat : w .height ≡ 0 = omega arith in
         let bare : xs ≡ [] = sym (h .stack) ∙ ap (column l true s) flat in
-        let home : w .at ≡ w .next = ap (bottom g flag (w .at)) (sym bare) ∙ h .rooted in
+        let home : w .at ≡ w .next = ap (bottom (w .at)) (sym bare) ∙ h .rooted in
         let vb : w .at < N = omega arith in
         let empty : first-pair (w .next) (map Q is) ≡ none =
         rw home at (first-none Q (w .at) is (h .falling) (stuck-row g flag r s w xs ws is h vb q)) in

@@ -55,8 +55,8 @@ module _ {l : Rings} {N m k : ℕ} {s₀ : List ℕ} (g : Laid l N m k s₀) (fl
     pub marks : (i : ℕ) → i < m → word s (l .b + 8 * i + 2) ≡ mark-of i ws
     pub falling : Falling is
     pub size : length is + w .height + w .written ≡ length (odd-places m C)
-    pub rooted : bottom g flag (w .at) xs ≡ w .next
-    pub sound : w .next < N → Sound g flag (w .at) xs
+    pub rooted : bottom (w .at) xs ≡ w .next
+    pub sound : w .next < N → Sound N m (w .at) xs
     pub places : All (λ (i : ℕ). i < m) ws
     pub inside : w .next ≤ N
     pub reached : (j : ℕ) × (walking g flag (w .at) xs is ws ≡ iterate j (walk-step (w .next)) (straight (w .next) r))

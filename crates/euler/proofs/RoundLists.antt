@@ -9,7 +9,7 @@ use Rattle.words.specs.Basics.{All}
 use Rattle.multigraph.specs.Multigraph.{Pair}
 use Rattle.euler.specs.Split.{every-other}
 use Rattle.euler.proofs.Rounds.{trace}
-use Rattle.euler.proofs.RoundSteps.{double, others, numbers}
+use Rattle.euler.proofs.RoundSteps.{double, numbers}
 
 pub double-is : (n : ℕ) → double n ≡ 2 * n
 unfolding double
@@ -31,8 +31,8 @@ pub map-numbers : (f : ℕ → Pair) (hs : List ℕ) → map f (numbers hs) ≡ 
 map-numbers f [] = refl
 map-numbers f (y ∷ hs) = ap (λ (l : List Pair). f (y / 2) ∷ l) (map-numbers f hs)
 
-pub others-length : (n : ℕ) (hs : List ℕ) → length hs ≡ double n → (b : Bool) → length (others b hs) ≡ n
-unfolding others double
+pub others-length : (n : ℕ) (hs : List ℕ) → length hs ≡ double n → (b : Bool) → length (every-other b hs) ≡ n
+unfolding every-other double
 others-length zero [] e true = refl
 others-length zero [] e false = refl
 others-length zero (y ∷ hs) e b = absurd (omega arith)
@@ -41,8 +41,8 @@ others-length (suc n) (y ∷ []) e b = absurd (omega arith)
 others-length (suc n) (y ∷ z ∷ hs) e true = ap suc (others-length n hs (omega arith) true)
 others-length (suc n) (y ∷ z ∷ hs) e false = ap suc (others-length n hs (omega arith) false)
 
-pub others-all : (Q : ℕ → Type 0) (b : Bool) (hs : List ℕ) → All Q hs → All Q (others b hs)
-unfolding others
+pub others-all : (Q : ℕ → Type 0) (b : Bool) (hs : List ℕ) → All Q hs → All Q (every-other b hs)
+unfolding every-other
 others-all Q true [] h = tt
 others-all Q false [] h = tt
 others-all Q true (y ∷ hs) h = (h .0, others-all Q false hs (h .1))
@@ -57,8 +57,8 @@ unfolding trace
 trace-length f zero x = refl
 trace-length f (suc n) x = ap suc (trace-length f n (f x))
 
-pub others-map : (f : ℕ → Pair) (b : Bool) (hs : List ℕ) → map f (others b hs) ≡ every-other b (map f hs)
-unfolding others every-other
+pub others-map : (f : ℕ → Pair) (b : Bool) (hs : List ℕ) → map f (every-other b hs) ≡ every-other b (map f hs)
+unfolding every-other
 others-map f true [] = refl
 others-map f false [] = refl
 others-map f true (y ∷ hs) = ap (λ (l : List Pair). f y ∷ l) (others-map f false hs)

@@ -32,13 +32,7 @@ unfoldable pub double : ℕ → ℕ
 double zero = zero
 double (suc n) = suc (suc (double n))
 
--- every other of some half-edges, from the first on or from the second on
-unfoldable pub others : Bool → List ℕ → List ℕ
-others b [] = []
-others true (y ∷ hs) = y ∷ others false hs
-others false (y ∷ hs) = others true hs
-
--- their pairs
+-- the pairs of some half-edges
 abbrev pub numbers : List ℕ → List ℕ
 numbers hs = map (λ y. y / 2) hs
 
@@ -124,9 +118,13 @@ module _ {l : Two} {N m k u : ℕ} {s₀ : List ℕ} (g : Ground l N m k u s₀)
 
     -- ── one step ──
 
+    -- the words after the pair of the half-edge y is dealt to the half h and the party to which y leads is visited
+    abbrev dealt-to : ℕ → List ℕ → ℕ → ℕ → List ℕ
+    dealt-to h s at y = put-word (singleM h s at (y / 2)) (l .b + 2 * leads-to y) 0
+
     record Stepped (h : ℕ) (s : List ℕ) (at y : ℕ) : Type 0 where
       fits : Two-steps l h s at y
-      is-words : twoStepM l h s at y .words ≡ put-word (singleM h s at (y / 2)) (l .b + 2 * leads-to y) 0
+      is-words : twoStepM l h s at y .words ≡ dealt-to h s at y
       is-next : twoStepM l h s at y .number ≡ next y
       half : Half (next y)
 
@@ -158,123 +156,89 @@ module _ {l : Two} {N m k u : ℕ} {s₀ : List ℕ} (g : Ground l N m k u s₀)
             ((a + b) % 4294967296 + 4294967296 - c) % 4294967296 ≡ a + b - c
         other a b c h k e = ⊎-elim (λ x. omega arith) (λ x. omega arith) e
 
-    stepped :
-        (h : ℕ) (ds₁ ds₂ : List ℕ) (M : ℕ → ℕ) (s : List ℕ) (at y : ℕ) → u ≤ h → h ≤ u + 2 * k → at < m → Going ds₁ ds₂ M s →
-        Half y → Stepped h s at y
-    stepped h ds₁ ds₂ M s at y lo hi room q i =
-        let v : ℕ = leads-to y in
-        let j : Half (Ends.mate y) = ended .mate-half y i in
-        let f : Fill.Fine g (Ends.mate y) = fine (Ends.mate y) j in
-        let t : List ℕ = singleM h s at (y / 2) in
-        let lt : length t ≡ length s = single-length h s at (y / 2) in
-        let ev : word t (l .ends + otherM y) ≡ v =
-        single-away h s at (y / 2) (l .ends + otherM y) (λ x. omega (arith, f .table)) (λ x. omega (arith, f .table))
-        ∙ q .keeps .same (l .ends + otherM y) (f .table) in
-        let sum : word t (l .b + 2 * v + 1) ≡ (early v + late v) % 4294967296 =
-        single-away h s at (y / 2) (l .b + 2 * v + 1) (λ x. omega (arith, g .parties, g .entries)) (λ x. omega (arith, g .parties, g .entries))
-        ∙ q .sums v (f .party) (ended .some (Ends.mate y) j) in
-        record {
-          fits =
-              record {
-                place = omega (arith, q .keeps .len, g .room, g .entries);
-                end = omega (arith, f .table, q .keeps .len, g .room);
-                party = rw ev (omega (arith, f .party, q .keeps .len, g .room, g .parties, g .few));
-              };
-          is-words = step-words h s at y v ev;
-          is-next = step-number h s at y v ((early v + late v) % 4294967296) ev sum ∙ number-next y i;
-          half = Rounds.next-half r Ends.mate E (Ends.pr E flag es) early late Half ended y i;
-        }
-
-    -- the words after a step, for either half
-    wiped-marks :
-        (h : ℕ) (ds₁ ds₂ : List ℕ) (M : ℕ → ℕ) (s : List ℕ) (at y x : ℕ) → u ≤ h → h ≤ u + 2 * k → at < m → Going ds₁ ds₂ M s →
-        x < N → leads-to y < N →
-        word (put-word (singleM h s at (y / 2)) (l .b + 2 * leads-to y) 0) (l .b + 2 * x) ≡ wiped y M x
-    wiped-marks h ds₁ ds₂ M s at y x lo hi room q b f =
-        let t : List ℕ = singleM h s at (y / 2) in
-        let lt : length t ≡ length s = single-length h s at (y / 2) in
-        elim (ℕ-discrete x (leads-to y)) [
-          | yes e ↦
-              ap (λ (z : ℕ). word (put-word t (l .b + 2 * leads-to y) 0) (l .b + 2 * z)) e
-              ∙ here t (l .b + 2 * leads-to y) 0 (omega (arith, q .keeps .len, g .room, g .parties, g .few)) (omega arith)
-              ∙ rw (eq-eqb x (leads-to y) e)
-          | no n ↦
-              away t (l .b + 2 * leads-to y) (l .b + 2 * x) 0 (λ z. n (omega arith))
-              ∙ single-away h s at (y / 2) (l .b + 2 * x) (λ z. omega (arith, g .parties, g .entries)) (λ z. omega (arith, g .parties, g .entries))
-              ∙ q .marks x b
-              ∙ rw (ne-eqb x (leads-to y) n)
-        ]
-
-    same-sums :
-        (h : ℕ) (ds₁ ds₂ : List ℕ) (M : ℕ → ℕ) (s : List ℕ) (at y x : ℕ) → u ≤ h → h ≤ u + 2 * k → at < m → Going ds₁ ds₂ M s →
-        x < N → 0 < total (ends x) r →
-        word (put-word (singleM h s at (y / 2)) (l .b + 2 * leads-to y) 0) (l .b + 2 * x + 1) ≡ (early x + late x) % 4294967296
-    same-sums h ds₁ ds₂ M s at y x lo hi room q b p =
-        away (singleM h s at (y / 2)) (l .b + 2 * leads-to y) (l .b + 2 * x + 1) 0 (λ z. omega arith)
-        ∙ single-away h s at (y / 2) (l .b + 2 * x + 1) (λ z. omega (arith, g .parties, g .entries)) (λ z. omega (arith, g .parties, g .entries))
-        ∙ q .sums x b p
-
-    -- a word below the parties' and outside the place written
+    -- a word that dealing to the half h at the place `at` leaves
     low-word :
         (h : ℕ) (s : List ℕ) (at y a : ℕ) → a < l .b → (a ≡ h + 2 + 2 * at → ⊥) → (a ≡ h + 3 + 2 * at → ⊥) →
-        word (put-word (singleM h s at (y / 2)) (l .b + 2 * leads-to y) 0) a ≡ word s a
+        word (dealt-to h s at y) a ≡ word s a
     low-word h s at y a b p q =
         away (singleM h s at (y / 2)) (l .b + 2 * leads-to y) a 0 (λ z. omega arith) ∙ single-away h s at (y / 2) a p q
 
-    step-keeps :
-        (h : ℕ) (s : List ℕ) (at y : ℕ) → u ≤ h → Keeps u s₀ s →
-        Keeps u s₀ (put-word (singleM h s at (y / 2)) (l .b + 2 * leads-to y) 0)
-    step-keeps h s at y lo q =
-        record {
-          len = length-put (singleM h s at (y / 2)) (l .b + 2 * leads-to y) 0 ∙ single-length h s at (y / 2) ∙ q .len;
-          same = λ a b. low-word h s at y a (omega (arith, g .parties)) (λ z. omega arith) (λ z. omega arith) ∙ q .same a b;
-        }
+    -- a step for the half h, at its place `at`
+    module _ (h : ℕ) (ds₁ ds₂ : List ℕ) (M : ℕ → ℕ) (s : List ℕ) (at y : ℕ) (lo : u ≤ h) (hi : h ≤ u + 2 * k) (room : at < m) (q : Going ds₁ ds₂ M s) (i : Half y) where
+      abbrev t : List ℕ
+      t = singleM h s at (y / 2)
 
-    -- the written pair
-    step-held :
-        (h : ℕ) (s : List ℕ) (ds : List ℕ) (y : ℕ) → u ≤ h → h ≤ u + 2 * k → length ds < m → Keeps u s₀ s → Half y → Held s h ds →
-        Held (put-word (singleM h s (length ds) (y / 2)) (l .b + 2 * leads-to y) 0) h (y / 2 ∷ ds)
-    step-held h s ds y lo hi room q i d =
-        held-same (singleM h s (length ds) (y / 2)) (put-word (singleM h s (length ds) (y / 2)) (l .b + 2 * leads-to y) 0) h (y / 2 ∷ ds)
-        (λ a x z. away (singleM h s (length ds) (y / 2)) (l .b + 2 * leads-to y) a 0 (λ w. omega (arith, g .parties, g .entries)))
-        (held-more s h (y / 2) ds (omega (arith, q .len, g .room, g .entries)) (omega (arith, half-small y i)) d)
+      -- the parties' words lie above both halves
+      high-word : (a : ℕ) → l .b ≤ a → word t a ≡ word s a
+      high-word a b =
+          single-away h s at (y / 2) a (λ x. omega (arith, g .parties, g .entries)) (λ x. omega (arith, g .parties, g .entries))
 
-    step-first :
-        (ds₁ ds₂ : List ℕ) (M : ℕ → ℕ) (s : List ℕ) (at y : ℕ) → length ds₁ ≡ at → length ds₂ ≡ at → at < m → Going ds₁ ds₂ M s → Half y →
-        Going (y / 2 ∷ ds₁) ds₂ (wiped y M) (put-word (singleM u s at (y / 2)) (l .b + 2 * leads-to y) 0)
-    step-first ds₁ ds₂ M s at y e₁ e₂ room q i =
-        let f : leads-to y < N = fine (Ends.mate y) (ended .mate-half y i) .party in
-        record {
-          keeps = step-keeps u s at y (omega arith) (q .keeps);
-          first =
-              subst (λ (n : ℕ). Held (put-word (singleM u s n (y / 2)) (l .b + 2 * leads-to y) 0) u (y / 2 ∷ ds₁)) e₁
-              (step-held u s ds₁ y (omega arith) (omega arith) (omega arith) (q .keeps) i (q .first));
-          second =
-              held-same s (put-word (singleM u s at (y / 2)) (l .b + 2 * leads-to y) 0) (u + 2 * k) ds₂
-              (λ a lo hi. low-word u s at y a (omega (arith, g .parties, g .entries)) (λ z. omega (arith, g .entries)) (λ z. omega (arith, g .entries)))
-              (q .second);
-          marks = λ x b. wiped-marks u ds₁ ds₂ M s at y x (omega arith) (omega arith) room q b f;
-          sums = λ x b p. same-sums u ds₁ ds₂ M s at y x (omega arith) (omega arith) room q b p;
-        }
+      led : Fill.Fine g (Ends.mate y)
+      led = fine (Ends.mate y) (ended .mate-half y i)
 
-    step-second :
-        (ds₁ ds₂ : List ℕ) (M : ℕ → ℕ) (s : List ℕ) (at y : ℕ) → length ds₁ ≡ suc at → length ds₂ ≡ at → at < m → Going ds₁ ds₂ M s →
-        Half y →
-        Going ds₁ (y / 2 ∷ ds₂) (wiped y M) (put-word (singleM (u + 2 * k) s at (y / 2)) (l .b + 2 * leads-to y) 0)
-    step-second ds₁ ds₂ M s at y e₁ e₂ room q i =
-        let f : leads-to y < N = fine (Ends.mate y) (ended .mate-half y i) .party in
-        record {
-          keeps = step-keeps (u + 2 * k) s at y (omega arith) (q .keeps);
-          first =
-              held-same s (put-word (singleM (u + 2 * k) s at (y / 2)) (l .b + 2 * leads-to y) 0) u ds₁
-              (λ a lo hi. low-word (u + 2 * k) s at y a (omega (arith, g .parties, g .entries)) (λ z. omega (arith, g .entries)) (λ z. omega (arith, g .entries)))
-              (q .first);
-          second =
-              subst (λ (n : ℕ). Held (put-word (singleM (u + 2 * k) s n (y / 2)) (l .b + 2 * leads-to y) 0) (u + 2 * k) (y / 2 ∷ ds₂)) e₂
-              (step-held (u + 2 * k) s ds₂ y (omega arith) (omega arith) (omega arith) (q .keeps) i (q .second));
-          marks = λ x b. wiped-marks (u + 2 * k) ds₁ ds₂ M s at y x (omega arith) (omega arith) room q b f;
-          sums = λ x b p. same-sums (u + 2 * k) ds₁ ds₂ M s at y x (omega arith) (omega arith) room q b p;
-        }
+      stepped : Stepped h s at y
+      stepped =
+          let v : ℕ = leads-to y in
+          let lt : length t ≡ length s = single-length h s at (y / 2) in
+          let ev : word t (l .ends + otherM y) ≡ v =
+          single-away h s at (y / 2) (l .ends + otherM y) (λ x. omega (arith, led .table)) (λ x. omega (arith, led .table))
+          ∙ q .keeps .same (l .ends + otherM y) (led .table) in
+          let sum : word t (l .b + 2 * v + 1) ≡ (early v + late v) % 4294967296 =
+          high-word (l .b + 2 * v + 1) (omega arith) ∙ q .sums v (led .party) (ended .some (Ends.mate y) (ended .mate-half y i)) in
+          record {
+            fits =
+                record {
+                  place = omega (arith, q .keeps .len, g .room, g .entries);
+                  end = omega (arith, led .table, q .keeps .len, g .room);
+                  party = rw ev (omega (arith, led .party, q .keeps .len, g .room, g .parties, g .few));
+                };
+            is-words = step-words h s at y v ev;
+            is-next = step-number h s at y v ((early v + late v) % 4294967296) ev sum ∙ number-next y i;
+            half = Rounds.next-half r Ends.mate E (Ends.pr E flag es) early late Half ended y i;
+          }
+
+      wiped-marks : (x : ℕ) → x < N → word (dealt-to h s at y) (l .b + 2 * x) ≡ wiped y M x
+      wiped-marks x b =
+          let lt : length t ≡ length s = single-length h s at (y / 2) in
+          elim (ℕ-discrete x (leads-to y)) [
+            | yes e ↦
+                ap (λ (z : ℕ). word (dealt-to h s at y) (l .b + 2 * z)) e
+                ∙ here t (l .b + 2 * leads-to y) 0 (omega (arith, led .party, q .keeps .len, g .room, g .parties, g .few)) (omega arith)
+                ∙ rw (eq-eqb x (leads-to y) e)
+            | no n ↦
+                away t (l .b + 2 * leads-to y) (l .b + 2 * x) 0 (λ z. n (omega arith))
+                ∙ high-word (l .b + 2 * x) (omega arith)
+                ∙ q .marks x b
+                ∙ rw (ne-eqb x (leads-to y) n)
+          ]
+
+      -- what both halves then hold is what is to be shown of each
+      step-going :
+          (es₁ es₂ : List ℕ) → Held (dealt-to h s at y) u es₁ → Held (dealt-to h s at y) (u + 2 * k) es₂ →
+          Going es₁ es₂ (wiped y M) (dealt-to h s at y)
+      step-going es₁ es₂ first second =
+          record {
+            keeps =
+                record {
+                  len = length-put t (l .b + 2 * leads-to y) 0 ∙ single-length h s at (y / 2) ∙ q .keeps .len;
+                  same = λ a b. low-word h s at y a (omega (arith, g .parties)) (λ z. omega arith) (λ z. omega arith) ∙ q .keeps .same a b;
+                };
+            first = first;
+            second = second;
+            marks = wiped-marks;
+            sums = λ x b p.
+                away t (l .b + 2 * leads-to y) (l .b + 2 * x + 1) 0 (λ z. omega arith)
+                ∙ high-word (l .b + 2 * x + 1) (omega arith)
+                ∙ q .sums x b p;
+          }
+
+      -- the half that is dealt to
+      step-held : (ds : List ℕ) → length ds ≡ at → Held s h ds → Held (dealt-to h s at y) h (y / 2 ∷ ds)
+      step-held ds e d =
+          subst (λ (n : ℕ). Held (dealt-to h s n y) h (y / 2 ∷ ds)) e
+          (held-same (singleM h s (length ds) (y / 2)) (dealt-to h s (length ds) y) h (y / 2 ∷ ds)
+          (λ a x z. away (singleM h s (length ds) (y / 2)) (l .b + 2 * leads-to y) a 0 (λ w. omega (arith, g .parties, g .entries)))
+          (held-more s h (y / 2) ds (omega (arith, q .keeps .len, g .room, g .entries)) (omega (arith, half-small y i)) d))
 
     -- two steps
     pub record Paired (ds₁ ds₂ : List ℕ) (M : ℕ → ℕ) (s : List ℕ) (at y : ℕ) : Type 0 where
@@ -292,14 +256,26 @@ module _ {l : Two} {N m k u : ℕ} {s₀ : List ℕ} (g : Ground l N m k u s₀)
     paired ds₁ ds₂ M s at y e₁ e₂ room q i =
         let a : Stepped (l .first) s at y =
         stepped (l .first) ds₁ ds₂ M s at y (omega (arith, g .first)) (omega (arith, g .first)) room q i in
-        let w : List ℕ = put-word (singleM u s at (y / 2)) (l .b + 2 * leads-to y) 0 in
-        let one : Going (y / 2 ∷ ds₁) ds₂ (wiped y M) w = step-first ds₁ ds₂ M s at y e₁ e₂ room q i in
+        let w : List ℕ = dealt-to u s at y in
+        let one : Going (y / 2 ∷ ds₁) ds₂ (wiped y M) w =
+        step-going u ds₁ ds₂ M s at y (omega arith) (omega arith) room q i (y / 2 ∷ ds₁) ds₂
+        (step-held u ds₁ ds₂ M s at y (omega arith) (omega arith) room q i ds₁ e₁ (q .first))
+        (held-same s w (u + 2 * k) ds₂
+        (λ a lo hi. low-word u s at y a (omega (arith, g .parties, g .entries)) (λ z. omega (arith, g .entries)) (λ z. omega (arith, g .entries)))
+        (q .second)) in
         let ew : twoStepM l (l .first) s at y .words ≡ w =
-        a .is-words ∙ ap (λ (h : ℕ). put-word (singleM h s at (y / 2)) (l .b + 2 * leads-to y) 0) (g .first) in
+        a .is-words ∙ ap (λ (h : ℕ). dealt-to h s at y) (g .first) in
         let en : twoStepM l (l .first) s at y .number ≡ next y = a .is-next in
         let z : ℕ = next y in
         let b : Stepped (l .second) w at z =
         stepped (l .second) (y / 2 ∷ ds₁) ds₂ (wiped y M) w at z (omega (arith, g .second)) (omega (arith, g .second)) room one (a .half) in
+        let x : List ℕ = dealt-to (u + 2 * k) w at z in
+        let two' : Going (y / 2 ∷ ds₁) (z / 2 ∷ ds₂) (wiped z (wiped y M)) x =
+        step-going (u + 2 * k) (y / 2 ∷ ds₁) ds₂ (wiped y M) w at z (omega arith) (omega arith) room one (a .half) (y / 2 ∷ ds₁) (z / 2 ∷ ds₂)
+        (held-same w x u (y / 2 ∷ ds₁)
+        (λ a lo hi. low-word (u + 2 * k) w at z a (omega (arith, g .parties, g .entries)) (λ z. omega (arith, g .entries)) (λ z. omega (arith, g .entries)))
+        (one .first))
+        (step-held (u + 2 * k) (y / 2 ∷ ds₁) ds₂ (wiped y M) w at z (omega arith) (omega arith) room one (a .half) ds₂ e₂ (one .second)) in
         let to : (t : List ℕ) (n : ℕ) → t ≡ w → n ≡ z → twoStepM l (l .second) t at n ≡ twoStepM l (l .second) w at z = λ t n p q. rw (p, q) in
         let same : twoStepM l (l .second) (twoStepM l (l .first) s at y .words) at (twoStepM l (l .first) s at y .number) ≡ twoStepM l (l .second) w at z =
         to (twoStepM l (l .first) s at y .words) (twoStepM l (l .first) s at y .number) ew en in
@@ -310,10 +286,7 @@ module _ {l : Two} {N m k u : ℕ} {s₀ : List ℕ} (g : Ground l N m k u s₀)
           fits-second = fit (twoStepM l (l .first) s at y .words) (twoStepM l (l .first) s at y .number) (sym ew) (sym en);
           going =
               subst (Going (y / 2 ∷ ds₁) (z / 2 ∷ ds₂) (wiped z (wiped y M)))
-              (sym
-              (ap (λ (x : Told). x .words) same ∙ b .is-words
-              ∙ ap (λ (h : ℕ). put-word (singleM h w at (z / 2)) (l .b + 2 * leads-to z) 0) (g .second)))
-              (step-second (y / 2 ∷ ds₁) ds₂ (wiped y M) w at z (ap suc e₁) e₂ room one (a .half));
+              (sym (ap (λ (x : Told). x .words) same ∙ b .is-words ∙ ap (λ (h : ℕ). dealt-to h w at z) (g .second))) two';
           is-next = ap (λ (x : Told). x .number) same ∙ b .is-next;
           half = b .half;
         }

@@ -29,7 +29,7 @@ use Rattle.euler.proofs.RoundTours as Tours
 use Rattle.euler.proofs.RoundFill as Fill
 use Rattle.euler.proofs.RoundFill.{Ground}
 use Rattle.euler.proofs.RoundSteps as Steps
-use Rattle.euler.proofs.RoundSteps.{double, others, numbers}
+use Rattle.euler.proofs.RoundSteps.{double, numbers}
 use Rattle.euler.proofs.RoundLists.{double-is, even-double, reverse-onto, map-numbers, others-map, others-length, others-all, numbers-all, onto-length, onto-all, trace-length}
 use Rattle.euler.proofs.RoundModelLaws.{two-round-back, two-round-on, two-from-none, two-from-some}
 
@@ -60,7 +60,7 @@ module _ {l : Two} {N m k u : ℕ} {s₀ : List ℕ} (g : Ground l N m k u s₀)
 
   -- the pairs dealt to one of the halves along a round
   abbrev dealt : Bool → List ℕ → List ℕ → List ℕ
-  dealt b hs ds = reverseAux (numbers (others b hs)) ds
+  dealt b hs ds = reverseAux (numbers (every-other b hs)) ds
 
   -- ── one round ──
 
@@ -76,7 +76,7 @@ module _ {l : Two} {N m k u : ℕ} {s₀ : List ℕ} (g : Ground l N m k u s₀)
       (n f : ℕ) (ds₁ ds₂ : List ℕ) (M : ℕ → ℕ) (y₀ : ℕ) (s : List ℕ) (at y : ℕ) → length ds₁ ≡ at → length ds₂ ≡ at → at + suc n ≤ m →
       suc n ≤ f → Going ds₁ ds₂ M s → Half y → iterate (double (suc n)) next y ≡ y₀ →
       ((j : ℕ) → 0 < j → j < suc n → (iterate (double j) next y ≡ y₀ → ⊥)) → Gone ds₁ ds₂ M y₀ f s at y (suc n)
-  unfolding double trace others iterate Steps.wipe
+  unfolding double trace every-other iterate Steps.wipe
   gone n zero ds₁ ds₂ M y₀ s at y e₁ e₂ room fuel q i back not = absurd (omega arith)
   gone zero (suc f) ds₁ ds₂ M y₀ s at y e₁ e₂ room fuel q i back not =
       let p : Steps.Paired g flag r two ds₁ ds₂ M s at y =
@@ -180,21 +180,21 @@ module _ {l : Two} {N m k u : ℕ} {s₀ : List ℕ} (g : Ground l N m k u s₀)
         (b : Bool) (hs ds : List ℕ) (t t' : Tour) (cycle : List Pair) → length (along (t .cycles)) % 2 ≡ 0 → map pr hs ≡ cycle →
         along (t' .cycles) ≡ along (t .cycles) ++ cycle → Dealt-so b ds t → Dealt-so b (dealt b hs ds) t'
     dealt-pairs b hs ds t t' cycle even e more h =
-        ap (map pn) (reverse-onto (numbers (others b hs)) ds)
-        ∙ map-append pn (reverse ds) (numbers (others b hs))
-        ∙ rw (h, map-numbers pn (others b hs), others-map pr b hs, e, more, every-other-even b (along (t .cycles)) cycle even)
+        ap (map pn) (reverse-onto (numbers (every-other b hs)) ds)
+        ∙ map-append pn (reverse ds) (numbers (every-other b hs))
+        ∙ rw (h, map-numbers pn (every-other b hs), others-map pr b hs, e, more, every-other-even b (along (t .cycles)) cycle even)
         (append-assoc (map pn (reverse ps)) (every-other b (along (t .cycles))) (every-other b cycle))
 
     dealt-count : (b : Bool) (n : ℕ) (hs ds : List ℕ) → length hs ≡ double n → length (dealt b hs ds) ≡ length ds + n
     dealt-count b n hs ds e =
-        omega (arith, onto-length (numbers (others b hs)) ds, length-map (others b hs) (λ y. y / 2), others-length n hs e b)
+        omega (arith, onto-length (numbers (every-other b hs)) ds, length-map (every-other b hs) (λ y. y / 2), others-length n hs e b)
 
     half-num : (y : ℕ) → Half y → Num (y / 2)
     half-num y i = all-counted Num (y / 2) es (Fill.those-nums g (λ c. eqb (c % 2) 1) m (omega arith)) i
 
     dealt-nums : (b : Bool) (hs ds : List ℕ) → All Half hs → All Num ds → All Num (dealt b hs ds)
     dealt-nums b hs ds h k =
-        onto-all Num (numbers (others b hs)) ds (numbers-all Half Num half-num (others b hs) (others-all Half b hs h)) k
+        onto-all Num (numbers (every-other b hs)) ds (numbers-all Half Num half-num (every-other b hs) (others-all Half b hs h)) k
 
     -- the tour's next party
     abbrev Turned : ℕ → Tour → Type 0

@@ -10,6 +10,7 @@ use lib.Dec.{leb}
 use lib.ListN.{length}
 use Rattle.words.specs.Basics.{pick, total, count, ran}
 use Rattle.words.specs.Words.{word}
+use Rattle.words.specs.Frames.{Keeps}
 use Rattle.words.proofs.Sums.{total-reverse}
 use Rattle.words.proofs.Frames.{keeps-less, keeps-trans}
 use Rattle.multigraph.specs.Multigraph.{Pair, Graph}
@@ -24,7 +25,7 @@ use Rattle.euler.proofs.Straight.{along, along-total, Same-tour, same-t
 use Rattle.euler.proofs.Places.{keep}
 use Rattle.euler.proofs.Bases.{Laid}
 use Rattle.euler.proofs.Filling.{filled, fills-on}
-use Rattle.euler.proofs.Columns.{column-same}
+use Rattle.euler.proofs.Columns.{column, column-same, mark-of}
 use Rattle.euler.proofs.Stepping.{Walked-all, walked-all, walks-on}
 use Rattle.euler.proofs.Parities.{dealt, dealt-all, dealt-count, every-other-dealt}
 use Rattle.euler.proofs.HalfLaws.{Apart-at, bigs, one, halves-are, half-of, deal-all}
@@ -182,27 +183,34 @@ module _ {s : List ℕ} {u ends g n width : ℕ} (q : Splits s u ends g n width)
               omega (arith, few-pairs q (omega arith), q .two)
         ]
 
-    ready-first : Ready l m k u u wr s s₂ ws
-    ready-first =
-        let len : length s₂ ≡ length s = walk-done .keeps .len in
+    -- where a half begins at h, over the words t
+    ready :
+        (h : ℕ) (t : List ℕ) → u ≤ h → h + 2 * k ≤ l .b → Keeps u s t → ((i : ℕ) → i < m → word t (l .b + 8 * i + 2) ≡ mark-of i ws) →
+        column l false t wr ≡ ws → Ready l m k u h wr s t ws
+    ready h t lo hi kept marks written =
+        let len : length t ≡ length s = kept .len in
         record {
           graph = q .graph;
           table = q .table;
           fits = λ i b. fit (g + 3 + 2 * i);
-          keeps = keeps-less u (omega arith) (walk-done .keeps);
-          marks = walk-done .marks;
-          written = walk-done .written;
+          keeps = kept;
+          marks = marks;
+          written = written;
           places = walk-done .places;
           once = once;
           less = less;
-          above = omega arith;
-          under = omega arith;
+          above = lo;
+          under = hi;
           behind = omega arith;
           inside = omega (arith, q .room);
           marks-inside = omega (arith, q .room, less);
           column-inside = omega (arith, q .room, less, walk-done .few);
           small = omega (arith, q .short);
         }
+
+    ready-first : Ready l m k u u wr s s₂ ws
+    ready-first =
+        ready u s₂ (omega arith) (omega arith) (keeps-less u (omega arith) (walk-done .keeps)) (walk-done .marks) (walk-done .written)
 
     first-done : Half-done pairs 0 ready-first (omega arith) apart s₃ (half-of A m apart (dealt 0 ws))
     first-done = half-done pairs 0 ready-first (omega arith) apart
@@ -210,25 +218,9 @@ module _ {s : List ℕ} {u ends g n width : ℕ} (q : Splits s u ends g n width)
     ready-second : Ready l m k u h₂ wr s s₃ ws
     ready-second =
         let o : Only u (2 * k) s₂ s₃ = first-done .only in
-        let len : length s₃ ≡ length s = o .len ∙ walk-done .keeps .len in
-        record {
-          graph = q .graph;
-          table = q .table;
-          fits = λ i b. fit (g + 3 + 2 * i);
-          keeps = keeps-trans (ready-first .keeps) (record { len = o .len; same = o .under });
-          marks = λ i b. o .over (l .b + 8 * i + 2) (omega arith) ∙ walk-done .marks i b;
-          written = column-same l false s₂ s₃ wr (λ j b. o .over (l .col + 2 * j + 1) (omega arith)) ∙ walk-done .written;
-          places = walk-done .places;
-          once = once;
-          less = less;
-          above = omega arith;
-          under = omega arith;
-          behind = omega arith;
-          inside = omega (arith, q .room);
-          marks-inside = omega (arith, q .room, less);
-          column-inside = omega (arith, q .room, less, walk-done .few);
-          small = omega (arith, q .short);
-        }
+        ready h₂ s₃ (omega arith) (omega arith) (keeps-trans (ready-first .keeps) (record { len = o .len; same = o .under }))
+        (λ i b. o .over (l .b + 8 * i + 2) (omega arith) ∙ walk-done .marks i b)
+        (column-same l false s₂ s₃ wr (λ j b. o .over (l .col + 2 * j + 1) (omega arith)) ∙ walk-done .written)
 
     second-done : Half-done pairs 1 ready-second (omega arith) apart s₄ (half-of A m apart (dealt 1 ws))
     second-done = half-done pairs 1 ready-second (omega arith) apart

@@ -9,6 +9,20 @@ use Rattle.euler.specs.Euler.{taken, first-pair, other-node, Step, Walki
 use Rattle.euler.proofs.Places.{without, Falling, row, first-taken, first-none}
 use Rattle.euler.proofs.Bases.{Laid, P}
 
+-- where the walk began
+abbrev pub bottom : ℕ → List ℕ → ℕ
+bottom v [] = v
+bottom v (x ∷ xs) = bottom (x % 2048) xs
+
+-- parties below N and places below m
+abbrev pub Sound : ℕ → ℕ → ℕ → List ℕ → Type 0
+Sound N m v [] = v < N
+Sound N m v (x ∷ xs) = (v < N) × (x / 2048 < m) × Sound N m (x % 2048) xs
+
+pub sound-here : (N m v : ℕ) (xs : List ℕ) → Sound N m v xs → v < N
+sound-here N m v [] h = h
+sound-here N m v (x ∷ xs) h = h .0
+
 module _ {l : Rings} {N m k : ℕ} {s₀ : List ℕ} (g : Laid l N m k s₀) (flag : ℕ → ℕ) where
   abbrev Q : ℕ → Pair
   Q i = P g flag i
@@ -17,20 +31,6 @@ module _ {l : Rings} {N m k : ℕ} {s₀ : List ℕ} (g : Laid l N m k s₀) (fl
   unfoldable pub steps : ℕ → List ℕ → List Step
   steps v [] = []
   steps v (x ∷ xs) = record { pair = Q (x / 2048); to = v } ∷ steps (x % 2048) xs
-
-  -- where the walk began
-  abbrev pub bottom : ℕ → List ℕ → ℕ
-  bottom v [] = v
-  bottom v (x ∷ xs) = bottom (x % 2048) xs
-
-  -- parties and places in range
-  abbrev pub Sound : ℕ → List ℕ → Type 0
-  Sound v [] = v < N
-  Sound v (x ∷ xs) = (v < N) × (x / 2048 < m) × Sound (x % 2048) xs
-
-  pub sound-here : (v : ℕ) (xs : List ℕ) → Sound v xs → v < N
-  sound-here v [] h = h
-  sound-here v (x ∷ xs) h = h .0
 
   stands : (v : ℕ) (xs : List ℕ) → standing (bottom v xs) (steps v xs) ≡ v
   unfolding steps

@@ -36,7 +36,7 @@ module _ {l : Rings} {N m k : ℕ} {s₀ : List ℕ} (g : Laid l N m k s₀) (fl
       Takes l s w (edge (f .side) (f .entry))
   live-takes s w xs ws is h b f =
       let v : ℕ = w .at in
-      let vb : v < N = sound-here g flag v xs (h .sound b) in
+      let vb : v < N = sound-here N m v xs (h .sound b) in
       let d : Bool = f .side in
       let i : ℕ = f .entry in
       let ib : i < m = is-odd g flag v s is vb (h .falling) (h .rings) f .below in
@@ -72,7 +72,7 @@ module _ {l : Rings} {N m k : ℕ} {s₀ : List ℕ} (g : Laid l N m k s₀) (fl
   live-backs s w xs ws is h b p =
       let x : ℕ = word s (l .col + 2 * (w .height - 1)) in
       let e : xs ≡ x ∷ column l true s (w .height - 1) = sym (h .stack) ∙ column-first l true s (w .height) p in
-      let im : x / 2048 < m = subst (Sound g flag (w .at)) e (h .sound b) .1 in
+      let im : x / 2048 < m = subst (Sound N m (w .at)) e (h .sound b) .1 in
       let len : length s ≡ length s₀ = h .rings .rung .keeps .len in
       record {
         stack = omega (arith, len, h .size, few-places g flag r, g .entries, g .column, g .room);
@@ -82,7 +82,7 @@ module _ {l : Rings} {N m k : ℕ} {s₀ : List ℕ} (g : Laid l N m k s₀) (fl
 
   pub live-steps : (s : List ℕ) (w : Walk) (xs ws is : List ℕ) → Live g flag r s w xs ws is → w .next < N → Steps l s w
   live-steps s w xs ws is h b =
-      let vb : w .at < N = sound-here g flag (w .at) xs (h .sound b) in
+      let vb : w .at < N = sound-here N m (w .at) xs (h .sound b) in
       record {
         here = omega (arith, h .rings .rung .keeps .len, low-node (l .top + w .at) (omega arith));
         takes = λ n.

@@ -52,7 +52,7 @@ module _ {l : Rings} {N m k : ℕ} {s₀ : List ℕ} (g : Laid l N m k s₀) (fl
       Moved g flag r (record { words = s; walk = w }) (stepM l N (record { words = s; walk = w }))
   live-step s w xs ws is h b =
       let t : Stage = record { words = s; walk = w } in
-      let vb : w .at < N = sound-here g flag (w .at) xs (h .sound b) in
+      let vb : w .at < N = sound-here N m (w .at) xs (h .sound b) in
       let x : ℕ = word s (l .b + 2 * (l .top + w .at)) in
       elim (ℕ-discrete x (l .top + w .at)) [
         | yes e ↦

@@ -82,7 +82,7 @@ module _ {l : Rings} {N m k : ℕ} {s₀ : List ℕ} (g : Laid l N m k s₀) (fl
   unfolding measure
   live-take s w xs ws is h b f =
       let v : ℕ = w .at in
-      let vb : v < N = sound-here g flag v xs (h .sound b) in
+      let vb : v < N = sound-here N m v xs (h .sound b) in
       let d : Bool = f .side in
       let i : ℕ = f .entry in
       let ib : i < m = has-odd g flag s is i (h .rings) (f .has) .below in

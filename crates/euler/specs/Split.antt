@@ -22,11 +22,11 @@ unfoldable pub rest : Graph → Graph
 rest [] = []
 rest (p ∷ g) = let later = rest g in pick (eqb (p .copies % 2) 1) (with-copies 1 p ∷ later) later
 
--- every other pair of a list, from the first on or from the second on
-unfoldable pub every-other : Bool → List Pair → List Pair
+-- every other member of a list, from the first on or from the second on
+unfoldable pub every-other {ℓ} : {A : Type ℓ} → Bool → List A → List A
 every-other b [] = []
-every-other true (p ∷ ps) = p ∷ every-other false ps
-every-other false (p ∷ ps) = every-other true ps
+every-other true (x ∷ xs) = x ∷ every-other false xs
+every-other false (x ∷ xs) = every-other true xs
 
 -- the pairs of a cycle at places 0, 2, .. and at places 1, 3, ..
 abbrev pub evens : List Pair → List Pair
