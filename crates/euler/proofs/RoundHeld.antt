@@ -1,12 +1,12 @@
 -- Pair numbers in words: what a half holds. Assumes nothing.
 use Prim.Native.Nat.{ℕ, _+_, _*_, _≤_, _<_}
-use mathlib.Core.Path.{_≡_, _∙_}
+use mathlib.Core.Path.{_≡_, sym, _∙_}
 use mathlib.Core.List.{List, [], _∷_}
 use native.Mathlib.Omega.{arith}
 use lib.ListN.{length}
 use Rattle.words.specs.Words.{word, put-word}
 use Rattle.words.proofs.Frames.{here, away, length-put}
-use Rattle.euler.specs.RoundModel.{singleM}
+use Rattle.euler.specs.RoundModel.{singleM, headM}
 use Rattle.euler.proofs.Bases.{away2}
 
 -- the half at h holds one copy each of the pairs es, the last first
@@ -41,3 +41,33 @@ held-more s h e es b f k =
       held-same s (singleM h s (length es) e) h es
           (λ a lo hi. single-away h s (length es) e a (λ x. omega arith) (λ x. omega arith)) k,
     )
+
+-- ── a half with its head ──
+
+-- its base, the number of its pairs, and the pairs
+pub record Headed (t : List ℕ) (h : ℕ) (ds : List ℕ) : Type 0 where
+  pub base : word t h ≡ h
+  pub number : word t (h + 1) ≡ length ds
+  pub held : Held t h ds
+
+pub head-away : (h : ℕ) (s : List ℕ) (c a : ℕ) → (a ≡ h → ⊥) → (a ≡ h + 1 → ⊥) → word (headM h s c) a ≡ word s a
+head-away h s c a p q = away2 s h h (h + 1) c a p q
+
+pub headed :
+    (s : List ℕ) (h c : ℕ) (ds : List ℕ) → length ds ≡ c → h + 1 < length s → length s ≤ 4294967296 → c < 4294967296 →
+    Held s h ds → Headed (headM h s c) h ds
+headed s h c ds e b small few d =
+    record {
+      base = away (put-word s h h) (h + 1) h c (λ x. omega arith) ∙ here s h h (omega arith) (omega arith);
+      number = here (put-word s h h) (h + 1) c (omega (arith, length-put s h h)) few ∙ sym e;
+      held = held-same s (headM h s c) h ds (λ a lo hi. head-away h s c a (λ x. omega arith) (λ x. omega arith)) d;
+    }
+
+-- the head of another half above it
+pub headed-below : (s : List ℕ) (h o c : ℕ) (ds : List ℕ) → h + 2 + 2 * length ds ≤ o → Headed s h ds → Headed (headM o s c) h ds
+headed-below s h o c ds b d =
+    record {
+      base = head-away o s c h (λ x. omega arith) (λ x. omega arith) ∙ d .base;
+      number = head-away o s c (h + 1) (λ x. omega arith) (λ x. omega arith) ∙ d .number;
+      held = held-same s (headM o s c) h ds (λ a lo hi. head-away o s c a (λ x. omega arith) (λ x. omega arith)) (d .held);
+    }

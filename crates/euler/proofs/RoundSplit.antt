@@ -1,36 +1,42 @@
 -- The words after a split of a graph of degree 2 hold the halves of the definition. Assumes nothing.
-use Prim.Native.Nat.{ℕ, _+_, _*_, _≤_, _<_}
+use Prim.Native.Nat.{ℕ, _+_, _*_, _≤_, _<_, _%_}
 use mathlib.Core.Path.{_≡_, refl, sym, _∙_, ap, subst}
 use mathlib.Core.Bool.{Bool, true, false}
-use mathlib.Core.List.{List, [], _∷_, _++_, map, reverse}
+use mathlib.Core.List.{List, [], _∷_, _++_, map, reverse, reverseAux, append-nil}
 use native.Mathlib.Omega.{arith}
 use native.Mathlib.Decide.{ℕ-discrete}
-use lib.Dec.{leb}
+use lib.Dec.{leb, eqb}
 use lib.ListN.{length}
 use Rattle.words.specs.Basics.{pick, total, All, ran}
 use Rattle.words.specs.Words.{word, put-word}
 use Rattle.words.specs.Frames.{Keeps}
 use Rattle.words.proofs.Sums.{total-reverse, total-map, all-right}
-use Rattle.words.proofs.Frames.{here, away, length-put}
+use Rattle.words.proofs.Frames.{length-put, keeps-then-put}
 use Rattle.multigraph.specs.Multigraph.{Pair, Graph}
 use Rattle.multigraph.specs.Stored.{entries, graph-at}
 use Rattle.euler.specs.declared.circuits.Two.{Two}
 use Rattle.euler.specs.Euler.{Tour}
 use Rattle.euler.specs.Split.{add-halves, rest, every-other, add-pairs, rbmg-split-into-two}
-use Rattle.euler.specs.Room.{Splits, Halves-stored}
+use Rattle.euler.specs.Room.{Splits, Numbers-from, Halves-stored}
 use Rattle.euler.specs.RoundModel.{Lies, Told, Apart-so-far, twoFillM, twoFilledM, twoWalkM, headM, splitTwoM, copiesSumM, fewSumM, two-laid}
 use Rattle.euler.specs.RoundBounds.{Two-fills, Two-walks, Two-splits}
 use Rattle.euler.proofs.Trail.{aslant}
 use Rattle.euler.proofs.Straight.{along, along-total, split-along}
 use Rattle.euler.proofs.RoundEnds as Ends
 use Rattle.euler.proofs.RoundFill as Fill
-use Rattle.euler.proofs.RoundHeld.{Held, held-same}
+use Rattle.euler.proofs.RoundHeld.{Held, held-same, Headed, head-away, headed, headed-below}
 use Rattle.euler.proofs.RoundFill.{Ground}
 use Rattle.euler.proofs.RoundWalk as Walk
 use Rattle.euler.proofs.RoundGraph as Graphs
 use Rattle.euler.proofs.RoundBegun as Begun
-use Rattle.euler.proofs.Grounds.{apart-at}
+use Rattle.euler.proofs.Grounds.{apart-at, rest-slant, rest-evens}
 use Rattle.euler.proofs.RoundModelLaws.{few-sum-all}
+use Rattle.multigraph.specs.Regular.{pairs-between}
+use Rattle.euler.proofs.Taken.{ends}
+use Rattle.euler.proofs.Places.{keep}
+use Rattle.euler.proofs.RoundTours as Tours
+use Rattle.euler.proofs.RoundSteps as Steps
+use Rattle.euler.proofs.RoundGrounds as Two-grounds
 
 every-other-le : (f : Pair → ℕ) (b : Bool) (c : List Pair) → total f (every-other b c) ≤ total f c
 unfolding every-other total
@@ -39,15 +45,28 @@ every-other-le f false [] = omega arith
 every-other-le f true (p ∷ c) = omega (arith, every-other-le f false c)
 every-other-le f false (p ∷ c) = omega (arith, every-other-le f true c)
 
--- the words after both heads
-heads-word :
-    (a b : ℕ) (s : List ℕ) (c x : ℕ) → (x ≡ a → ⊥) → (x ≡ a + 1 → ⊥) → (x ≡ b → ⊥) → (x ≡ b + 1 → ⊥) →
-    word (headM b (headM a s c) c) x ≡ word s x
-heads-word a b s c x p q y z =
-    away (put-word (headM a s c) b b) (b + 1) x c z
-    ∙ away (headM a s c) b x b y
-    ∙ away (put-word s a a) (a + 1) x c q
-    ∙ away s a x a p
+-- ── reversed lists of half-edges ──
+
+onto-append : (xs ys zs : List ℕ) → reverseAux (xs ++ ys) zs ≡ reverseAux ys (reverseAux xs zs)
+onto-append [] ys zs = refl
+onto-append (x ∷ xs) ys zs = onto-append xs ys (x ∷ zs)
+
+keep-onto : (q : ℕ → Bool) (xs ys : List ℕ) → keep q (reverseAux xs ys) ≡ reverseAux (keep q xs) (keep q ys)
+unfolding keep
+keep-onto q [] ys = refl
+keep-onto q (x ∷ xs) ys = keep-onto q xs (x ∷ ys) ∙ go (q x)
+  where
+    go : (b : Bool) → reverseAux (keep q xs) (pick b (x ∷ keep q ys) (keep q ys)) ≡ reverseAux (pick b (x ∷ keep q xs) (keep q xs)) (keep q ys)
+    go true = refl
+    go false = refl
+
+map-plus-zero : (es : List ℕ) → map (λ e. 2 * e + 0) es ≡ map (λ e. 2 * e) es
+map-plus-zero [] = refl
+map-plus-zero (e ∷ es) = let z : 2 * e + 0 ≡ 2 * e = omega arith in rw (z, map-plus-zero es)
+
+empty-list : (xs : List ℕ) → length xs ≡ 0 → xs ≡ []
+empty-list [] e = refl
+empty-list (x ∷ xs) e = absurd (omega arith)
 
 module _ {s : List ℕ} {u table graph n width : ℕ} (q : Splits s u table graph n width) (sum : copiesSumM graph (word s (graph + 1)) s ≡ 2 * n) where
   abbrev N : ℕ
@@ -65,20 +84,25 @@ module _ {s : List ℕ} {u table graph n width : ℕ} (q : Splits s u table grap
   abbrev h₂ : ℕ
   h₂ = u + 2 * k
 
+  abbrev E : ℕ → ℕ
+  E y = word s (table + y)
+
   abbrev ground : Ground l N m k u s
   ground = Begun.ground q sum
 
   abbrev es : List ℕ
-  es = Begun.es q sum
+  es = Fill.odds-of s graph m
 
   abbrev ps : List ℕ
-  ps = Begun.ps q sum
-
-  abbrev E : ℕ → ℕ
-  E y = word s (table + y)
+  ps = Fill.evens-of s graph m
 
   abbrev sifted : Apart-so-far
   sifted = Begun.sifted q sum
+
+  abbrev s₄ : List ℕ
+  s₄ = Begun.s₄ q sum
+
+  -- ── the rounds ──
 
   module _ (pairs : ℕ) where
     abbrev flag : ℕ → ℕ
@@ -93,23 +117,121 @@ module _ {s : List ℕ} {u table graph n width : ℕ} (q : Splits s u table grap
     abbrev pn : ℕ → Pair
     pn e = Ends.pn E flag es e
 
-    abbrev copies : (i : ℕ) → i < m → word s (graph + 3 + 2 * i) ≤ 2
-    copies = Begun.copies q sum pairs
+    copies : (i : ℕ) → i < m → word s (graph + 3 + 2 * i) ≤ 2
+    copies i b = Two-grounds.copies-two q (Begun.is-two q sum) pairs i b
 
-    abbrev once : (a b : ℕ) → total (Graphs.btw a b) G ≤ 1
-    once = Begun.once q sum pairs
+    once : (a b : ℕ) → total (Graphs.btw a b) G ≤ 1
+    once a b = Two-grounds.once q (Begun.is-two q sum) pairs a b
 
-    abbrev two : Ends.Twos E flag es r
-    two = Begun.two q sum pairs
+    places-total : (f : Pair → ℕ) → total f r ≡ total (λ e. f (pn e)) es
+    places-total f =
+        sym (total-reverse f r) ∙ ap (total f) (Graphs.rest-are ground pairs m) ∙ total-map f pn es
 
-    abbrev slant : total (aslant (q .side)) r ≡ 0
-    slant = Begun.slant q sum pairs
+    two : Ends.Twos E flag es r
+    unfolding pairs-between
+    two =
+        record {
+          places = Graphs.rest-are ground pairs m;
+          few = Two-grounds.rest-few q (Begun.is-two q sum) pairs;
+          even = rest-evens q pairs;
+          thin = Two-grounds.rest-thin q (Begun.is-two q sum) pairs;
+          once = λ a b.
+              omega (
+                arith,
+                places-total (Graphs.btw a b),
+                Graphs.parts ground pairs copies (Graphs.btw a b) (λ p. refl) m (omega arith),
+                once a b,
+              );
+        }
+
+    slant : total (aslant (q .side)) r ≡ 0
+    slant = rest-slant q pairs
+
+    -- a party's half-edges, the last first
+    own-done : (v : ℕ) → Fill.at-party ground v (Begun.done q sum) ≡ reverse (Ends.own E flag es v)
+    unfolding Ends.own keep
+    own-done v =
+        let q' : ℕ → Bool = λ y. eqb v (E y) in
+        ap (λ (xs : List ℕ). keep q' (reverseAux (map (λ e. 2 * e + 1) es) (reverseAux xs []))) (map-plus-zero es)
+        ∙ ap (keep q') (sym (onto-append (map (λ e. 2 * e) es) (map (λ e. 2 * e + 1) es) []))
+        ∙ keep-onto q' (map (λ e. 2 * e) es ++ map (λ e. 2 * e + 1) es) []
+
+    early-small : (v : ℕ) → 0 < total (ends v) r → Ends.early E flag es v < 4294967296
+    early-small v some =
+        let i : Ends.Half E flag es (Ends.early E flag es v) = Ends.two-ended E flag es r two .early-half v some .0 in
+        omega (arith, Steps.fine ground flag r two (Ends.early E flag es v) i .table, q .room, q .short)
+
+    mark-none : (v : ℕ) → v < N → total (ends v) r ≡ 0 → word s₄ (l .b + 2 * v) ≡ 0
+    mark-none v b z =
+        Begun.filled q sum .1 .marks v b
+        ∙ ap Fill.last-plus-one
+        (own-done v ∙ ap reverse (empty-list (Ends.own E flag es v) (Ends.own-length E flag es r two v ∙ z)))
+
+    mark-late : (v : ℕ) → v < N → total (ends v) r ≡ 2 → word s₄ (l .b + 2 * v) ≡ Ends.late E flag es v + 1
+    mark-late v b z =
+        Begun.filled q sum .1 .marks v b
+        ∙ ap Fill.last-plus-one (own-done v ∙ ap reverse (Ends.own-two E flag es r two v (omega arith)))
+
+    sum-is :
+        (v : ℕ) → v < N → 0 < total (ends v) r →
+        word s₄ (l .b + 2 * v + 1) ≡ (Ends.early E flag es v + Ends.late E flag es v) % 4294967296
+    sum-is v b some =
+        Begun.filled q sum .1 .sums v b
+        ∙ ap Fill.cut-sum (own-done v ∙ ap reverse (Ends.own-two E flag es r two v some))
+        ∙ cut (Ends.early E flag es v) (Ends.late E flag es v) (early-small v some)
+      where
+        cut : (a c : ℕ) → a < 4294967296 → ((0 + a) % 4294967296 + c) % 4294967296 ≡ (a + c) % 4294967296
+        cut a c h = omega arith
 
     abbrev w₀ : Told
-    w₀ = Begun.w₀ q sum pairs
+    w₀ = record { words = s₄; number = length ps }
 
-    abbrev walk-done : Walk.Walked ground flag r two (q .side) slant copies N (twoWalkM l m N w₀)
-    walk-done = Begun.walk-done q sum pairs
+    same-left : (v : ℕ) → total (ends v) (reverse r) ≡ total (ends v) r
+    same-left v = total-reverse (ends v) r
+
+    walk-begun : Walk.Walked ground flag r two (q .side) slant copies 0 w₀
+    unfolding along every-other
+    walk-begun =
+        record {
+          tour = record { cycles = []; left = reverse r };
+          rounded =
+              Tours.begun r Ends.mate E (Ends.pr E flag es) (Ends.early E flag es) (Ends.late E flag es) (Ends.Half E flag es)
+              (Steps.ended ground flag r two) (q .side) slant (two .even) (Ends.first-is E flag es r two);
+          firsts = ps;
+          seconds = ps;
+          marks = λ v. word s₄ (l .b + 2 * v);
+          going =
+              record {
+                keeps =
+                    record {
+                      len = Begun.filled q sum .1 .len;
+                      same = λ a b. Begun.filled q sum .1 .low a (omega arith) ∙ Begun.sift q sum .keeps .same a b;
+                    };
+                first =
+                    held-same (sifted .words) s₄ u ps
+                    (λ a lo hi. Begun.filled q sum .1 .low a (omega (arith, Fill.those-length (λ c. leb 2 c) s graph m, ground .entries))) (Begun.sift q sum .first);
+                second =
+                    held-same (sifted .words) s₄ h₂ ps
+                    (λ a lo hi. Begun.filled q sum .1 .low a (omega (arith, Fill.those-length (λ c. leb 2 c) s graph m, ground .entries))) (Begun.sift q sum .second);
+                marks = λ v b. refl;
+                sums = sum-is;
+              };
+          spent = λ v b z. mark-none v b (sym (same-left v) ∙ z);
+          alive = λ v b z. mark-late v b (sym (same-left v) ∙ z);
+          first-count = refl;
+          second-count = refl;
+          size = omega arith;
+          first-pairs = sym (append-nil (map pn (reverse ps)));
+          second-pairs = sym (append-nil (map pn (reverse ps)));
+          first-nums = Fill.those-nums ground (λ c. leb 2 c) m (omega arith);
+          second-nums = Fill.those-nums ground (λ c. leb 2 c) m (omega arith);
+        }
+
+    walk-done : Walk.Walked ground flag r two (q .side) slant copies N (twoWalkM l m N w₀)
+    walk-done = Walk.walked-all ground flag r two (q .side) slant copies N w₀ (omega arith) walk-begun
+
+    walk-fits : Two-walks l m N w₀
+    walk-fits = Walk.walks-on ground flag r two (q .side) slant copies w₀ walk-begun
 
     -- ── the halves ──
 
@@ -125,8 +247,14 @@ module _ {s : List ℕ} {u table graph n width : ℕ} (q : Splits s u table grap
     abbrev tour : Tour
     tour = walk-done .tour
 
+    len : length (w .words) ≡ length s
+    len = walk-done .going .keeps .len
+
     few : c ≤ m
     few = Walk.walked-few ground flag r two (q .side) slant copies N w walk-done
+
+    small-c : c < 4294967296
+    small-c = omega (arith, few, ground .entries, q .room, q .short)
 
     -- where no two pairs have the same ends, a half is what is held
     behind :
@@ -145,7 +273,7 @@ module _ {s : List ℕ} {u table graph n width : ℕ} (q : Splits s u table grap
           every-other-le (Graphs.btw x y) b (along (tour .cycles)),
           along-total (Graphs.btw x y) (tour .cycles),
           walk-done .rounded .so-far .toured .whole (Graphs.btw x y),
-          Begun.places-total q sum pairs (Graphs.btw x y),
+          places-total (Graphs.btw x y),
           Graphs.parts ground pairs copies (Graphs.btw x y) (λ p. refl) m (omega arith),
           once x y,
         ))
@@ -164,92 +292,40 @@ module _ {s : List ℕ} {u table graph n width : ℕ} (q : Splits s u table grap
 
     -- ── the words ──
 
-    len : length (w .words) ≡ length s
-    len = walk-done .going .keeps .len
-
     kept : Keeps u s t
     kept =
-        record {
-          len =
-              length-put (put-word (headM u (w .words) c) h₂ h₂) (h₂ + 1) c
-              ∙ length-put (headM u (w .words) c) h₂ h₂
-              ∙ length-put (put-word (w .words) u u) (u + 1) c
-              ∙ length-put (w .words) u u
-              ∙ len;
-          same = λ a b.
-              heads-word u h₂ (w .words) c a (λ e. omega arith) (λ e. omega arith) (λ e. omega arith) (λ e. omega arith)
-              ∙ walk-done .going .keeps .same a b;
-        }
+        keeps-then-put (h₂ + 1) c (omega arith)
+        (keeps-then-put h₂ h₂ (omega arith)
+        (keeps-then-put (u + 1) c (omega arith) (keeps-then-put u u (omega arith) (walk-done .going .keeps))))
 
-    first-held : Held t u (walk-done .firsts)
-    first-held =
-        held-same (w .words) t u (walk-done .firsts)
-        (λ a lo hi.
-        heads-word u h₂ (w .words) c a (λ e. omega arith) (λ e. omega arith)
-        (λ e. omega (arith, walk-done .first-count, few, ground .entries)) (λ e. omega (arith, walk-done .first-count, few, ground .entries)))
-        (walk-done .going .first)
+    -- the first half, and the second one's head above it
+    first : Headed t u (walk-done .firsts)
+    first =
+        headed-below (headM u (w .words) c) u h₂ c (walk-done .firsts) (omega (arith, walk-done .first-count, few, ground .entries))
+        (headed (w .words) u c (walk-done .firsts) (walk-done .first-count) (omega (arith, len, q .room, ground .entries)) (omega (arith, len, q .short))
+        small-c (walk-done .going .first))
 
-    second-held : Held t h₂ (walk-done .seconds)
-    second-held =
-        held-same (w .words) t h₂ (walk-done .seconds)
-        (λ a lo hi.
-        heads-word u h₂ (w .words) c a (λ e. omega (arith, ground .entries)) (λ e. omega (arith, ground .entries)) (λ e. omega arith) (λ e. omega arith))
-        (walk-done .going .second)
-
-    small-c : c < 4294967296
-    small-c = omega (arith, few, ground .entries, q .room, q .short)
-
-    first-number : word t (u + 1) ≡ c
-    first-number =
-        away (put-word (headM u (w .words) c) h₂ h₂) (h₂ + 1) (u + 1) c (λ e. omega (arith, ground .entries))
-        ∙ away (headM u (w .words) c) h₂ (u + 1) h₂ (λ e. omega (arith, ground .entries))
-        ∙ here (put-word (w .words) u u) (u + 1) c (omega (arith, length-put (w .words) u u, len, q .room, ground .entries)) small-c
-
-    second-number : word t (h₂ + 1) ≡ c
-    second-number =
-        here (put-word (headM u (w .words) c) h₂ h₂) (h₂ + 1) c
-        (omega (
-          arith,
-          length-put (headM u (w .words) c) h₂ h₂,
-          length-put (put-word (w .words) u u) (u + 1) c,
-          length-put (w .words) u u,
-          len,
-          q .room,
-          ground .entries,
-        ))
+    second : Headed t h₂ (walk-done .seconds)
+    second =
+        let before : length (headM u (w .words) c) ≡ length s = length-put (put-word (w .words) u u) (u + 1) c ∙ length-put (w .words) u u ∙ len in
+        headed (headM u (w .words) c) h₂ c (walk-done .seconds) (walk-done .second-count) (omega (arith, q .room, ground .entries)) (omega (arith, q .short))
         small-c
+        (held-same (w .words) (headM u (w .words) c) h₂ (walk-done .seconds)
+        (λ a lo hi. head-away u (w .words) c a (λ e. omega (arith, ground .entries)) (λ e. omega (arith, ground .entries)))
+        (walk-done .going .second))
 
-    first-base : word t u ≡ u
-    first-base =
-        away (put-word (headM u (w .words) c) h₂ h₂) (h₂ + 1) u c (λ e. omega (arith, ground .entries))
-        ∙ away (headM u (w .words) c) h₂ u h₂ (λ e. omega (arith, ground .entries))
-        ∙ away (put-word (w .words) u u) (u + 1) u c (λ e. omega arith)
-        ∙ here (w .words) u u (omega (arith, len, q .room, ground .entries)) (omega (arith, q .room, q .short, ground .entries))
-
-    second-base : word t h₂ ≡ h₂
-    second-base =
-        away (put-word (headM u (w .words) c) h₂ h₂) (h₂ + 1) h₂ c (λ e. omega arith)
-        ∙ here (headM u (w .words) c) h₂ h₂
-        (omega (arith, length-put (put-word (w .words) u u) (u + 1) c, length-put (w .words) u u, len, q .room, ground .entries))
-        (omega (arith, q .room, q .short, ground .entries))
-
-    first-graph : graph-at t table pairs u ≡ map pn (reverse (walk-done .firsts))
+    half-graph : (h : ℕ) (ds : List ℕ) → Headed t h ds → All (Fill.Num ground) ds → graph-at t table pairs h ≡ map pn (reverse ds)
     unfolding graph-at
-    first-graph =
-        ap (entries t table pairs u 0) (first-number ∙ sym (walk-done .first-count))
-        ∙ Graphs.held-graph ground pairs t u (walk-done .firsts) kept (walk-done .first-nums) first-held
-
-    second-graph : graph-at t table pairs h₂ ≡ map pn (reverse (walk-done .seconds))
-    unfolding graph-at
-    second-graph =
-        ap (entries t table pairs h₂ 0) (second-number ∙ sym (walk-done .second-count))
-        ∙ Graphs.held-graph ground pairs t h₂ (walk-done .seconds) kept (walk-done .second-nums) second-held
+    half-graph h ds d nums =
+        ap (entries t table pairs h 0) (d .number) ∙ Graphs.held-graph ground pairs t h ds kept nums (d .held)
 
     stored :
         rbmg-split-into-two N (graph-at s table pairs graph)
         ≡ ran (record { first-half = graph-at t table pairs u; second-half = graph-at t table pairs h₂ })
     unfolding graph-at
-    stored = splits-into ∙ rw (← first-graph, ← second-graph)
+    stored =
+        splits-into
+        ∙ rw (← half-graph u (walk-done .firsts) first (walk-done .first-nums), ← half-graph h₂ (walk-done .seconds) second (walk-done .second-nums))
 
     -- every number held is one of the graph's
     held-number :
@@ -264,26 +340,20 @@ module _ {s : List ℕ} {u table graph n width : ℕ} (q : Splits s u table grap
           | no z ↦ held-number h ds (d .2) (a .1) j (omega arith)
         ]
 
-  -- Module 4 of document 01, on the words of a graph of degree 2.
-  abbrev result : List ℕ
-  result = t 0
+    half-numbers : (h : ℕ) (ds : List ℕ) → Headed t h ds → All (Fill.Num ground) ds → Numbers-from s t graph h
+    half-numbers h ds d nums = record { from = λ j b. held-number h ds (d .held) nums j (omega (arith, d .number)) }
 
-  two-stored : Halves-stored s result u (u + 4 * k) table graph n width
+  -- Module 4 of document 01, on the words of a graph of degree 2.
+  two-stored : Halves-stored s (t 0) u (u + 4 * k) table graph n width
   two-stored =
       record {
         halves = stored;
-        first-base = first-base 0;
-        second-base = second-base 0;
-        first-count = rw (first-number 0) (few 0);
-        second-count = rw (second-number 0) (few 0);
-        first-numbers =
-            record {
-              from = λ j b. held-number 0 u (walk-done 0 .firsts) (first-held 0) (walk-done 0 .first-nums) j (omega (arith, first-number 0, walk-done 0 .first-count));
-            };
-        second-numbers =
-            record {
-              from = λ j b. held-number 0 h₂ (walk-done 0 .seconds) (second-held 0) (walk-done 0 .second-nums) j (omega (arith, second-number 0, walk-done 0 .second-count));
-            };
+        first-base = first 0 .base;
+        second-base = second 0 .base;
+        first-count = omega (arith, first 0 .number, walk-done 0 .first-count, few 0);
+        second-count = omega (arith, second 0 .number, walk-done 0 .second-count, few 0);
+        first-numbers = half-numbers 0 u (walk-done 0 .firsts) (first 0) (walk-done 0 .first-nums);
+        second-numbers = half-numbers 0 h₂ (walk-done 0 .seconds) (second 0) (walk-done 0 .second-nums);
         above = refl;
         keeps = kept 0;
       }
@@ -312,7 +382,7 @@ module _ {s : List ℕ} {u table graph n width : ℕ} (q : Splits s u table grap
             };
         firsts = subst (λ (x : ℕ). Two-fills l 0 x (sifted .words)) (sym (Begun.sift q sum .odd)) (Begun.filled-first q sum .0);
         seconds = subst (λ (x : ℕ). Two-fills l 1 x (twoFillM l 0 x (sifted .words))) (sym (Begun.sift q sum .odd)) (Begun.filled q sum .0);
-        walks = subst (Two-walks l m N) (sym filled-is) (Begun.walk-fits q sum 0);
+        walks = subst (Two-walks l m N) (sym filled-is) (walk-fits 0);
       }
 
 -- ── for the code's proof ──
