@@ -1,6 +1,6 @@
 -- Pairs by their places. The pairs that remain are the places that remain, newest first, and a party's first remaining pair
 -- is the first of its row: the places where it is first end, then those where it is second end. Assumes nothing.
-use Prim.Native.Nat.{ℕ, zero, suc, _+_, _≤_, _<_}
+use Prim.Native.Nat.{ℕ, zero, suc, _≤_, _<_}
 use mathlib.Core.Path.{_≡_, refl, sym, _∙_, ap, subst}
 use mathlib.Core.Bool.{Bool, true, false, not}
 use mathlib.Core.List.{List, [], _∷_, _++_, map}

@@ -5,9 +5,8 @@ use mathlib.Core.Bool.{false}
 use mathlib.Core.List.{List, [], _∷_, _++_}
 use native.Mathlib.Omega.{arith}
 use native.Mathlib.Decide.{ℕ-discrete}
-use lib.Dec.{leb}
 use lib.ListN.{length}
-use Rattle.words.specs.Basics.{pick, count, All}
+use Rattle.words.specs.Basics.{count, All}
 use Rattle.words.specs.Words.{word, put-word}
 use Rattle.words.specs.Frames.{Keeps}
 use Rattle.words.proofs.Frames.{here, away, length-put}

@@ -5,11 +5,10 @@ use mathlib.Core.Bool.{Bool, true, false}
 use mathlib.Core.List.{List, _∷_, _++_, map, map-append, reverse, reverseAux, append-assoc}
 use mathlib.Core.Logic.{⊎-elim}
 use native.Mathlib.Omega.{arith}
-use native.Mathlib.Decide.{ℕ-discrete, decLt}
-use borrow.Author.Tests.{ne-eqb, le-leb, lt-leb}
+use native.Mathlib.Decide.{ℕ-discrete}
 use lib.Dec.{eqb}
 use lib.ListN.{length, length-map, length-append, length-reverse}
-use Rattle.words.specs.Basics.{pick, is, total, iterate, All}
+use Rattle.words.specs.Basics.{is, total, iterate, All}
 use Rattle.words.specs.Words.{word}
 use Rattle.words.proofs.Sums.{total-const, all-counted}
 use Rattle.multigraph.specs.Multigraph.{Pair}

@@ -18,8 +18,7 @@ use Rattle.euler.specs.Split.{Halves, add-halves, rest, deal, rbmg-split
 use Rattle.euler.specs.Halved.{Cycles-of, Split-of}
 use Rattle.euler.proofs.Taken.{ends}
 use Rattle.euler.proofs.EulerLaws.{astray, astray-across, none-astray, euler-law}
-use Rattle.euler.proofs.Dealing.{rest-zero, weigh-parts, weigh-add-halves, weigh-deal, cycles-parts, cycles-balanced}
-use Rattle.euler.proofs.Dealing.{Kept, Both, add-halves-keeps, deal-keeps}
+use Rattle.euler.proofs.Dealing.{rest-zero, weigh-parts, weigh-add-halves, weigh-deal, cycles-parts, cycles-balanced, Kept, Both, add-halves-keeps, deal-keeps}
 
 -- both halves before the rest is dealt
 abbrev undealt : Graph → Halves

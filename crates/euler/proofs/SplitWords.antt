@@ -1,8 +1,8 @@
 -- The words after a split hold the halves of the definition, pair for pair and copy for copy. Assumes nothing.
-use Prim.Native.Nat.{ℕ, _+_, _*_, _-_, _≤_, _<_}
+use Prim.Native.Nat.{ℕ, _+_, _*_, _≤_, _<_}
 use mathlib.Core.Path.{_≡_, refl, sym, _∙_, ap}
 use mathlib.Core.Bool.{Bool, true, false}
-use mathlib.Core.List.{List, [], _∷_, map, reverse, append-nil}
+use mathlib.Core.List.{List, [], map, reverse, append-nil}
 use native.Mathlib.Omega.{arith}
 use native.Mathlib.Decide.{decLt}
 use native.Mathlib.Nat.{mul-le-mul-left, mul-le-mul-right}
@@ -19,7 +19,7 @@ use Rattle.euler.specs.declared.Rings.{Rings}
 use Rattle.euler.specs.Split.{add-halves, rest, every-other, add-pairs, rbmg-split-into-two}
 use Rattle.euler.specs.Room.{Splits, Halves-stored}
 use Rattle.euler.specs.Bounds.{Walks, Split-fits}
-use Rattle.euler.specs.Model.{Fits, Stage, copiesM, fillM, walked, halfM, laid, splitM}
+use Rattle.euler.specs.Model.{Fits, Stage, fillM, walked, halfM, laid, splitM}
 use Rattle.euler.proofs.Taken.{ends}
 use Rattle.euler.proofs.Straight.{along, along-total, Same-tour, same-tour, split-along}
 use Rattle.euler.proofs.Places.{keep}

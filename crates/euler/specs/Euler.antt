@@ -1,6 +1,6 @@
 -- Module 3 of document 01, `euler_cycles`: from each unvisited party in number order, walk the first remaining pair; when
 -- stuck, step back and write down the pair; a cycle is read in that written order. Assumes nothing.
-use Prim.Native.Nat.{ℕ, zero, suc, _+_, _*_}
+use Prim.Native.Nat.{ℕ, zero, suc, _*_}
 use mathlib.Core.Bool.{Bool, false, _||_}
 use mathlib.Core.List.{List, [], _∷_, _++_, reverse}
 use lib.Dec.{eqb}
