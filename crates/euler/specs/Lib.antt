@@ -4,7 +4,7 @@ pub mod Halved
 pub mod Room
 pub mod Model
 pub mod Bounds
-pub mod RoundModel
-pub mod RoundBounds
+pub mod CircuitModel
+pub mod CircuitBounds
 pub mod Computing
 pub mod Examples

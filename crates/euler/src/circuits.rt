@@ -1,14 +1,15 @@
-// The split of a graph of degree 2. Its pairs of 2 copies go to both halves; in the rest every party is in two pairs or none, so
-// that the rest falls into closed rounds, and no stack is needed: from each party in number order that has not been visited,
-// the round begins with the party's last pair, goes on at each party by the other pair, and its pairs go to the first half and
-// the second in turn. That is the cycle which `euler_cycles` writes down: it begins with the first pair and writes from the end.
+// The split of a graph of degree 2; `two_` in a name says that it is for that degree. Its pairs of 2 copies go to both halves. In
+// the rest every party is in two pairs or none, so that the rest falls into circuits, closed rounds that come to a party once,
+// and no stack is needed: from each party in number order that has not been visited, the circuit begins with the party's last
+// pair, goes on at each party by the other pair, and its pairs go to the first half and the second in turn. That is the cycle
+// which `euler_cycles` writes down: it begins with the first pair and writes from the end.
 ghost use mathlib.Core.Path.{_≡_};
 ghost use Prim.Native.Nat.{ℕ, _+_, _*_, _-_, _/_, _<_, _≤_};
 ghost use lib.ListN.{length};
-ghost use Rattle.euler.specs.RoundModel.{Lies, twoStartM, twoSiftM, twoSiftAllM, twoNoteM, twoFillM};
-ghost use Rattle.euler.specs.RoundModel.{twoStepM, twoRoundM, twoFromM, twoWalkM, headM, splitTwoM, fewSumM};
-ghost use Rattle.euler.specs.RoundBounds.{«Two-sifts», «Two-sifts-all», «Two-notes», «Two-fills», «Two-steps», «Two-rounds»};
-ghost use Rattle.euler.specs.RoundBounds.{«Two-froms», «Two-walks», «Two-splits»};
+ghost use Rattle.euler.specs.CircuitModel.{Lies, twoStartM, twoSiftM, twoSiftAllM, twoNoteM, twoFillM};
+ghost use Rattle.euler.specs.CircuitModel.{twoStepM, twoCircuitM, twoFromM, twoWalkM, headM, splitTwoM, fewSumM};
+ghost use Rattle.euler.specs.CircuitBounds.{«Two-sifts», «Two-sifts-all», «Two-notes», «Two-fills», «Two-steps», «Two-circuits»};
+ghost use Rattle.euler.specs.CircuitBounds.{«Two-froms», «Two-walks», «Two-splits»};
 use crate::many;
 use crate::push;
 use multigraph::EdgeIndex;
@@ -16,7 +17,7 @@ use multigraph::end_of;
 use words::set_word;
 use words::word_at;
 
-// Where the words of a split of degree 2 lie: the graph, the table of ends, both halves, two words for each party, and the odd
+// Where the words of a split of a graph of degree two lie: the graph, the table of ends, both halves, two words for each party, and the odd
 // pairs' numbers. The half-edge 2·e stands at the first end of the pair number e, and 2·e + 1 at its second end, which stand
 // in the table at ends + 2·e and ends + 2·e + 1. A party's words, at b + 2·v: its last half-edge plus 1, or 0 where it has none
 // or was visited; and the sum of its half-edges, cut to 32 bits, so that of its two the one gives the other.
@@ -66,6 +67,7 @@ fn two_sift(s: &mut [u32], l: Two, i: usize, n: Sifted) -> Sifted
     }
 }
 
+// All m entries, in order.
 fn two_sift_all(s: &mut [u32], l: Two, m: usize) -> Sifted
     requires { ⌜ Lies l × (m < 4294967296) × Two-sifts-all l m (now s) ⌝ }
     ensures { λ r. ⌜ (record { words = now (s .exit); sifted = r } ≡ twoSiftAllM l m (now (s .entry))) × (r .even ≤ m) × (r .odd ≤ m) ⌝ }
@@ -119,10 +121,10 @@ fn two_step(s: &mut [u32], l: Two, h: usize, at: usize, y: usize) -> usize
     (sum + 4294967296 - other) % 4294967296
 }
 
-// The round that begins with the half-edge y0: its pairs go to the first half and the second in turn.
-fn two_round(s: &mut [u32], l: Two, at: usize, y0: usize, bound: usize) -> usize
-    requires { ⌜ Lies l × (at + bound < 4294967296) × (y0 < 4294967296) × Two-rounds l y0 bound (now s) at y0 ⌝ }
-    ensures { λ r. ⌜ record { words = now (s .exit); number = r } ≡ twoRoundM l y0 bound (now (s .entry)) at y0 ⌝ }
+// The circuit that begins with the half-edge y0: its pairs go to the first half and the second in turn.
+fn two_circuit(s: &mut [u32], l: Two, at: usize, y0: usize, bound: usize) -> usize
+    requires { ⌜ Lies l × (at + bound < 4294967296) × (y0 < 4294967296) × Two-circuits l y0 bound (now s) at y0 ⌝ }
+    ensures { λ r. ⌜ record { words = now (s .exit); number = r } ≡ twoCircuitM l y0 bound (now (s .entry)) at y0 ⌝ }
 {
     let mut n = at;
     let mut y = y0;
@@ -139,7 +141,7 @@ fn two_round(s: &mut [u32], l: Two, at: usize, y0: usize, bound: usize) -> usize
     n
 }
 
-// The round from the party v, unless it has no pairs or was visited.
+// The circuit from the party v, unless it has no pairs or was visited.
 fn two_from(s: &mut [u32], l: Two, m: usize, at: usize, v: usize) -> usize
     requires { ⌜ Lies l × (at + m < 4294967296) × (v < 4294967296) × Two-froms l m (record { words = now s; number = at }) v ⌝ }
     ensures { λ r. ⌜ record { words = now (s .exit); number = r } ≡ twoFromM l m (record { words = now (s .entry); number = at }) v ⌝ }
@@ -148,10 +150,10 @@ fn two_from(s: &mut [u32], l: Two, m: usize, at: usize, v: usize) -> usize
     if y == 0 {
         return at;
     }
-    two_round(s, l, at, y - 1, m)
+    two_circuit(s, l, at, y - 1, m)
 }
 
-// The rounds from all parties, in number order.
+// The circuits from all parties, in number order.
 fn two_walk(s: &mut [u32], l: Two, m: usize, even: usize, parties: usize) -> usize
     requires { ⌜ Lies l × (parties < 4294967296) × Two-walks l m parties (record { words = now s; number = even }) ⌝ }
     ensures { λ r. ⌜ record { words = now (s .exit); number = r } ≡ twoWalkM l m parties (record { words = now (s .entry); number = even }) ⌝ }

@@ -1,7 +1,7 @@
 -- `split_at` meets its contract: the words are laid out, and `split_two` or `split_words` does the rest. Assumes nothing.
 use native.Mathlib.Omega.{arith}
 use Rattle.euler.proofs.SplitWords.{width-small, split-asks, split-gives}
-use Rattle.euler.proofs.RoundSplit.{split-two-asks, split-two-gives}
+use Rattle.euler.proofs.CircuitSplit.{split-two-asks, split-two-gives}
 use borrow.Author.Needs.{needs}
 use Rattle.euler.proofs.split_at.Statement.{statement}
 use Rattle.euler.proofs.split_at.Tie as tie

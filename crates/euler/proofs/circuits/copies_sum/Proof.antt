@@ -1,8 +1,8 @@
 use native.Mathlib.Omega.{arith}
 use Prim.Native.Nat.{ℕ, _+_, _*_, _-_, _≤_}
 use mathlib.Core.Path.{_≡_, refl, sym, _∙_, ap}
-use Rattle.euler.specs.RoundModel.{copiesSumM}
-use Rattle.euler.proofs.RoundModelLaws.{copies-sum-more, few-sum-none, few-sum-some}
+use Rattle.euler.specs.CircuitModel.{copiesSumM}
+use Rattle.euler.proofs.CircuitModelLaws.{copies-sum-more, few-sum-none, few-sum-some}
 use borrow.Author.Needs.{needs}
 use Rattle.euler.proofs.circuits.copies_sum.Statement.{statement}
 use Rattle.euler.proofs.circuits.copies_sum.Tie as tie

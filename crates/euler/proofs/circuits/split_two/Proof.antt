@@ -2,9 +2,9 @@ use native.Mathlib.Omega.{arith}
 use mathlib.Core.Path.{sym, _∙_, ap, subst}
 use mathlib.Core.List.{List}
 use Prim.Native.Nat.{ℕ}
-use Rattle.euler.specs.RoundModel.{twoFillM}
-use Rattle.euler.specs.RoundBounds.{Two-fills, Two-walks}
-use Rattle.euler.proofs.RoundModelLaws.{two-asks, split-two-so}
+use Rattle.euler.specs.CircuitModel.{twoFillM}
+use Rattle.euler.specs.CircuitBounds.{Two-fills, Two-walks}
+use Rattle.euler.proofs.CircuitModelLaws.{two-asks, split-two-so}
 use borrow.Author.Needs.{needs}
 use Rattle.euler.proofs.circuits.split_two.Statement.{statement}
 use Rattle.euler.proofs.circuits.split_two.Tie as tie

@@ -3,9 +3,9 @@ use Prim.Native.Nat.{ℕ, _-_, _≤_}
 use mathlib.Core.Path.{_≡_, refl, sym, _∙_, ap, subst}
 use mathlib.Core.List.{List}
 use lib.ListN.{length}
-use Rattle.euler.specs.RoundModel.{twoFillM}
-use Rattle.euler.specs.RoundBounds.{Two-fills}
-use Rattle.euler.proofs.RoundModelLaws.{two-fill-none, two-fill-first, two-fills-first}
+use Rattle.euler.specs.CircuitModel.{twoFillM}
+use Rattle.euler.specs.CircuitBounds.{Two-fills}
+use Rattle.euler.proofs.CircuitModelLaws.{two-fill-none, two-fill-first, two-fills-first}
 use borrow.Author.Needs.{needs}
 use Rattle.euler.proofs.circuits.two_fill.Statement.{statement}
 use Rattle.euler.proofs.circuits.two_fill.Tie as tie

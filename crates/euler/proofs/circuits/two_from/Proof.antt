@@ -1,6 +1,6 @@
 use native.Mathlib.Omega.{arith}
 use mathlib.Core.Path.{_∙_}
-use Rattle.euler.proofs.RoundModelLaws.{two-from-none, two-from-some, two-froms-some}
+use Rattle.euler.proofs.CircuitModelLaws.{two-from-none, two-from-some, two-froms-some}
 use borrow.Author.Needs.{needs}
 use Rattle.euler.proofs.circuits.two_from.Statement.{statement}
 use Rattle.euler.proofs.circuits.two_from.Tie as tie
@@ -10,8 +10,8 @@ returns c =
     let a = c .before .before .before .before .before .args in
     two-from-none (a .l) (a .m) (record { words = a .s .now; number = a .at }) (a .v) (c .before .word-at .result) (c .before .word-at .ensures .0) (c .if1 .taken)
 
-two-round-requires : tie.Need-two-round-requires
-two-round-requires c κs =
+two-circuit-requires : tie.Need-two-circuit-requires
+two-circuit-requires c κs =
     let a = c .before .before .before .before .before .before .args in
     let pre = c .before .before .before .before .before .before .pre in (
       pre .0,
@@ -23,7 +23,7 @@ two-round-requires c κs =
 returns-2 : tie.Need-returns-2
 returns-2 c =
     let a = c .before .before .before .before .before .before .before .before .before .args in
-    c .before .before .two-round .ensures ∙ two-from-some (a .l) (a .m) (record { words = a .s .now; number = a .at }) (a .v) (c .before .before .before .before .before .word-at .result) (c .before .before .before .before .before .word-at .ensures .0) (c .before .before .before .before .if1 .left)
+    c .before .before .two-circuit .ensures ∙ two-from-some (a .l) (a .m) (record { words = a .s .now; number = a .at }) (a .v) (c .before .before .before .before .before .word-at .result) (c .before .before .before .before .before .word-at .ensures .0) (c .before .before .before .before .if1 .left)
 
 pub two-from-spec : {M : Type 1} → statement M
 two-from-spec =
@@ -35,6 +35,6 @@ two-from-spec =
     (λ c. search needs)
     returns
     (λ c. search needs)
-    two-round-requires
+    two-circuit-requires
     (λ c. search needs)
     returns-2)

@@ -3,7 +3,7 @@ use Prim.Native.Nat.{_+_, _*_}
 use mathlib.Core.Path.{_≡_, _∙_, ap}
 use lib.ListN.{length}
 use Rattle.words.proofs.Frames.{length-put}
-use Rattle.euler.proofs.RoundModelLaws.{two-note-so, two-note-party}
+use Rattle.euler.proofs.CircuitModelLaws.{two-note-so, two-note-party}
 use borrow.Author.Needs.{needs}
 use Rattle.euler.proofs.circuits.two_note.Statement.{statement}
 use Rattle.euler.proofs.circuits.two_note.Tie as tie

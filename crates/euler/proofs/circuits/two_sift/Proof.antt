@@ -1,5 +1,5 @@
 use native.Mathlib.Omega.{arith}
-use Rattle.euler.proofs.RoundModelLaws.{two-sift-so}
+use Rattle.euler.proofs.CircuitModelLaws.{two-sift-so}
 use borrow.Author.Needs.{needs}
 use Rattle.euler.proofs.circuits.two_sift.Statement.{statement}
 use Rattle.euler.proofs.circuits.two_sift.Tie as tie

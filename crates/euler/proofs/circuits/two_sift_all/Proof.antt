@@ -2,8 +2,8 @@ use native.Mathlib.Omega.{arith}
 use Prim.Native.Nat.{ℕ, _-_, _≤_}
 use mathlib.Core.Path.{_≡_, refl, sym, _∙_, ap}
 use lib.ListN.{length}
-use Rattle.euler.specs.RoundModel.{Apart-so-far, twoSiftM, twoSiftAllM}
-use Rattle.euler.proofs.RoundModelLaws.{two-sift-more, two-sift-even, two-sift-odd}
+use Rattle.euler.specs.CircuitModel.{Apart-so-far, twoSiftM, twoSiftAllM}
+use Rattle.euler.proofs.CircuitModelLaws.{two-sift-more, two-sift-even, two-sift-odd}
 use borrow.Author.Needs.{needs}
 use Rattle.euler.proofs.circuits.two_sift_all.Statement.{statement}
 use Rattle.euler.proofs.circuits.two_sift_all.Tie as tie

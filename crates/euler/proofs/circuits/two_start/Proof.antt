@@ -4,8 +4,8 @@ use mathlib.Core.Path.{_≡_, refl, sym, _∙_, ap}
 use mathlib.Core.List.{List}
 use lib.ListN.{length}
 use Rattle.words.specs.Words.{put-word}
-use Rattle.euler.specs.RoundModel.{twoStartM}
-use Rattle.euler.proofs.RoundModelLaws.{two-start-more}
+use Rattle.euler.specs.CircuitModel.{twoStartM}
+use Rattle.euler.proofs.CircuitModelLaws.{two-start-more}
 use borrow.Author.Needs.{needs}
 use Rattle.euler.proofs.circuits.two_start.Statement.{statement}
 use Rattle.euler.proofs.circuits.two_start.Tie as tie

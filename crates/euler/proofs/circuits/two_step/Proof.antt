@@ -1,5 +1,5 @@
 use native.Mathlib.Omega.{arith}
-use Rattle.euler.proofs.RoundModelLaws.{two-step-so, two-step-party}
+use Rattle.euler.proofs.CircuitModelLaws.{two-step-so, two-step-party}
 use borrow.Author.Needs.{needs}
 use Rattle.euler.proofs.circuits.two_step.Statement.{statement}
 use Rattle.euler.proofs.circuits.two_step.Tie as tie

@@ -2,9 +2,9 @@ use native.Mathlib.Omega.{arith}
 use Prim.Native.Nat.{ℕ, _+_, _-_, _≤_, _<_}
 use mathlib.Core.Path.{_≡_, refl, sym, _∙_, ap, subst}
 use lib.ListN.{length}
-use Rattle.euler.specs.RoundModel.{Told, twoFromM, twoWalkM}
-use Rattle.euler.specs.RoundBounds.{Two-froms}
-use Rattle.euler.proofs.RoundModelLaws.{two-walk-more}
+use Rattle.euler.specs.CircuitModel.{Told, twoFromM, twoWalkM}
+use Rattle.euler.specs.CircuitBounds.{Two-froms}
+use Rattle.euler.proofs.CircuitModelLaws.{two-walk-more}
 use borrow.Author.Needs.{needs}
 use Rattle.euler.proofs.circuits.two_walk.Statement.{statement}
 use Rattle.euler.proofs.circuits.two_walk.Tie as tie

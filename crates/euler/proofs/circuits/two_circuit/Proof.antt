@@ -2,17 +2,17 @@ use native.Mathlib.Omega.{arith}
 use Prim.Native.Nat.{suc, _+_, _-_, _≤_, _<_}
 use mathlib.Core.Path.{_≡_, refl, sym, _∙_, subst}
 use lib.ListN.{length}
-use Rattle.euler.specs.RoundModel.{Told, twoPairM, twoRoundM}
-use Rattle.euler.specs.RoundBounds.{Two-steps, Two-rounds}
-use Rattle.euler.proofs.RoundModelLaws.{two-rounds-first, two-pair-so, two-round-none, two-round-back, two-round-on, two-rounds-on}
+use Rattle.euler.specs.CircuitModel.{Told, twoPairM, twoCircuitM}
+use Rattle.euler.specs.CircuitBounds.{Two-steps, Two-circuits}
+use Rattle.euler.proofs.CircuitModelLaws.{two-circuits-first, two-pair-so, two-circuit-none, two-circuit-back, two-circuit-on, two-circuits-on}
 use borrow.Author.Needs.{needs}
-use Rattle.euler.proofs.circuits.two_round.Statement.{statement}
-use Rattle.euler.proofs.circuits.two_round.Tie as tie
+use Rattle.euler.proofs.circuits.two_circuit.Statement.{statement}
+use Rattle.euler.proofs.circuits.two_circuit.Tie as tie
 
 abbrev Inv-loop : tie.InvT-loop
 Inv-loop s₀ l at y0 bound n₀ y₀ k₀ s n y k =
-    (k ≤ bound) × (length s ≡ length s₀) × (n ≡ at + k) × (y < 4294967296) × Two-rounds l y0 (bound - k) s n y
-    × (twoRoundM l y0 (bound - k) s n y ≡ twoRoundM l y0 bound s₀ at y0)
+    (k ≤ bound) × (length s ≡ length s₀) × (n ≡ at + k) × (y < 4294967296) × Two-circuits l y0 (bound - k) s n y
+    × (twoCircuitM l y0 (bound - k) s n y ≡ twoCircuitM l y0 bound s₀ at y0)
 
 abbrev μ-loop : tie.MeasureT-loop
 μ-loop s₀ l at y0 bound n₀ y₀ k₀ s n y k = bound - k
@@ -34,7 +34,7 @@ two-step-requires c κs =
       pre .0 .first,
       omega (arith, pre .1, inv .0, inv .2),
       inv .3,
-      two-rounds-first (a .l) (a .y0) (a .bound - w .k) (a .bound - (w .k + 1)) (w .s) (w .n) (w .y) (omega (arith, c .before .loop-test .taken)) (inv .4) .0,
+      two-circuits-first (a .l) (a .y0) (a .bound - w .k) (a .bound - (w .k + 1)) (w .s) (w .n) (w .y) (omega (arith, c .before .loop-test .taken)) (inv .4) .0,
     )
 
 two-step-requires-2 : tie.Need-two-step-requires-2 Inv-loop μ-loop
@@ -48,7 +48,7 @@ two-step-requires-2 c κs =
       omega (arith, pre .1, inv .0, inv .2),
       c .before .before .before .two-step .ensures .1,
       subst (λ (x : Told). Two-steps (a .l) (a .l .second) (x .words) (w .n) (x .number)) (sym (c .before .before .before .two-step .ensures .0))
-          (two-rounds-first (a .l) (a .y0) (a .bound - w .k) (a .bound - (w .k + 1)) (w .s) (w .n) (w .y) (omega (arith, c .before .before .before .before .before .loop-test .taken)) (inv .4) .1),
+          (two-circuits-first (a .l) (a .y0) (a .bound - w .k) (a .bound - (w .k + 1)) (w .s) (w .n) (w .y) (omega (arith, c .before .before .before .before .before .loop-test .taken)) (inv .4) .1),
     )
 
 add-n : tie.Need-add-n Inv-loop μ-loop
@@ -64,7 +64,7 @@ returns c =
     let p : Told = record { words = c .before .before .before .before .before .before .before .two-step .last .0; number = c .before .before .before .before .before .before .before .two-step .result } in
     let q : Told = record { words = c .before .before .before .two-step2 .last .0; number = c .before .before .before .two-step2 .result } in
     let e : q ≡ twoPairM (a .l) (w .s) (w .n) (w .y) = two-pair-so (a .l) (w .s) (w .n) (w .y) p q (c .before .before .before .before .before .before .before .two-step .ensures .0) (c .before .before .before .two-step2 .ensures .0) in
-    sym (two-round-back (a .l) (a .y0) (a .bound - w .k) (a .bound - (w .k + 1)) (w .s) (w .n) (w .y) q (omega (arith, c .before .before .before .before .before .before .before .before .before .loop-test .taken)) e (c .if1 .taken)) ∙ inv .5
+    sym (two-circuit-back (a .l) (a .y0) (a .bound - w .k) (a .bound - (w .k + 1)) (w .s) (w .n) (w .y) q (omega (arith, c .before .before .before .before .before .before .before .before .before .loop-test .taken)) e (c .if1 .taken)) ∙ inv .5
 
 loop-again : tie.Need-loop-again Inv-loop μ-loop
 loop-again c =
@@ -79,8 +79,8 @@ loop-again c =
       search needs,
       omega (arith, inv .2),
       c .before .before .before .two-step2 .ensures .1,
-      two-rounds-on (a .l) (a .y0) (a .bound - w .k) (a .bound - (w .k + 1)) (w .s) (w .n) (w .y) q more e (c .if1 .left) (inv .4),
-      sym (two-round-on (a .l) (a .y0) (a .bound - w .k) (a .bound - (w .k + 1)) (w .s) (w .n) (w .y) q more e (c .if1 .left)) ∙ inv .5,
+      two-circuits-on (a .l) (a .y0) (a .bound - w .k) (a .bound - (w .k + 1)) (w .s) (w .n) (w .y) q more e (c .if1 .left) (inv .4),
+      sym (two-circuit-on (a .l) (a .y0) (a .bound - w .k) (a .bound - (w .k + 1)) (w .s) (w .n) (w .y) q more e (c .if1 .left)) ∙ inv .5,
     )
 
 returns-2 : tie.Need-returns-2 Inv-loop μ-loop
@@ -88,10 +88,10 @@ returns-2 c =
     let inv = c .before .loop .inv in
     let w = c .before .loop in
     let a = c .before .before .before .args in
-    sym (two-round-none (a .l) (a .y0) (a .bound - w .k) (w .s) (w .n) (w .y) (omega arith)) ∙ inv .5
+    sym (two-circuit-none (a .l) (a .y0) (a .bound - w .k) (w .s) (w .n) (w .y) (omega arith)) ∙ inv .5
 
-pub two-round-spec : {M : Type 1} → statement M
-two-round-spec =
+pub two-circuit-spec : {M : Type 1} → statement M
+two-circuit-spec =
     tie.close
     (tie.spec
     Inv-loop

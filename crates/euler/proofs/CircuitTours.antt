@@ -1,5 +1,5 @@
--- The cycles of pairs in which every party has at most two ends are rounds: from each party in number order that has pairs
--- left, the round from its last half-edge. Assumes nothing.
+-- The cycles of pairs in which every party has at most two ends are circuits: from each party in number order that has pairs
+-- left, the circuit from its last half-edge. Assumes nothing.
 use Prim.Native.Nat.{ℕ, suc, _+_, _*_, _%_, _<_}
 use mathlib.Core.Path.{_≡_, refl, sym, _∙_, ap, subst}
 use mathlib.Core.Bool.{Bool, true, false}
@@ -19,7 +19,7 @@ use Rattle.euler.proofs.Tours.{with-cycle, visited-named}
 use Rattle.euler.proofs.Straight.{along, along-total, walked, Tour-at, tour-start, tour-past, tour-closed, tour-walk}
 use Rattle.euler.proofs.Straight as Straight
 use Rattle.euler.proofs.Leading.{lead, Leaves, leaves-all, leaves-then, leaves-walk}
-use Rattle.euler.proofs.Rounds.{Two-ended, Round, round-of, meet, pair-same}
+use Rattle.euler.proofs.CircuitTrails.{Two-ended, Circuit, circuit-of, meet, pair-same}
 
 -- the pair that is taken
 lead-taken : (t : Taken) (p : Pair) → lead t ≡ p ∷ [] → (os : List Pair) × (t ≡ taken p os)
@@ -37,17 +37,17 @@ no-pair v [] t z = refl
 no-pair v (p ∷ ps) t z = let k : Leads p v (t .0) = t .1 in absurd (omega (arith, leads-ends k v, is-same v))
 
 module _ (r : List Pair) (mate at : ℕ → ℕ) (pr : ℕ → Pair) (early late : ℕ → ℕ) (Half : ℕ → Type 0) (h : Two-ended r mate at pr early late Half) (side : ℕ → ℕ) (slant : total (aslant side) r ≡ 0) (evens : (v : ℕ) → total (ends v) r % 2 ≡ 0) (order : (v : ℕ) → 0 < total (ends v) r → lead (first-pair v (reverse r)) ≡ pr (early v) ∷ []) where
-  abbrev Round-of : ℕ → List Pair → Type 0
-  Round-of v T = Round r mate at pr early late Half h v T
+  abbrev Circuit-of : ℕ → List Pair → Type 0
+  Circuit-of v T = Circuit r mate at pr early late Half h v T
 
-  -- A closed trail from v whose last pair is v's first is v's round.
-  closed-round :
+  -- A closed trail from v whose last pair is v's first is v's circuit.
+  closed-circuit :
       (v : ℕ) (xs os : List Pair) → 0 < total (ends v) r → Trail v v (xs ++ (pr (early v) ∷ [])) →
       ((f : Pair → ℕ) → total f (xs ++ (pr (early v) ∷ [])) + total f os ≡ total f r) →
-      length (xs ++ (pr (early v) ∷ [])) % 2 ≡ 0 → Round-of v (xs ++ (pr (early v) ∷ []))
+      length (xs ++ (pr (early v) ∷ [])) % 2 ≡ 0 → Circuit-of v (xs ++ (pr (early v) ∷ []))
   unfolding total
-  closed-round v [] os s t whole even = absurd (omega arith)
-  closed-round v (q ∷ ys) os s t whole even =
+  closed-circuit v [] os s t whole even = absurd (omega arith)
+  closed-circuit v (q ∷ ys) os s t whole even =
       let p : Pair = pr (early v) in
       let k : Leads q v (t .0) = t .1 in
       let same : q ≡ pr (late v) =
@@ -60,12 +60,12 @@ module _ (r : List Pair) (mate at : ℕ → ℕ) (pr : ℕ → Pair) (early late
             (omega (arith, leads-ends (h .leads (early v) (h .early-half v s .0)) v, is-eq {u = v} (sym (h .early-half v s .1))))
             (λ f. omega (arith, whole f, total-append f ys (p ∷ []), total-append f ys os)) f,
       )) in
-      subst (λ (z : Pair). Round-of v (z ∷ ys ++ (p ∷ []))) (sym same)
-      (round-of r mate at pr early late Half h v (ys ++ (p ∷ [])) os s
+      subst (λ (z : Pair). Circuit-of v (z ∷ ys ++ (p ∷ []))) (sym same)
+      (circuit-of r mate at pr early late Half h v (ys ++ (p ∷ [])) os s
       (subst (λ (z : Pair). Trail v v (z ∷ ys ++ (p ∷ []))) same t) (λ f. omega (arith, whole f, ap f same)) even)
 
   -- what the definition's tour has come to before party v
-  pub record Rounded (v : ℕ) (t : Tour) : Type 0 where
+  pub record Tour-ordered (v : ℕ) (t : Tour) : Type 0 where
     pub so-far : Tour-at v r t
     pub leaves : Leaves (reverse r) (t .left)
 
@@ -74,10 +74,10 @@ module _ (r : List Pair) (mate at : ℕ → ℕ) (pr : ℕ → Pair) (early late
     pub along-same : along (u .cycles) ≡ along (t .cycles)
     pub left-same : (f : Pair → ℕ) → total f (u .left) ≡ total f (t .left)
 
-  -- party v has pairs left, and its round is one more cycle
+  -- party v has pairs left, and its circuit is one more cycle
   pub record One-more (v : ℕ) (t u : Tour) : Type 0 where
     pub cycle : List Pair
-    pub round : Round-of v cycle
+    pub circuit : Circuit-of v cycle
     pub size : length cycle % 2 ≡ 0
     pub some : 0 < length cycle
     pub along-more : along (u .cycles) ≡ along (t .cycles) ++ cycle
@@ -85,10 +85,10 @@ module _ (r : List Pair) (mate at : ℕ → ℕ) (pr : ℕ → Pair) (early late
 
   pub record Turned (v : ℕ) (t : Tour) : Type 0 where
     pub after : Tour
-    pub rounded : Rounded (suc v) after
+    pub ordered : Tour-ordered (suc v) after
     pub by : ((total (ends v) (t .left) ≡ 0) × Passed t after) ⊎ ((total (ends v) (t .left) ≡ 2) × One-more v t after)
 
-  module _ (v : ℕ) (t : Tour) (k : Rounded v t) where
+  module _ (v : ℕ) (t : Tour) (k : Tour-ordered v t) where
     abbrev w : Walking
     w = walked v (t .left)
 
@@ -102,7 +102,7 @@ module _ (r : List Pair) (mate at : ℕ → ℕ) (pr : ℕ → Pair) (early late
     cycle-even = Straight.cycle-even side r slant evens v t (k .so-far)
 
     -- the walk from a party not visited
-    walks-on : visited v (t .cycles) ≡ false → Rounded (suc v) u
+    walks-on : visited v (t .cycles) ≡ false → Tour-ordered (suc v) u
     walks-on e =
         record {
           so-far = tour-walk side r slant evens v t (k .so-far) e;
@@ -110,7 +110,7 @@ module _ (r : List Pair) (mate at : ℕ → ℕ) (pr : ℕ → Pair) (early late
         }
 
     -- a party visited
-    stays : visited v (t .cycles) ≡ true → Rounded (suc v) t
+    stays : visited v (t .cycles) ≡ true → Tour-ordered (suc v) t
     stays e = record { so-far = tour-past side r slant evens v t (k .so-far) e; leaves = k .leaves }
 
     along-u : along (u .cycles) ≡ along (t .cycles) ++ reverse (w .written)
@@ -127,9 +127,9 @@ module _ (r : List Pair) (mate at : ℕ → ℕ) (pr : ℕ → Pair) (early late
         }
 
     -- both are
-    round-more : total (ends v) (t .left) ≡ 2 → One-more v t u
+    circuit-more : total (ends v) (t .left) ≡ 2 → One-more v t u
     unfolding total
-    round-more two =
+    circuit-more two =
         let p : Pair = pr (early v) in
         let all : total (ends v) r ≡ 2 = omega (arith, h .few v, k .so-far .toured .whole (ends v)) in
         let first : (os : List Pair) × (first-pair v (t .left) ≡ taken p os) =
@@ -139,8 +139,8 @@ module _ (r : List Pair) (mate at : ℕ → ℕ) (pr : ℕ → Pair) (early late
         walk-head v (t .left) p (first .0) (k .so-far .toured .even) two (first .1) in
         let as-cycle : reverse (w .written) ≡ reverse (last .0) ++ (p ∷ []) =
         ap reverse (last .1) ∙ reverse-cons p (last .0) in
-        let goes : Round-of v (reverse (last .0) ++ (p ∷ [])) =
-        closed-round v (reverse (last .0)) (w .left ++ along (t .cycles)) (omega arith)
+        let goes : Circuit-of v (reverse (last .0) ++ (p ∷ [])) =
+        closed-circuit v (reverse (last .0)) (w .left ++ along (t .cycles)) (omega arith)
         (subst (Trail v v) as-cycle (trail-reverse v v (w .written) (closed .trail)))
         (λ f.
         omega (
@@ -155,7 +155,7 @@ module _ (r : List Pair) (mate at : ℕ → ℕ) (pr : ℕ → Pair) (early late
         (rw (← as-cycle) cycle-even) in
         record {
           cycle = reverse (w .written);
-          round = subst (Round-of v) (sym as-cycle) goes;
+          circuit = subst (Circuit-of v) (sym as-cycle) goes;
           size = cycle-even;
           some = omega (arith, ap length (last .1), length-reverse (w .written));
           along-more = along-u;
@@ -163,21 +163,21 @@ module _ (r : List Pair) (mate at : ℕ → ℕ) (pr : ℕ → Pair) (early late
         }
 
   -- one party more
-  pub turned : (v : ℕ) (t : Tour) → Rounded v t → Turned v t
+  pub turned : (v : ℕ) (t : Tour) → Tour-ordered v t → Turned v t
   turned v t k = go (visited v (t .cycles)) refl
     where
       go : (b : Bool) → visited v (t .cycles) ≡ b → Turned v t
       go true e =
           let z : total (ends v) (t .left) ≡ 0 = k .so-far .toured .spent v (visited-named v (t .cycles) e) in
-          record { after = t; rounded = stays v t k e; by = inl (z, record { along-same = refl; left-same = λ f. refl }) }
+          record { after = t; ordered = stays v t k e; by = inl (z, record { along-same = refl; left-same = λ f. refl }) }
       go false e =
           elim (ℕ-discrete (total (ends v) (t .left)) 0) [
-            | yes z ↦ record { after = u v t k; rounded = walks-on v t k e; by = inl (z, nothing v t k z) }
+            | yes z ↦ record { after = u v t k; ordered = walks-on v t k e; by = inl (z, nothing v t k z) }
             | no n ↦
                 let two : total (ends v) (t .left) ≡ 2 = omega (arith, h .few v, k .so-far .toured .whole (ends v), k .so-far .toured .even v) in
-                record { after = u v t k; rounded = walks-on v t k e; by = inr (two, round-more v t k two) }
+                record { after = u v t k; ordered = walks-on v t k e; by = inr (two, circuit-more v t k two) }
           ]
 
   -- before the first party
-  pub begun : Rounded 0 (record { cycles = []; left = reverse r })
+  pub begun : Tour-ordered 0 (record { cycles = []; left = reverse r })
   begun = record { so-far = tour-start side r slant evens; leaves = leaves-all (reverse r) }

@@ -8,8 +8,8 @@ use lib.ListN.{length}
 use Rattle.words.specs.Basics.{All}
 use Rattle.multigraph.specs.Multigraph.{Pair}
 use Rattle.euler.specs.Split.{every-other}
-use Rattle.euler.proofs.Rounds.{trace}
-use Rattle.euler.proofs.RoundSteps.{double, numbers}
+use Rattle.euler.proofs.CircuitTrails.{trace}
+use Rattle.euler.proofs.CircuitSteps.{double, numbers}
 
 pub double-is : (n : ℕ) → double n ≡ 2 * n
 unfolding double

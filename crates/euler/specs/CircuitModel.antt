@@ -1,5 +1,5 @@
--- The functions of the split of a graph of degree 2 on the list of words, each with the same steps in the same order. Assumes
--- nothing.
+-- The functions of circuits.rt, the split of a graph of degree 2, on the list of words, each with the same steps in the same
+-- order. Assumes nothing.
 use Prim.Native.Nat.{ℕ, zero, suc, _+_, _*_, _-_, _/_, _%_, _<_}
 use mathlib.Core.List.{List}
 use lib.Dec.{eqb, ltb}
@@ -72,7 +72,7 @@ unfoldable pub twoFillM : Two → ℕ → ℕ → List ℕ → List ℕ
 twoFillM l side zero s = s
 twoFillM l side (suc j) s = twoFillM l side j (twoNoteM l side s j)
 
--- ── the rounds ──
+-- ── the circuits ──
 
 -- the other half-edge of the same pair
 abbrev pub otherM : ℕ → ℕ
@@ -93,17 +93,17 @@ unfoldable pub twoPairM : Two → List ℕ → ℕ → ℕ → Told
 twoPairM l s at y = let p = twoStepM l (l .first) s at y in twoStepM l (l .second) (p .words) at (p .number)
 
 -- until back at the half-edge y₀; the number is how many pairs each half has
-unfoldable pub twoRoundM : Two → ℕ → ℕ → List ℕ → ℕ → ℕ → Told
-twoRoundM l y₀ zero s at y = record { words = s; number = at }
-twoRoundM l y₀ (suc n) s at y =
+unfoldable pub twoCircuitM : Two → ℕ → ℕ → List ℕ → ℕ → ℕ → Told
+twoCircuitM l y₀ zero s at y = record { words = s; number = at }
+twoCircuitM l y₀ (suc n) s at y =
     let q = twoPairM l s at y in
-    pick (eqb (q .number) y₀) (record { words = q .words; number = at + 1 }) (twoRoundM l y₀ n (q .words) (at + 1) (q .number))
+    pick (eqb (q .number) y₀) (record { words = q .words; number = at + 1 }) (twoCircuitM l y₀ n (q .words) (at + 1) (q .number))
 
--- the round from the party v, unless it has no pairs or was visited
+-- the circuit from the party v, unless it has no pairs or was visited
 unfoldable pub twoFromM : Two → ℕ → Told → ℕ → Told
 twoFromM l m t v =
     let y = word (t .words) (l .b + 2 * v) in
-    pick (eqb y 0) t (twoRoundM l (y - 1) m (t .words) (t .number) (y - 1))
+    pick (eqb y 0) t (twoCircuitM l (y - 1) m (t .words) (t .number) (y - 1))
 
 unfoldable pub twoWalkM : Two → ℕ → ℕ → Told → Told
 twoWalkM l m zero t = t

@@ -1,5 +1,5 @@
--- A round on words: each step deals the pair of its half-edge and goes on by the other half-edge of the party it leads to, and
--- after as many steps as the round is long it is back. Assumes nothing.
+-- A circuit on words: each step deals the pair of its half-edge and goes on by the other half-edge of the party it leads to, and
+-- after as many steps as the circuit is long it is back. Assumes nothing.
 use Prim.Native.Nat.{ℕ, zero, suc, _+_, _*_, _-_, _/_, _%_, _≤_, _<_}
 use mathlib.Core.Path.{_≡_, refl, sym, _∙_, ap, subst}
 use mathlib.Core.Bool.{Bool, true, false}
@@ -17,15 +17,15 @@ use Rattle.words.proofs.Sums.{is-eq, is-ne, all-counted}
 use Rattle.words.proofs.Frames.{here, away, length-put}
 use Rattle.multigraph.specs.Multigraph.{Pair}
 use Rattle.euler.specs.declared.circuits.Two.{Two}
-use Rattle.euler.specs.RoundModel.{Told, singleM, otherM, twoStepM, twoPairM}
-use Rattle.euler.specs.RoundBounds.{Two-steps}
+use Rattle.euler.specs.CircuitModel.{Told, singleM, otherM, twoStepM, twoPairM}
+use Rattle.euler.specs.CircuitBounds.{Two-steps}
 use Rattle.euler.proofs.Taken.{ends}
-use Rattle.euler.proofs.Rounds as Rounds
-use Rattle.euler.proofs.RoundEnds as Ends
-use Rattle.euler.proofs.RoundFill as Fill
-use Rattle.euler.proofs.RoundHeld.{Held, held-same, held-more, single-away}
-use Rattle.euler.proofs.RoundFill.{Ground}
-use Rattle.euler.proofs.RoundModelLaws.{single-length}
+use Rattle.euler.proofs.CircuitTrails as Trails
+use Rattle.euler.proofs.CircuitEnds as Ends
+use Rattle.euler.proofs.CircuitFill as Fill
+use Rattle.euler.proofs.CircuitHeld.{Held, held-same, held-more, single-away}
+use Rattle.euler.proofs.CircuitFill.{Ground}
+use Rattle.euler.proofs.CircuitModelLaws.{single-length}
 
 -- twice
 unfoldable pub double : ℕ → ℕ
@@ -57,7 +57,7 @@ module _ {l : Two} {N m k u : ℕ} {s₀ : List ℕ} (g : Ground l N m k u s₀)
   leads-to y = E (Ends.mate y)
 
   abbrev pub next : ℕ → ℕ
-  next y = Rounds.next r Ends.mate E (Ends.pr E flag es) early late Half y
+  next y = Trails.next r Ends.mate E (Ends.pr E flag es) early late Half y
 
   -- the marks with those of visited parties wiped out
   abbrev pub wiped : ℕ → (ℕ → ℕ) → ℕ → ℕ
@@ -92,7 +92,7 @@ module _ {l : Two} {N m k u : ℕ} {s₀ : List ℕ} (g : Ground l N m k u s₀)
       wipe-miss hs (wiped y M) x (omega arith)
       ∙ rw (ne-eqb x (leads-to y) (λ e. omega (arith, is-eq {u = x} {v = leads-to y} e)))
 
-  -- what the words hold while rounds are gone
+  -- what the words hold while circuits are gone
   pub record Going (ds₁ ds₂ : List ℕ) (M : ℕ → ℕ) (s : List ℕ) : Type 0 where
     pub keeps : Keeps u s₀ s
     pub first : Held s u ds₁
@@ -102,7 +102,7 @@ module _ {l : Two} {N m k u : ℕ} {s₀ : List ℕ} (g : Ground l N m k u s₀)
         (v : ℕ) → v < N → 0 < total (ends v) r → word s (l .b + 2 * v + 1) ≡ (early v + late v) % 4294967296
 
   module _ (two : Ends.Twos E flag es r) where
-    pub ended : Rounds.Two-ended r Ends.mate E (Ends.pr E flag es) early late Half
+    pub ended : Trails.Two-ended r Ends.mate E (Ends.pr E flag es) early late Half
     ended = Ends.two-ended E flag es r two
 
     -- a half-edge's words are where they should be
@@ -142,7 +142,7 @@ module _ {l : Two} {N m k u : ℕ} {s₀ : List ℕ} (g : Ground l N m k u s₀)
     step-number h s at y v sum e f = rw (e, f)
 
     number-next : (y : ℕ) → Half y → ((early (leads-to y) + late (leads-to y)) % 4294967296 + 4294967296 - Ends.mate y) % 4294967296 ≡ next y
-    unfolding Rounds.next
+    unfolding Trails.next
     number-next y i =
         let v : ℕ = leads-to y in
         let j : Half (Ends.mate y) = ended .mate-half y i in
@@ -194,7 +194,7 @@ module _ {l : Two} {N m k u : ℕ} {s₀ : List ℕ} (g : Ground l N m k u s₀)
                 };
             is-words = step-words h s at y v ev;
             is-next = step-number h s at y v ((early v + late v) % 4294967296) ev sum ∙ number-next y i;
-            half = Rounds.next-half r Ends.mate E (Ends.pr E flag es) early late Half ended y i;
+            half = Trails.next-half r Ends.mate E (Ends.pr E flag es) early late Half ended y i;
           }
 
       wiped-marks : (x : ℕ) → x < N → word (dealt-to h s at y) (l .b + 2 * x) ≡ wiped y M x

@@ -15,12 +15,12 @@ use Rattle.words.specs.Frames.{Keeps}
 use Rattle.words.proofs.Frames.{here, away, length-put, keeps-refl, keeps-then-put}
 use Rattle.euler.specs.declared.circuits.Two.{Two}
 use Rattle.euler.specs.Model.{manyM}
-use Rattle.euler.specs.RoundModel.{Apart-so-far, singleM, twoStartM, twoSiftM, twoSiftAllM, halfEdgeM, twoNoteM, twoFillM}
-use Rattle.euler.specs.RoundBounds.{Two-notes, Two-fills}
+use Rattle.euler.specs.CircuitModel.{Apart-so-far, singleM, twoStartM, twoSiftM, twoSiftAllM, halfEdgeM, twoNoteM, twoFillM}
+use Rattle.euler.specs.CircuitBounds.{Two-notes, Two-fills}
 use Rattle.euler.proofs.Places.{keep, keep-yes, keep-no, keep-all, keep-length, descend, descend-below, descend-length}
-use Rattle.euler.proofs.RoundHeld.{Held, held-same, single-away, held-more}
+use Rattle.euler.proofs.CircuitHeld.{Held, held-same, single-away, held-more}
 use Rattle.euler.proofs.Notes.{Noted, noted-same}
-use Rattle.euler.proofs.RoundModelLaws.{single-length}
+use Rattle.euler.proofs.CircuitModelLaws.{single-length}
 
 -- one entry sifted, by what is read
 sift-is :

@@ -15,8 +15,8 @@ use Rattle.words.proofs.Frames.{length-put}
 use Rattle.euler.specs.declared.circuits.Two.{Two}
 use Rattle.euler.specs.declared.circuits.Sifted.{Sifted}
 use Rattle.euler.specs.Model.{manyM}
-use Rattle.euler.specs.RoundModel.{Told, Apart-so-far, singleM, twoStartM, twoSiftM, twoSiftAllM, twoNoteM, twoFillM, otherM, twoStepM, twoPairM, twoRoundM, twoFromM, twoWalkM, headM, twoFilledM, splitTwoM, copiesSumM, fewSumM}
-use Rattle.euler.specs.RoundBounds.{Two-notes, Two-fills, Two-steps, Two-rounds, Two-froms, Two-walks, Two-splits}
+use Rattle.euler.specs.CircuitModel.{Told, Apart-so-far, singleM, twoStartM, twoSiftM, twoSiftAllM, twoNoteM, twoFillM, otherM, twoStepM, twoPairM, twoCircuitM, twoFromM, twoWalkM, headM, twoFilledM, splitTwoM, copiesSumM, fewSumM}
+use Rattle.euler.specs.CircuitBounds.{Two-notes, Two-fills, Two-steps, Two-circuits, Two-froms, Two-walks, Two-splits}
 
 pub two-start-more :
     (l : Two) (v : ℕ) (s : List ℕ) →
@@ -89,7 +89,7 @@ pub two-fills-first :
 two-fills-first l side zero s h f = absurd (omega arith)
 two-fills-first l side (suc k) s h f = let e : suc k - 1 ≡ k = omega arith in rw e f
 
--- ── steps and rounds ──
+-- ── steps and circuits ──
 
 pub two-step-so :
     (l : Two) (h : ℕ) (s : List ℕ) (at y v sum : ℕ) (t u : List ℕ) → t ≡ singleM h s at (y / 2) →
@@ -115,43 +115,43 @@ pub two-pair-so :
 unfolding twoPairM
 two-pair-so l s at y p q ep eq = eq ∙ ap (λ (x : Told). twoStepM l (l .second) (x .words) at (x .number)) ep
 
-pub two-rounds-first :
-    (l : Two) (y₀ n k : ℕ) (s : List ℕ) (at y : ℕ) → n ≡ suc k → Two-rounds l y₀ n s at y →
+pub two-circuits-first :
+    (l : Two) (y₀ n k : ℕ) (s : List ℕ) (at y : ℕ) → n ≡ suc k → Two-circuits l y₀ n s at y →
     Two-steps l (l .first) s at y
     × Two-steps l (l .second) (twoStepM l (l .first) s at y .words) at (twoStepM l (l .first) s at y .number)
-    × ((twoPairM l s at y .number ≡ y₀ → ⊥) → Two-rounds l y₀ k (twoPairM l s at y .words) (at + 1) (twoPairM l s at y .number))
-two-rounds-first l y₀ n k s at y e h = rw e at h
+    × ((twoPairM l s at y .number ≡ y₀ → ⊥) → Two-circuits l y₀ k (twoPairM l s at y .words) (at + 1) (twoPairM l s at y .number))
+two-circuits-first l y₀ n k s at y e h = rw e at h
 
-pub two-round-none : (l : Two) (y₀ n : ℕ) (s : List ℕ) (at y : ℕ) → n ≡ 0 → twoRoundM l y₀ n s at y ≡ record { words = s; number = at }
-unfolding twoRoundM
-two-round-none l y₀ n s at y e = rw e
+pub two-circuit-none : (l : Two) (y₀ n : ℕ) (s : List ℕ) (at y : ℕ) → n ≡ 0 → twoCircuitM l y₀ n s at y ≡ record { words = s; number = at }
+unfolding twoCircuitM
+two-circuit-none l y₀ n s at y e = rw e
 
-pub two-round-back :
+pub two-circuit-back :
     (l : Two) (y₀ n k : ℕ) (s : List ℕ) (at y : ℕ) (q : Told) → n ≡ suc k → q ≡ twoPairM l s at y → q .number ≡ y₀ →
-    twoRoundM l y₀ n s at y ≡ record { words = q .words; number = at + 1 }
-unfolding twoRoundM
-two-round-back l y₀ n k s at y q e eq b =
+    twoCircuitM l y₀ n s at y ≡ record { words = q .words; number = at + 1 }
+unfolding twoCircuitM
+two-circuit-back l y₀ n k s at y q e eq b =
     let c : twoPairM l s at y .number ≡ y₀ = ap (λ (x : Told). x .number) (sym eq) ∙ b in
     rw (e, eq-eqb (twoPairM l s at y .number) y₀ c)
     (ap (λ (x : Told). record { words = x .words; number = at + 1 }) (sym eq))
 
-pub two-round-on :
+pub two-circuit-on :
     (l : Two) (y₀ n k : ℕ) (s : List ℕ) (at y : ℕ) (q : Told) → n ≡ suc k → q ≡ twoPairM l s at y → (q .number ≡ y₀ → ⊥) →
-    twoRoundM l y₀ n s at y ≡ twoRoundM l y₀ k (q .words) (at + 1) (q .number)
-unfolding twoRoundM
-two-round-on l y₀ n k s at y q e eq b =
+    twoCircuitM l y₀ n s at y ≡ twoCircuitM l y₀ k (q .words) (at + 1) (q .number)
+unfolding twoCircuitM
+two-circuit-on l y₀ n k s at y q e eq b =
     let c : twoPairM l s at y .number ≡ y₀ → ⊥ = λ z. b (ap (λ (x : Told). x .number) eq ∙ z) in
     rw (e, ne-eqb (twoPairM l s at y .number) y₀ c)
-    (ap (λ (x : Told). twoRoundM l y₀ k (x .words) (at + 1) (x .number)) (sym eq))
+    (ap (λ (x : Told). twoCircuitM l y₀ k (x .words) (at + 1) (x .number)) (sym eq))
 
-pub two-rounds-on :
+pub two-circuits-on :
     (l : Two) (y₀ n k : ℕ) (s : List ℕ) (at y : ℕ) (q : Told) → n ≡ suc k → q ≡ twoPairM l s at y → (q .number ≡ y₀ → ⊥) →
-    Two-rounds l y₀ n s at y → Two-rounds l y₀ k (q .words) (at + 1) (q .number)
-two-rounds-on l y₀ n k s at y q e eq b h =
-    subst (λ (x : Told). Two-rounds l y₀ k (x .words) (at + 1) (x .number)) (sym eq)
-    (two-rounds-first l y₀ n k s at y e h .2 (λ z. b (ap (λ (x : Told). x .number) eq ∙ z)))
+    Two-circuits l y₀ n s at y → Two-circuits l y₀ k (q .words) (at + 1) (q .number)
+two-circuits-on l y₀ n k s at y q e eq b h =
+    subst (λ (x : Told). Two-circuits l y₀ k (x .words) (at + 1) (x .number)) (sym eq)
+    (two-circuits-first l y₀ n k s at y e h .2 (λ z. b (ap (λ (x : Told). x .number) eq ∙ z)))
 
--- ── all rounds ──
+-- ── all circuits ──
 
 pub two-from-none : (l : Two) (m : ℕ) (t : Told) (v y : ℕ) → y ≡ word (t .words) (l .b + 2 * v) → y ≡ 0 → t ≡ twoFromM l m t v
 unfolding twoFromM
@@ -160,7 +160,7 @@ two-from-none l m t v y e z =
 
 pub two-from-some :
     (l : Two) (m : ℕ) (t : Told) (v y : ℕ) → y ≡ word (t .words) (l .b + 2 * v) → (y ≡ 0 → ⊥) →
-    twoRoundM l (y - 1) m (t .words) (t .number) (y - 1) ≡ twoFromM l m t v
+    twoCircuitM l (y - 1) m (t .words) (t .number) (y - 1) ≡ twoFromM l m t v
 unfolding twoFromM
 two-from-some l m t v y e n =
     let w : word (t .words) (l .b + 2 * v) ≡ 0 → ⊥ = λ z. n (e ∙ z) in
@@ -168,8 +168,8 @@ two-from-some l m t v y e n =
 
 pub two-froms-some :
     (l : Two) (m : ℕ) (t : Told) (v y : ℕ) → y ≡ word (t .words) (l .b + 2 * v) → (y ≡ 0 → ⊥) → Two-froms l m t v →
-    Two-rounds l (y - 1) m (t .words) (t .number) (y - 1)
-two-froms-some l m t v y e n h = rw e (h .round (λ z. n (e ∙ z)))
+    Two-circuits l (y - 1) m (t .words) (t .number) (y - 1)
+two-froms-some l m t v y e n h = rw e (h .circuit (λ z. n (e ∙ z)))
 
 pub two-walk-more : (l : Two) (m v : ℕ) (t : Told) → twoWalkM l m (v + 1) t ≡ twoFromM l m (twoWalkM l m v t) v
 unfolding twoWalkM
@@ -177,7 +177,7 @@ two-walk-more l m v t = rw add-one
 
 -- ── the split ──
 
--- what filling each side and the rounds ask, from what the steps before give
+-- what filling each side and the circuits ask, from what the steps before give
 pub two-asks :
     {l : Two} {m parties : ℕ} {n : Sifted} {s t u : List ℕ} → Two-splits l m parties s → t ≡ twoStartM l parties s →
     record { words = u; sifted = n } ≡ twoSiftAllM l m t →

@@ -1,4 +1,5 @@
--- What the functions of the split of a graph of degree 2 ask of the words: that each place they touch is one. Assumes nothing.
+-- What the functions of circuits.rt, the split of a graph of degree 2, ask of the words: that each place they touch is one.
+-- Assumes nothing.
 use Prim.Native.Nat.{ℕ, zero, suc, _+_, _*_, _-_, _/_, _<_, _≤_}
 use mathlib.Core.Path.{_≡_}
 use mathlib.Core.List.{List}
@@ -6,7 +7,7 @@ use lib.ListN.{length}
 use Rattle.words.specs.Words.{word}
 use Rattle.euler.specs.declared.circuits.Two.{Two}
 use Rattle.euler.specs.declared.circuits.Sifted.{Sifted}
-use Rattle.euler.specs.RoundModel.{Told, singleM, halfEdgeM, twoNoteM, twoStartM, twoSiftAllM, twoFillM, twoFilledM, otherM, twoStepM, twoPairM, twoWalkM}
+use Rattle.euler.specs.CircuitModel.{Told, singleM, halfEdgeM, twoNoteM, twoStartM, twoSiftAllM, twoFillM, twoFilledM, otherM, twoStepM, twoPairM, twoWalkM}
 
 -- entry i can be sifted
 pub record Two-sifts (l : Two) (s : List ℕ) (n : Sifted) (i : ℕ) : Type 0 where
@@ -40,21 +41,21 @@ pub record Two-steps (l : Two) (h : ℕ) (s : List ℕ) (at y : ℕ) : Type 0 wh
   pub party : l .b + 2 * word (singleM h s at (y / 2)) (l .ends + otherM y) + 1 < length s
 
 -- n times two steps, or fewer
-abbrev pub Two-rounds : Two → ℕ → ℕ → List ℕ → ℕ → ℕ → Type 0
-Two-rounds l y₀ zero s at y = Unit {0}
-Two-rounds l y₀ (suc n) s at y =
+abbrev pub Two-circuits : Two → ℕ → ℕ → List ℕ → ℕ → ℕ → Type 0
+Two-circuits l y₀ zero s at y = Unit {0}
+Two-circuits l y₀ (suc n) s at y =
     Two-steps l (l .first) s at y
     × Two-steps l (l .second) (twoStepM l (l .first) s at y .words) at (twoStepM l (l .first) s at y .number)
-    × ((twoPairM l s at y .number ≡ y₀ → ⊥) → Two-rounds l y₀ n (twoPairM l s at y .words) (at + 1) (twoPairM l s at y .number))
+    × ((twoPairM l s at y .number ≡ y₀ → ⊥) → Two-circuits l y₀ n (twoPairM l s at y .words) (at + 1) (twoPairM l s at y .number))
 
--- the round from the party v can be gone
+-- the circuit from the party v can be gone
 pub record Two-froms (l : Two) (m : ℕ) (t : Told) (v : ℕ) : Type 0 where
   pub party : l .b + 2 * v < length (t .words)
-  pub round :
+  pub circuit :
       (word (t .words) (l .b + 2 * v) ≡ 0 → ⊥) →
-      Two-rounds l (word (t .words) (l .b + 2 * v) - 1) m (t .words) (t .number) (word (t .words) (l .b + 2 * v) - 1)
+      Two-circuits l (word (t .words) (l .b + 2 * v) - 1) m (t .words) (t .number) (word (t .words) (l .b + 2 * v) - 1)
 
--- the rounds from all parties can
+-- the circuits from all parties can
 pub record Two-walks (l : Two) (m parties : ℕ) (t : Told) : Type 0 where
   pub froms : (v : ℕ) → v < parties → Two-froms l m (twoWalkM l m v t) v
   pub few : (v : ℕ) → v < parties → twoWalkM l m v t .number + m < 4294967296

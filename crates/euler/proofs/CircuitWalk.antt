@@ -1,4 +1,4 @@
--- The rounds from all parties on words, against the definition's tour. Assumes nothing.
+-- The circuits from all parties on words, against the definition's tour. Assumes nothing.
 use Prim.Native.Nat.{ℕ, zero, suc, _+_, _*_, _-_, _/_, _%_, _≤_, _<_}
 use mathlib.Core.Path.{_≡_, refl, sym, _∙_, ap, subst}
 use mathlib.Core.Bool.{Bool, true, false}
@@ -15,22 +15,22 @@ use Rattle.multigraph.specs.Multigraph.{Pair}
 use Rattle.euler.specs.declared.circuits.Two.{Two}
 use Rattle.euler.specs.Euler.{Tour}
 use Rattle.euler.specs.Split.{every-other}
-use Rattle.euler.specs.RoundModel.{Told, twoPairM, twoRoundM, twoFromM, twoWalkM}
-use Rattle.euler.specs.RoundBounds.{Two-rounds, Two-froms, Two-walks}
+use Rattle.euler.specs.CircuitModel.{Told, twoPairM, twoCircuitM, twoFromM, twoWalkM}
+use Rattle.euler.specs.CircuitBounds.{Two-circuits, Two-froms, Two-walks}
 use Rattle.euler.proofs.Taken.{ends}
 use Rattle.euler.proofs.Trail.{aslant}
 use Rattle.euler.proofs.Straight.{along, along-total, every-other-even}
-use Rattle.euler.proofs.Rounds.{trace}
+use Rattle.euler.proofs.CircuitTrails.{trace}
 use Rattle.euler.proofs.StoredGraphs.{entries-length}
-use Rattle.euler.proofs.RoundGraph as Graphs
-use Rattle.euler.proofs.RoundEnds as Ends
-use Rattle.euler.proofs.RoundTours as Tours
-use Rattle.euler.proofs.RoundFill as Fill
-use Rattle.euler.proofs.RoundFill.{Ground}
-use Rattle.euler.proofs.RoundSteps as Steps
-use Rattle.euler.proofs.RoundSteps.{double, numbers}
-use Rattle.euler.proofs.RoundLists.{double-is, even-double, reverse-onto, map-numbers, others-map, others-length, others-all, numbers-all, onto-length, onto-all, trace-length}
-use Rattle.euler.proofs.RoundModelLaws.{two-round-back, two-round-on, two-from-none, two-from-some}
+use Rattle.euler.proofs.CircuitGraph as Graphs
+use Rattle.euler.proofs.CircuitEnds as Ends
+use Rattle.euler.proofs.CircuitTours as Tours
+use Rattle.euler.proofs.CircuitFill as Fill
+use Rattle.euler.proofs.CircuitFill.{Ground}
+use Rattle.euler.proofs.CircuitSteps as Steps
+use Rattle.euler.proofs.CircuitSteps.{double, numbers}
+use Rattle.euler.proofs.CircuitLists.{double-is, even-double, reverse-onto, map-numbers, others-map, others-length, others-all, numbers-all, onto-length, onto-all, trace-length}
+use Rattle.euler.proofs.CircuitModelLaws.{two-circuit-back, two-circuit-on, two-from-none, two-from-some}
 
 module _ {l : Two} {N m k u : ℕ} {s₀ : List ℕ} (g : Ground l N m k u s₀) (flag : ℕ → ℕ) (r : List Pair) (two : Ends.Twos (Steps.E g flag r) flag (Steps.es g flag r) r) where
   abbrev E : ℕ → ℕ
@@ -57,19 +57,19 @@ module _ {l : Two} {N m k u : ℕ} {s₀ : List ℕ} (g : Ground l N m k u s₀)
   abbrev wipe : List ℕ → (ℕ → ℕ) → ℕ → ℕ
   wipe hs M = Steps.wipe g flag r hs M
 
-  -- the pairs dealt to one of the halves along a round
+  -- the pairs dealt to one of the halves along a circuit
   abbrev dealt : Bool → List ℕ → List ℕ → List ℕ
   dealt b hs ds = reverseAux (numbers (every-other b hs)) ds
 
-  -- ── one round ──
+  -- ── one circuit ──
 
   record Gone (ds₁ ds₂ : List ℕ) (M : ℕ → ℕ) (y₀ f : ℕ) (s : List ℕ) (at y n : ℕ) : Type 0 where
-    fits : Two-rounds l y₀ f s at y
+    fits : Two-circuits l y₀ f s at y
     going :
         Going (dealt true (trace next (double n) y) ds₁) (dealt false (trace next (double n) y) ds₂)
         (wipe (trace next (double n) y) M)
-        (twoRoundM l y₀ f s at y .words)
-    number : twoRoundM l y₀ f s at y .number ≡ at + n
+        (twoCircuitM l y₀ f s at y .words)
+    number : twoCircuitM l y₀ f s at y .number ≡ at + n
 
   gone :
       (n f : ℕ) (ds₁ ds₂ : List ℕ) (M : ℕ → ℕ) (y₀ : ℕ) (s : List ℕ) (at y : ℕ) → length ds₁ ≡ at → length ds₂ ≡ at → at + suc n ≤ m →
@@ -80,8 +80,8 @@ module _ {l : Two} {N m k u : ℕ} {s₀ : List ℕ} (g : Ground l N m k u s₀)
   gone zero (suc f) ds₁ ds₂ M y₀ s at y e₁ e₂ room fuel q i back not =
       let p : Steps.Paired g flag r two ds₁ ds₂ M s at y =
       Steps.paired g flag r two ds₁ ds₂ M s at y e₁ e₂ (omega arith) q i in
-      let done : twoRoundM l y₀ (suc f) s at y ≡ record { words = twoPairM l s at y .words; number = at + 1 } =
-      two-round-back l y₀ (suc f) f s at y (twoPairM l s at y) refl refl (p .is-next ∙ back) in
+      let done : twoCircuitM l y₀ (suc f) s at y ≡ record { words = twoPairM l s at y .words; number = at + 1 } =
+      two-circuit-back l y₀ (suc f) f s at y (twoPairM l s at y) refl refl (p .is-next ∙ back) in
       record {
         fits = (p .fits-first, p .fits-second, λ n. absurd (n (p .is-next ∙ back)));
         going = rw done (p .going);
@@ -97,15 +97,15 @@ module _ {l : Two} {N m k u : ℕ} {s₀ : List ℕ} (g : Ground l N m k u s₀)
       gone n f (y / 2 ∷ ds₁) (next y / 2 ∷ ds₂) (Steps.wiped g flag r (next y) (Steps.wiped g flag r y M)) y₀ (t .words) (at + 1) z
       (omega (arith, e₁)) (omega (arith, e₂)) (omega arith) (omega arith) (p .going) (p .half) back
       (λ j lo hi. not (suc j) (omega arith) (omega arith)) in
-      let here : twoRoundM l y₀ (suc f) s at y ≡ twoRoundM l y₀ f (t .words) (at + 1) z =
-      two-round-on l y₀ (suc f) f s at y t refl refl on ∙ ap (twoRoundM l y₀ f (t .words) (at + 1)) (p .is-next) in
+      let here : twoCircuitM l y₀ (suc f) s at y ≡ twoCircuitM l y₀ f (t .words) (at + 1) z =
+      two-circuit-on l y₀ (suc f) f s at y t refl refl on ∙ ap (twoCircuitM l y₀ f (t .words) (at + 1)) (p .is-next) in
       record {
-        fits = (p .fits-first, p .fits-second, λ x. subst (Two-rounds l y₀ f (t .words) (at + 1)) (sym (p .is-next)) (rest .fits));
+        fits = (p .fits-first, p .fits-second, λ x. subst (Two-circuits l y₀ f (t .words) (at + 1)) (sym (p .is-next)) (rest .fits));
         going = rw here (rest .going);
         number = ap (λ (x : Told). x .number) here ∙ rest .number ∙ omega arith;
       }
 
-  -- ── all rounds ──
+  -- ── all circuits ──
 
   module _ (side : ℕ → ℕ) (slant : total (aslant side) r ≡ 0) (copies : (i : ℕ) → i < m → Fill.C g i ≤ 2) where
     abbrev pn : ℕ → Pair
@@ -117,9 +117,9 @@ module _ {l : Two} {N m k u : ℕ} {s₀ : List ℕ} (g : Ground l N m k u s₀)
     abbrev ps : List ℕ
     ps = Fill.evens-of s₀ (l .g) m
 
-    abbrev Rounded : ℕ → Tour → Type 0
-    Rounded v t =
-        Tours.Rounded r Ends.mate E pr early late Half (Steps.ended g flag r two) side slant (two .even)
+    abbrev Tour-ordered : ℕ → Tour → Type 0
+    Tour-ordered v t =
+        Tours.Tour-ordered r Ends.mate E pr early late Half (Steps.ended g flag r two) side slant (two .even)
         (Ends.first-is E flag es r two) v t
 
     abbrev Num : ℕ → Type 0
@@ -131,7 +131,7 @@ module _ {l : Two} {N m k u : ℕ} {s₀ : List ℕ} (g : Ground l N m k u s₀)
 
     pub record Walked (v : ℕ) (w : Told) : Type 0 where
       pub tour : Tour
-      pub rounded : Rounded v tour
+      pub ordered : Tour-ordered v tour
       pub firsts : List ℕ
       pub seconds : List ℕ
       pub marks : ℕ → ℕ
@@ -158,7 +158,7 @@ module _ {l : Two} {N m k u : ℕ} {s₀ : List ℕ} (g : Ground l N m k u s₀)
           entries-length s₀ (l .ends) 0 (l .g) 0 m,
         )
 
-    few-along : (t : Tour) (v : ℕ) → Rounded v t → length (along (t .cycles)) ≤ length es
+    few-along : (t : Tour) (v : ℕ) → Tour-ordered v t → length (along (t .cycles)) ≤ length es
     few-along t v h =
         omega (
           arith,
@@ -172,9 +172,9 @@ module _ {l : Two} {N m k u : ℕ} {s₀ : List ℕ} (g : Ground l N m k u s₀)
         )
 
     pub walked-few : (v : ℕ) (w : Told) → Walked v w → w .number ≤ m
-    walked-few v w h = omega (arith, h .size, few-along (h .tour) v (h .rounded), split-length)
+    walked-few v w h = omega (arith, h .size, few-along (h .tour) v (h .ordered), split-length)
 
-    -- the pairs of one half with a round dealt to it
+    -- the pairs of one half with a circuit dealt to it
     dealt-pairs :
         (b : Bool) (hs ds : List ℕ) (t t' : Tour) (cycle : List Pair) → length (along (t .cycles)) % 2 ≡ 0 → map pr hs ≡ cycle →
         along (t' .cycles) ≡ along (t .cycles) ++ cycle → Dealt-so b ds t → Dealt-so b (dealt b hs ds) t'
@@ -201,7 +201,7 @@ module _ {l : Two} {N m k u : ℕ} {s₀ : List ℕ} (g : Ground l N m k u s₀)
         Tours.Turned r Ends.mate E pr early late Half (Steps.ended g flag r two) side slant (two .even)
         (Ends.first-is E flag es r two) v t
 
-    turned : (v : ℕ) (t : Tour) → Rounded v t → Turned v t
+    turned : (v : ℕ) (t : Tour) → Tour-ordered v t → Turned v t
     turned v t h =
         Tours.turned r Ends.mate E pr early late Half (Steps.ended g flag r two) side slant (two .even)
         (Ends.first-is E flag es r two) v t h
@@ -221,7 +221,7 @@ module _ {l : Two} {N m k u : ℕ} {s₀ : List ℕ} (g : Ground l N m k u s₀)
       pub fits : Two-froms l m w v
       pub walked : Walked (suc v) (twoFromM l m w v)
 
-    passed : (v : ℕ) (w : Told) → v < N → (h : Walked v w) (t' : Tour) → Rounded (suc v) t' → total (ends v) (h .tour .left) ≡ 0 → Passed (h .tour) t' → Onward v w
+    passed : (v : ℕ) (w : Told) → v < N → (h : Walked v w) (t' : Tour) → Tour-ordered (suc v) t' → total (ends v) (h .tour .left) ≡ 0 → Passed (h .tour) t' → Onward v w
     passed v w b h t' k z p =
         let none : word (w .words) (l .b + 2 * v) ≡ 0 = h .going .marks v b ∙ h .spent v b z in
         let here : w ≡ twoFromM l m w v = two-from-none l m w v (word (w .words) (l .b + 2 * v)) refl none in
@@ -229,13 +229,13 @@ module _ {l : Two} {N m k u : ℕ} {s₀ : List ℕ} (g : Ground l N m k u s₀)
           fits =
               record {
                 party = omega (arith, h .going .keeps .len, g .room, g .parties, g .few);
-                round = λ n. absurd (n none);
+                circuit = λ n. absurd (n none);
               };
           walked =
               subst (Walked (suc v)) here
               (record {
                 tour = t';
-                rounded = k;
+                ordered = k;
                 firsts = h .firsts;
                 seconds = h .seconds;
                 marks = h .marks;
@@ -254,50 +254,50 @@ module _ {l : Two} {N m k u : ℕ} {s₀ : List ℕ} (g : Ground l N m k u s₀)
               });
         }
 
-    gone-round : (v : ℕ) (w : Told) → v < N → (h : Walked v w) (t' : Tour) → Rounded (suc v) t' → total (ends v) (h .tour .left) ≡ 2 → One-more v (h .tour) t' → Onward v w
-    gone-round v w b h t' after left o =
+    gone-circuit : (v : ℕ) (w : Told) → v < N → (h : Walked v w) (t' : Tour) → Tour-ordered (suc v) t' → total (ends v) (h .tour .left) ≡ 2 → One-more v (h .tour) t' → Onward v w
+    gone-circuit v w b h t' after left o =
         let t : Tour = h .tour in
         let d : (n : ℕ) × (length (o .cycle) ≡ double (suc n)) = even-double (length (o .cycle)) (o .size) (o .some) in
         let n : ℕ = d .0 in
         let y : ℕ = late v in
         let hs : List ℕ = trace next (double (suc n)) y in
-        let some : 0 < total (ends v) r = omega (arith, h .rounded .so-far .toured .whole (ends v)) in
+        let some : 0 < total (ends v) r = omega (arith, h .ordered .so-far .toured .whole (ends v)) in
         let twice : double (suc n) ≡ 2 * suc n = double-is (suc n) in
         let grown : length (along (t' .cycles)) ≡ length (along (t .cycles)) + length (o .cycle) =
         ap length (o .along-more) ∙ length-append (along (t .cycles)) (o .cycle) in
         let room : w .number + suc n ≤ m =
         omega (arith, h .size, grown, d .1, twice, few-along t' (suc v) after, split-length) in
         let half : Half y = Steps.ended g flag r two .late-half v some .0 in
-        let back : iterate (double (suc n)) next y ≡ y = ap (λ (c : ℕ). iterate c next y) (sym (d .1)) ∙ o .round .closes in
+        let back : iterate (double (suc n)) next y ≡ y = ap (λ (c : ℕ). iterate c next y) (sym (d .1)) ∙ o .circuit .closes in
         let not : (j : ℕ) → 0 < j → j < suc n → (iterate (double j) next y ≡ y → ⊥) =
-        λ j lo hi e. o .round .inner (double j) (omega (arith, double-is j)) (omega (arith, double-is j, d .1, twice)) e in
+        λ j lo hi e. o .circuit .inner (double j) (omega (arith, double-is j)) (omega (arith, double-is j, d .1, twice)) e in
         let q : Gone (h .firsts) (h .seconds) (h .marks) y m (w .words) (w .number) y (suc n) =
         gone n m (h .firsts) (h .seconds) (h .marks) y (w .words) (w .number) y (h .first-count) (h .second-count) room (omega arith) (h .going)
         half back not in
-        let pairs : map pr hs ≡ o .cycle = ap (λ (c : ℕ). map pr (trace next c y)) (sym (d .1)) ∙ o .round .pairs in
-        let all-half : All Half hs = subst (λ (c : ℕ). All Half (trace next c y)) (d .1) (o .round .halves) in
+        let pairs : map pr hs ≡ o .cycle = ap (λ (c : ℕ). map pr (trace next c y)) (sym (d .1)) ∙ o .circuit .pairs in
+        let all-half : All Half hs = subst (λ (c : ℕ). All Half (trace next c y)) (d .1) (o .circuit .halves) in
         let seen : (x : ℕ) → total (ends x) (o .cycle) ≡ 2 * total (λ z. is x (Steps.leads-to g flag r z)) hs =
         λ x.
-        o .round .visits x
+        o .circuit .visits x
         ∙ ap (λ (c : ℕ). 2 * total (λ z. is x (Steps.leads-to g flag r z)) (trace next c y)) (d .1) in
         let long : length hs ≡ double (suc n) = trace-length next (double (suc n)) y in
         let even : length (along (t .cycles)) % 2 ≡ 0 = omega (arith, h .size) in
         let mark : word (w .words) (l .b + 2 * v) ≡ y + 1 = h .going .marks v b ∙ h .alive v b left in
         let first : word (w .words) (l .b + 2 * v) - 1 ≡ y = omega arith in
-        let is-round : twoFromM l m w v ≡ twoRoundM l y m (w .words) (w .number) y =
+        let is-circuit : twoFromM l m w v ≡ twoCircuitM l y m (w .words) (w .number) y =
         sym (two-from-some l m w v (word (w .words) (l .b + 2 * v)) refl (λ z. omega arith))
-        ∙ ap (λ (z : ℕ). twoRoundM l z m (w .words) (w .number) z) first in
+        ∙ ap (λ (z : ℕ). twoCircuitM l z m (w .words) (w .number) z) first in
         record {
           fits =
               record {
                 party = omega (arith, h .going .keeps .len, g .room, g .parties, g .few);
-                round = λ z. subst (λ (x : ℕ). Two-rounds l x m (w .words) (w .number) x) (sym first) (q .fits);
+                circuit = λ z. subst (λ (x : ℕ). Two-circuits l x m (w .words) (w .number) x) (sym first) (q .fits);
               };
           walked =
-              subst (Walked (suc v)) (sym is-round)
+              subst (Walked (suc v)) (sym is-circuit)
               (record {
                 tour = t';
-                rounded = after;
+                ordered = after;
                 firsts = dealt true hs (h .firsts);
                 seconds = dealt false hs (h .seconds);
                 marks = wipe hs (h .marks);
@@ -310,7 +310,7 @@ module _ {l : Two} {N m k u : ℕ} {s₀ : List ℕ} (g : Ground l N m k u s₀)
                     ];
                 alive = λ x c e.
                     let full : total (ends x) (t .left) ≡ 2 =
-                    omega (arith, o .left-less (ends x), h .rounded .so-far .toured .whole (ends x), two .few x) in
+                    omega (arith, o .left-less (ends x), h .ordered .so-far .toured .whole (ends x), two .few x) in
                     Steps.wipe-miss g flag r hs (h .marks) x (omega (arith, o .left-less (ends x), seen x)) ∙ h .alive x c full;
                 first-count = dealt-count true (suc n) hs (h .firsts) long ∙ omega (arith, h .first-count, q .number);
                 second-count = dealt-count false (suc n) hs (h .seconds) long ∙ omega (arith, h .second-count, q .number);
@@ -324,9 +324,9 @@ module _ {l : Two} {N m k u : ℕ} {s₀ : List ℕ} (g : Ground l N m k u s₀)
 
     onward : (v : ℕ) (w : Told) → v < N → Walked v w → Onward v w
     onward v w b h =
-        let t : Turned v (h .tour) = turned v (h .tour) (h .rounded) in
-        ⊎-elim (λ p. passed v w b h (t .after) (t .rounded) (p .0) (p .1))
-        (λ p. gone-round v w b h (t .after) (t .rounded) (p .0) (p .1)) (t .by)
+        let t : Turned v (h .tour) = turned v (h .tour) (h .ordered) in
+        ⊎-elim (λ p. passed v w b h (t .after) (t .ordered) (p .0) (p .1))
+        (λ p. gone-circuit v w b h (t .after) (t .ordered) (p .0) (p .1)) (t .by)
 
     -- all parties below v
     pub walked-all : (v : ℕ) (w : Told) → v ≤ N → Walked 0 w → Walked v (twoWalkM l m v w)

@@ -1,5 +1,5 @@
 -- Half-edges by number: the half-edge 2·e stands at the first end of the pair number e, and 2·e + 1 at its second end. In a
--- list of pairs in which every party has two ends or none, these go round. Assumes nothing.
+-- list of pairs in which every party has two ends or none, these form circuits. Assumes nothing.
 use Prim.Native.Nat.{ℕ, _+_, _*_, _-_, _/_, _%_, _≤_, _<_}
 use mathlib.Core.Path.{_≡_, refl, sym, _∙_, ap}
 use mathlib.Core.Bool.{Bool, true, false}
@@ -19,7 +19,7 @@ use Rattle.euler.specs.Euler.{take-by, first-pair}
 use Rattle.euler.proofs.Taken.{ends, Leads}
 use Rattle.euler.proofs.Places.{keep, keep-append}
 use Rattle.euler.proofs.Leading.{lead, lead-cons, either-lead, or-lead}
-use Rattle.euler.proofs.Rounds.{Two-ended}
+use Rattle.euler.proofs.CircuitTrails.{Two-ended}
 
 -- the pair's other half-edge
 abbrev pub mate : ℕ → ℕ

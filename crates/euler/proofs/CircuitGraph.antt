@@ -20,10 +20,10 @@ use Rattle.euler.proofs.Grounds.{entries-more, upto-entries, rest-place
 use Rattle.multigraph.proofs.Ends.{between-same, between-self}
 use Rattle.euler.specs.declared.circuits.Two.{Two}
 use Rattle.euler.specs.Split.{add-halves, rest, add-pairs}
-use Rattle.euler.proofs.RoundEnds as Ends
-use Rattle.euler.proofs.RoundFill as Fill
-use Rattle.euler.proofs.RoundHeld.{Held}
-use Rattle.euler.proofs.RoundFill.{Ground}
+use Rattle.euler.proofs.CircuitEnds as Ends
+use Rattle.euler.proofs.CircuitFill as Fill
+use Rattle.euler.proofs.CircuitHeld.{Held}
+use Rattle.euler.proofs.CircuitFill.{Ground}
 use Rattle.euler.proofs.HalfLaws as Halves
 use Rattle.euler.proofs.HalfLaws.{not-joined, add-new, Apart-at, bigs, big-yes, big-no}
 use Rattle.euler.proofs.Places.{keep, descend}

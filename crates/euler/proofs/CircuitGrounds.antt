@@ -15,7 +15,7 @@ use Rattle.multigraph.proofs.Weights.{apart-le}
 use Rattle.multigraph.proofs.Sizes.{all-copies, regular-copies}
 use Rattle.euler.specs.Split.{rest}
 use Rattle.euler.specs.Room.{Splits}
-use Rattle.euler.specs.RoundModel.{copiesSumM}
+use Rattle.euler.specs.CircuitModel.{copiesSumM}
 use Rattle.euler.proofs.Taken.{ends}
 use Rattle.euler.proofs.EulerLaws.{beyond}
 use Rattle.euler.proofs.Dealing.{weigh-parts}

@@ -13,13 +13,13 @@ use Rattle.words.proofs.Sums.{all-map}
 use Rattle.multigraph.specs.Stored.{entries}
 use Rattle.euler.specs.declared.circuits.Two.{Two}
 use Rattle.euler.specs.Room.{Splits}
-use Rattle.euler.specs.RoundModel.{Apart-so-far, twoStartM, twoSiftAllM, twoFillM, copiesSumM, two-laid}
-use Rattle.euler.specs.RoundBounds.{Two-fills}
+use Rattle.euler.specs.CircuitModel.{Apart-so-far, twoStartM, twoSiftAllM, twoFillM, copiesSumM, two-laid}
+use Rattle.euler.specs.CircuitBounds.{Two-fills}
 use Rattle.euler.proofs.Taken.{ends}
 use Rattle.euler.proofs.Places.{keep}
-use Rattle.euler.proofs.RoundFill as Fill
-use Rattle.euler.proofs.RoundFill.{Ground}
-use Rattle.euler.proofs.RoundGrounds as Two-grounds
+use Rattle.euler.proofs.CircuitFill as Fill
+use Rattle.euler.proofs.CircuitFill.{Ground}
+use Rattle.euler.proofs.CircuitGrounds as Two-grounds
 use Rattle.euler.proofs.Grounds.{across-at}
 
 module _ {s : List ℕ} {u table graph n width : ℕ} (q : Splits s u table graph n width) (sum : copiesSumM graph (word s (graph + 1)) s ≡ 2 * n) where
@@ -72,7 +72,7 @@ module _ {s : List ℕ} {u table graph n width : ℕ} (q : Splits s u table grap
   abbrev pub E : ℕ → ℕ
   E y = word s (table + y)
 
-  -- ── before the rounds ──
+  -- ── before the circuits ──
 
   abbrev pub s₁ : List ℕ
   s₁ = twoStartM l N s

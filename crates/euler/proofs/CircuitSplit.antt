@@ -18,25 +18,25 @@ use Rattle.euler.specs.declared.circuits.Two.{Two}
 use Rattle.euler.specs.Euler.{Tour}
 use Rattle.euler.specs.Split.{add-halves, rest, every-other, add-pairs, rbmg-split-into-two}
 use Rattle.euler.specs.Room.{Splits, Numbers-from, Halves-stored}
-use Rattle.euler.specs.RoundModel.{Lies, Told, Apart-so-far, twoFillM, twoFilledM, twoWalkM, headM, splitTwoM, copiesSumM, fewSumM, two-laid}
-use Rattle.euler.specs.RoundBounds.{Two-fills, Two-walks, Two-splits}
+use Rattle.euler.specs.CircuitModel.{Lies, Told, Apart-so-far, twoFillM, twoFilledM, twoWalkM, headM, splitTwoM, copiesSumM, fewSumM, two-laid}
+use Rattle.euler.specs.CircuitBounds.{Two-fills, Two-walks, Two-splits}
 use Rattle.euler.proofs.Trail.{aslant}
 use Rattle.euler.proofs.Straight.{along, along-total, split-along}
-use Rattle.euler.proofs.RoundEnds as Ends
-use Rattle.euler.proofs.RoundFill as Fill
-use Rattle.euler.proofs.RoundHeld.{Held, held-same, Headed, head-away, headed, headed-below}
-use Rattle.euler.proofs.RoundFill.{Ground}
-use Rattle.euler.proofs.RoundWalk as Walk
-use Rattle.euler.proofs.RoundGraph as Graphs
-use Rattle.euler.proofs.RoundBegun as Begun
+use Rattle.euler.proofs.CircuitEnds as Ends
+use Rattle.euler.proofs.CircuitFill as Fill
+use Rattle.euler.proofs.CircuitHeld.{Held, held-same, Headed, head-away, headed, headed-below}
+use Rattle.euler.proofs.CircuitFill.{Ground}
+use Rattle.euler.proofs.CircuitWalk as Walk
+use Rattle.euler.proofs.CircuitGraph as Graphs
+use Rattle.euler.proofs.CircuitBegun as Begun
 use Rattle.euler.proofs.Grounds.{apart-at, rest-slant, rest-evens}
-use Rattle.euler.proofs.RoundModelLaws.{few-sum-all}
+use Rattle.euler.proofs.CircuitModelLaws.{few-sum-all}
 use Rattle.multigraph.specs.Regular.{pairs-between}
 use Rattle.euler.proofs.Taken.{ends}
 use Rattle.euler.proofs.Places.{keep}
-use Rattle.euler.proofs.RoundTours as Tours
-use Rattle.euler.proofs.RoundSteps as Steps
-use Rattle.euler.proofs.RoundGrounds as Two-grounds
+use Rattle.euler.proofs.CircuitTours as Tours
+use Rattle.euler.proofs.CircuitSteps as Steps
+use Rattle.euler.proofs.CircuitGrounds as Two-grounds
 
 every-other-le : (f : Pair → ℕ) (b : Bool) (c : List Pair) → total f (every-other b c) ≤ total f c
 unfolding every-other total
@@ -102,7 +102,7 @@ module _ {s : List ℕ} {u table graph n width : ℕ} (q : Splits s u table grap
   abbrev s₄ : List ℕ
   s₄ = Begun.s₄ q sum
 
-  -- ── the rounds ──
+  -- ── the circuits ──
 
   module _ (pairs : ℕ) where
     abbrev flag : ℕ → ℕ
@@ -194,7 +194,7 @@ module _ {s : List ℕ} {u table graph n width : ℕ} (q : Splits s u table grap
     walk-begun =
         record {
           tour = record { cycles = []; left = reverse r };
-          rounded =
+          ordered =
               Tours.begun r Ends.mate E (Ends.pr E flag es) (Ends.early E flag es) (Ends.late E flag es) (Ends.Half E flag es)
               (Steps.ended ground flag r two) (q .side) slant (two .even) (Ends.first-is E flag es r two);
           firsts = ps;
@@ -272,7 +272,7 @@ module _ {s : List ℕ} {u table graph n width : ℕ} (q : Splits s u table grap
           total-reverse (λ z. Graphs.btw x y (pn z)) ps,
           every-other-le (Graphs.btw x y) b (along (tour .cycles)),
           along-total (Graphs.btw x y) (tour .cycles),
-          walk-done .rounded .so-far .toured .whole (Graphs.btw x y),
+          walk-done .ordered .so-far .toured .whole (Graphs.btw x y),
           places-total (Graphs.btw x y),
           Graphs.parts ground pairs copies (Graphs.btw x y) (λ p. refl) m (omega arith),
           once x y,
@@ -287,7 +287,7 @@ module _ {s : List ℕ} {u table graph n width : ℕ} (q : Splits s u table grap
         rbmg-split-into-two N G
         ≡ ran (record { first-half = map pn (reverse (walk-done .firsts)); second-half = map pn (reverse (walk-done .seconds)) })
     splits-into =
-        split-along N G tour (walk-done .rounded .so-far)
+        split-along N G tour (walk-done .ordered .so-far)
         ∙ rw (behind true (walk-done .firsts) (walk-done .first-pairs), behind false (walk-done .seconds) (walk-done .second-pairs))
 
     -- ── the words ──
@@ -358,7 +358,7 @@ module _ {s : List ℕ} {u table graph n width : ℕ} (q : Splits s u table grap
         keeps = kept 0;
       }
 
-  -- the words before the rounds, as the model has them
+  -- the words before the circuits, as the model has them
   filled-is : _≡_ {A = Told} (record { words = twoFilledM l sifted; number = sifted .sifted .even }) (w₀ 0)
   filled-is = rw (Begun.sift q sum .odd, Begun.sift q sum .even)
 

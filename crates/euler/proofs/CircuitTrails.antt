@@ -1,5 +1,6 @@
--- Rounds. In a list of pairs in which every party has at most two ends, a trail that goes on from a half-edge goes on in one
--- way only: from the party to which it leads by that party's other half-edge. So a closed trail is that round. Assumes nothing.
+-- Circuits. In a list of pairs in which every party has at most two ends, a trail that goes on from a half-edge goes on in one
+-- way only: from the party to which it leads by that party's other half-edge. So a closed trail from a party is its circuit.
+-- Assumes nothing.
 use Prim.Native.Nat.{ℕ, zero, suc, _+_, _*_, _-_, _%_, _≤_, _<_}
 use mathlib.Core.Path.{_≡_, refl, sym, _∙_, ap, subst}
 use mathlib.Core.List.{List, [], _∷_, _++_, map, append-assoc}
@@ -204,8 +205,8 @@ module _ (r : List Pair) (mate at : ℕ → ℕ) (pr : ℕ → Pair) (early late
         let w : Went c x q qs os = goes-on c x q qs os g in
         omega (arith, w .ends-are u, visits u c (next x) qs (pr x ∷ os) (w .goes))
 
-    -- The closed trail T from v is the round from v's last half-edge: that many steps lead back to it, and no fewer.
-    pub record Round (v : ℕ) (T : List Pair) : Type 0 where
+    -- The closed trail T from v is the circuit from v's last half-edge: that many steps lead back to it, and no fewer.
+    pub record Circuit (v : ℕ) (T : List Pair) : Type 0 where
       pub pairs : map pr (trace next (length T) (late v)) ≡ T
       pub halves : All Half (trace next (length T) (late v))
       pub closes : iterate (length T) next (late v) ≡ late v
@@ -254,12 +255,12 @@ module _ (r : List Pair) (mate at : ℕ → ℕ) (pr : ℕ → Pair) (early late
     not-before v n here off (suc j) lo hi e =
         trace-at (λ y. at y ≡ v → ⊥) n (next (late v)) j off (omega arith) (ap at e ∙ here)
 
-    pub round-of :
+    pub circuit-of :
         (v : ℕ) (qs os : List Pair) → 0 < total (ends v) r → Trail v v (pr (late v) ∷ qs) →
         ((f : Pair → ℕ) → total f (pr (late v) ∷ qs) + total f os ≡ total f r) → suc (length qs) % 2 ≡ 0 →
-        Round v (pr (late v) ∷ qs)
+        Circuit v (pr (late v) ∷ qs)
     unfolding trace iterate total
-    round-of v qs os s t whole even =
+    circuit-of v qs os s t whole even =
         let x : ℕ = late v in
         let i : Half x = h .late-half v s .0 in
         let here : at x ≡ v = h .late-half v s .1 in
