@@ -7,7 +7,7 @@ use native.Mathlib.Omega.{arith}
 use Rattle.words.specs.Words.{word, put-word}
 use Rattle.words.specs.Frames.{Keeps}
 use Rattle.words.proofs.Frames.{away, keeps-refl, keeps-trans, keeps-then-put}
-use Rattle.euler.specs.declared.Rings.{Rings}
+use Rattle.euler.specs.declared.rings.Rings.{Rings}
 use Rattle.euler.proofs.Chains.{after, prior}
 use Rattle.euler.proofs.Nodes.{edge}
 use Rattle.euler.proofs.Bases.{Laid, Node}

@@ -12,8 +12,8 @@ use Rattle.words.specs.Words.{word, put-word}
 use Rattle.words.proofs.Frames.{here, away, length-put}
 use Rattle.words.proofs.Runs.{iterate-suc-out}
 use Rattle.multigraph.specs.Multigraph.{Pair}
-use Rattle.euler.specs.declared.Rings.{Rings}
-use Rattle.euler.specs.declared.Walk.{Walk}
+use Rattle.euler.specs.declared.rings.Rings.{Rings}
+use Rattle.euler.specs.declared.walking.Walk.{Walk}
 use Rattle.euler.specs.Euler.{none, first-pair, walk-step}
 use Rattle.euler.specs.Model.{backM}
 use Rattle.euler.proofs.Taken.{ends}

@@ -9,7 +9,7 @@ use Rattle.words.specs.Words.{word, put-word}
 use Rattle.words.specs.Frames.{Keeps}
 use Rattle.words.proofs.Frames.{away}
 use Rattle.multigraph.specs.Multigraph.{Pair, pair}
-use Rattle.euler.specs.declared.Rings.{Rings}
+use Rattle.euler.specs.declared.rings.Rings.{Rings}
 use Rattle.euler.specs.Model.{copiesM, endM}
 use Rattle.euler.proofs.Nodes.{Ends-fit, edge, end}
 

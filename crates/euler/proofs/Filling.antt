@@ -13,7 +13,7 @@ use Rattle.words.specs.Frames.{Keeps}
 use Rattle.words.proofs.Sums.{all-append, all-map, all-both}
 use Rattle.words.proofs.Frames.{here, away}
 use Rattle.multigraph.specs.Multigraph.{Pair}
-use Rattle.euler.specs.declared.Rings.{Rings}
+use Rattle.euler.specs.declared.rings.Rings.{Rings}
 use Rattle.euler.specs.Model.{Counted, copiesM, startM, appendM, siftAllM, notedM, ringEndM, endsM, fillM}
 use Rattle.euler.specs.Bounds.{Rings-end, Fills-ends, Fills}
 use Rattle.euler.proofs.Places.{keep, keep-append, keep-all, descend, Falling}

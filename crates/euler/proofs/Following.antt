@@ -14,7 +14,7 @@ use Rattle.words.specs.Words.{word, put-word}
 use Rattle.words.proofs.Sums.{all-map}
 use Rattle.words.proofs.Frames.{here, away, length-put, keeps-trans}
 use Rattle.multigraph.specs.Multigraph.{Pair}
-use Rattle.euler.specs.declared.Rings.{Rings}
+use Rattle.euler.specs.declared.rings.Rings.{Rings}
 use Rattle.euler.specs.Model.{copiesM, popM, unlinkM}
 use Rattle.euler.proofs.Places.{keep-all, without, Falling}
 use Rattle.euler.proofs.Chains.{Distinct, Has, after, prior, Chain, Between, between, Cut, chain-cut}

@@ -14,7 +14,7 @@ use Rattle.words.proofs.Sums.{all-left, all-right, count-append}
 use Rattle.words.proofs.Frames.{here, away, length-put}
 use Rattle.multigraph.specs.Multigraph.{Pair, Graph}
 use Rattle.multigraph.specs.Stored.{entry, entries, graph-at}
-use Rattle.euler.specs.declared.Rings.{Rings}
+use Rattle.euler.specs.declared.rings.Rings.{Rings}
 use Rattle.euler.specs.Model.{Counted, copiesM, moreM, manyM, entryM, entriesM, singleM, singlesM, halfM}
 use Rattle.euler.specs.Bounds.{Half-fits}
 use Rattle.euler.proofs.ModelLaws.{many-none, many-one, entry-count}

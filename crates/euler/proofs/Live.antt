@@ -9,8 +9,8 @@ use lib.ListN.{length}
 use Rattle.words.specs.Basics.{All, iterate}
 use Rattle.words.specs.Words.{word}
 use Rattle.multigraph.specs.Multigraph.{Pair}
-use Rattle.euler.specs.declared.Rings.{Rings}
-use Rattle.euler.specs.declared.Walk.{Walk}
+use Rattle.euler.specs.declared.rings.Rings.{Rings}
+use Rattle.euler.specs.declared.walking.Walk.{Walk}
 use Rattle.euler.specs.Euler.{walk-step}
 use Rattle.euler.specs.Model.{Stage, copiesM, mateM}
 use Rattle.euler.proofs.Straight.{straight}

@@ -11,8 +11,8 @@ use lib.ListN.{length}
 use Rattle.words.specs.Basics.{pick, iterate}
 use Rattle.words.specs.Words.{word, put-word}
 use Rattle.words.proofs.Runs.{iterate-suc-out, iterate-rest, iterate-add}
-use Rattle.euler.specs.declared.Rings.{Rings}
-use Rattle.euler.specs.declared.Walk.{Walk}
+use Rattle.euler.specs.declared.rings.Rings.{Rings}
+use Rattle.euler.specs.declared.walking.Walk.{Walk}
 use Rattle.euler.specs.Bounds.{Appends, Rings-end, Fills-ends, Fills, Half-fits, Split-fits}
 use Rattle.euler.specs.Model.{Stage, Counted, Small, copiesM, appendM, startRingM, startM, siftM, siftAllM, notedM, ringEndM, endsM, fillM, popM, unlinkM, mateM, takeM, backM, stuckM, stepM, walkM, begun, moreM, manyM, pushM, entryM, entriesM, singleM, singlesM, halfM, splitM}
 

@@ -12,7 +12,7 @@ use Rattle.words.specs.Basics.{pick, is, count, All}
 use Rattle.words.specs.Words.{word}
 use Rattle.words.proofs.Sums.{is-eq, is-ne, count-append, all-append}
 use Rattle.multigraph.specs.Multigraph.{Pair}
-use Rattle.euler.specs.declared.Rings.{Rings}
+use Rattle.euler.specs.declared.rings.Rings.{Rings}
 use Rattle.euler.specs.Model.{moreM}
 use Rattle.euler.specs.Split.{every-other}
 use Rattle.euler.proofs.Columns.{column, column-length, mark-of}

@@ -12,7 +12,7 @@ use Rattle.words.specs.Frames.{Keeps}
 use Rattle.words.proofs.Frames.{here, away, length-put}
 use Rattle.multigraph.specs.Multigraph.{Pair, Graph}
 use Rattle.multigraph.specs.Stored.{entry, entries}
-use Rattle.euler.specs.declared.Rings.{Rings}
+use Rattle.euler.specs.declared.rings.Rings.{Rings}
 use Rattle.euler.specs.Model.{Counted, copiesM, pushM}
 use Rattle.euler.proofs.Bases.{away2}
 use Rattle.euler.proofs.Columns.{column, mark-of}

@@ -10,7 +10,7 @@ use Rattle.words.specs.Words.{word, put-word}
 use Rattle.words.specs.Frames.{Keeps}
 use Rattle.words.proofs.Sums.{all-append, all-map}
 use Rattle.words.proofs.Frames.{here, away, length-put, keeps-refl, keeps-trans, keeps-then-put}
-use Rattle.euler.specs.declared.Rings.{Rings}
+use Rattle.euler.specs.declared.rings.Rings.{Rings}
 use Rattle.euler.specs.Model.{startRingM, startM, appendM}
 use Rattle.euler.specs.Bounds.{Appends}
 use Rattle.euler.proofs.Chains.{after, prior, Chain, chain-same, chain-last, last-node, Joined, chain-joined, chain-beside}

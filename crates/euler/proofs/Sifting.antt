@@ -11,7 +11,7 @@ use lib.ListN.{length}
 use Rattle.words.specs.Words.{word, put-word}
 use Rattle.words.specs.Frames.{Keeps}
 use Rattle.words.proofs.Frames.{here, away, length-put, keeps-refl, keeps-trans}
-use Rattle.euler.specs.declared.Rings.{Rings}
+use Rattle.euler.specs.declared.rings.Rings.{Rings}
 use Rattle.euler.specs.Model.{Counted, copiesM, siftM, siftAllM}
 use Rattle.euler.specs.Bounds.{Sifts-all}
 use Rattle.euler.proofs.Places.{keep, keep-yes, keep-no, descend}

@@ -15,7 +15,7 @@ use Rattle.words.proofs.Sums.{total-reverse}
 use Rattle.words.proofs.Frames.{keeps-less, keeps-trans}
 use Rattle.multigraph.specs.Multigraph.{Pair, Graph}
 use Rattle.multigraph.specs.Stored.{entry, entries, graph-at}
-use Rattle.euler.specs.declared.Rings.{Rings}
+use Rattle.euler.specs.declared.rings.Rings.{Rings}
 use Rattle.euler.specs.Split.{add-halves, rest, every-other, add-pairs, rbmg-split-into-two}
 use Rattle.euler.specs.Room.{Splits, Halves-stored}
 use Rattle.euler.specs.Bounds.{Walks, Split-fits}

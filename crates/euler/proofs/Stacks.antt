@@ -4,7 +4,7 @@ use mathlib.Core.Path.{_≡_, refl}
 use mathlib.Core.List.{List, [], _∷_, map}
 use native.Mathlib.Omega.{arith}
 use Rattle.multigraph.specs.Multigraph.{Pair}
-use Rattle.euler.specs.declared.Rings.{Rings}
+use Rattle.euler.specs.declared.rings.Rings.{Rings}
 use Rattle.euler.specs.Euler.{taken, first-pair, other-node, Step, Walking, standing, walk-step}
 use Rattle.euler.proofs.Places.{without, Falling, row, first-taken, first-none}
 use Rattle.euler.proofs.Bases.{Laid, P}

@@ -8,8 +8,8 @@ use native.Mathlib.Omega.{arith}
 use lib.ListN.{length}
 use Rattle.words.specs.Words.{word}
 use Rattle.multigraph.specs.Multigraph.{Pair}
-use Rattle.euler.specs.declared.Rings.{Rings}
-use Rattle.euler.specs.declared.Walk.{Walk}
+use Rattle.euler.specs.declared.rings.Rings.{Rings}
+use Rattle.euler.specs.declared.walking.Walk.{Walk}
 use Rattle.euler.specs.Model.{popM}
 use Rattle.euler.specs.Bounds.{Unlinks, Takes, Backs, Steps}
 use Rattle.euler.proofs.Nodes.{edge, end, nodes, First, first-node}

@@ -12,8 +12,8 @@ use Rattle.words.specs.Words.{word}
 use Rattle.words.specs.Frames.{Keeps}
 use Rattle.words.proofs.Runs.{iterate-ends, iterate-keeps}
 use Rattle.multigraph.specs.Multigraph.{Pair}
-use Rattle.euler.specs.declared.Rings.{Rings}
-use Rattle.euler.specs.declared.Walk.{Walk}
+use Rattle.euler.specs.declared.rings.Rings.{Rings}
+use Rattle.euler.specs.declared.walking.Walk.{Walk}
 use Rattle.euler.specs.Euler.{Walking, walk-step}
 use Rattle.euler.specs.Model.{Stage, copiesM, stepM, walkM, begun}
 use Rattle.euler.specs.Bounds.{Walks}

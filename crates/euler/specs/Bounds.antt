@@ -4,8 +4,8 @@ use mathlib.Core.Path.{_≡_}
 use mathlib.Core.List.{List}
 use lib.ListN.{length}
 use Rattle.words.specs.Words.{word, put-word}
-use Rattle.euler.specs.declared.Rings.{Rings}
-use Rattle.euler.specs.declared.Walk.{Walk}
+use Rattle.euler.specs.declared.rings.Rings.{Rings}
+use Rattle.euler.specs.declared.walking.Walk.{Walk}
 use Rattle.euler.specs.Model.{Counted, endM, startM, siftAllM, notedM, ringEndM, endsM, fillM, popM, mateM, walkM, begun, entriesM, singlesM, halfM, walked}
 
 -- x can be put last into the ring of the party v

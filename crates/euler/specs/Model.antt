@@ -4,8 +4,8 @@ use mathlib.Core.List.{List}
 use lib.Dec.{eqb, ltb, leb}
 use Rattle.words.specs.Basics.{pick, iterate}
 use Rattle.words.specs.Words.{word, put-word}
-use Rattle.euler.specs.declared.Rings.{Rings}
-use Rattle.euler.specs.declared.Walk.{Walk}
+use Rattle.euler.specs.declared.rings.Rings.{Rings}
+use Rattle.euler.specs.declared.walking.Walk.{Walk}
 
 -- bases and sizes that leave room for sums of them
 pub record Fits (l : Rings) : Type 0 where

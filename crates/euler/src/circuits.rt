@@ -10,8 +10,8 @@ ghost use Rattle.euler.specs.CircuitModel.{Lies, twoStartM, twoSiftM, tw
 ghost use Rattle.euler.specs.CircuitModel.{twoStepM, twoCircuitM, twoFromM, twoWalkM, headM, splitTwoM, fewSumM};
 ghost use Rattle.euler.specs.CircuitBounds.{«Two-sifts», «Two-sifts-all», «Two-notes», «Two-fills», «Two-steps», «Two-circuits»};
 ghost use Rattle.euler.specs.CircuitBounds.{«Two-froms», «Two-walks», «Two-splits»};
-use crate::many;
-use crate::push;
+use crate::halves::many;
+use crate::halves::push;
 use multigraph::EdgeIndex;
 use multigraph::end_of;
 use words::set_word;

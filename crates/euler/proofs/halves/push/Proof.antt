@@ -1,0 +1,21 @@
+use borrow.Author.Needs.{needs}
+use Rattle.euler.proofs.halves.push.Statement.{statement}
+use Rattle.euler.proofs.halves.push.Tie as tie
+
+returns : tie.Need-returns
+returns c = cc
+
+pub push-spec : {M : Type 1} → statement M
+push-spec =
+    tie.close
+    (tie.spec
+    (λ c. search needs)
+    (λ c. search needs)
+    (λ c. search needs)
+    (λ c κs. search needs)
+    (λ c. search needs)
+    (λ c. search needs)
+    (λ c. search needs)
+    (λ c κs. search needs)
+    (λ c. search needs)
+    returns)

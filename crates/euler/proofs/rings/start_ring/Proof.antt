@@ -1,0 +1,21 @@
+use borrow.Author.Needs.{needs}
+use Rattle.euler.proofs.rings.start_ring.Statement.{statement}
+use Rattle.euler.proofs.rings.start_ring.Tie as tie
+
+returns : tie.Need-returns
+returns c = cc
+
+pub start-ring-spec : {M : Type 1} → statement M
+start-ring-spec =
+    tie.close
+    (tie.spec
+    (λ c. search needs)
+    (λ c. search needs)
+    (λ c. search needs)
+    (λ c κs. search needs)
+    (λ c. search needs)
+    (λ c. search needs)
+    (λ c. search needs)
+    (λ c κs. search needs)
+    (λ c. search needs)
+    returns)

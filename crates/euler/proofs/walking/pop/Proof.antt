@@ -1,0 +1,25 @@
+use Rattle.euler.specs.Model.{popM}
+use borrow.Author.Needs.{needs}
+use Rattle.euler.proofs.walking.pop.Statement.{statement}
+use Rattle.euler.proofs.walking.pop.Tie as tie
+
+returns : tie.Need-returns
+unfolding popM
+returns c = cc
+
+pub pop-spec : {M : Type 1} → statement M
+pop-spec =
+    tie.close
+    (tie.spec
+    (λ c. search needs)
+    (λ c. search needs)
+    (λ c κs. search needs)
+    (λ c. search needs)
+    (λ c. search needs)
+    (λ c κs. search needs)
+    (λ c. search needs)
+    (λ c. search needs)
+    (λ c. search needs)
+    (λ c κs. search needs)
+    (λ c. search needs)
+    returns)

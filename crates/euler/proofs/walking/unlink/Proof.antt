@@ -1,0 +1,29 @@
+use Rattle.euler.specs.Model.{unlinkM}
+use borrow.Author.Needs.{needs}
+use Rattle.euler.proofs.walking.unlink.Statement.{statement}
+use Rattle.euler.proofs.walking.unlink.Tie as tie
+
+returns : tie.Need-returns
+unfolding unlinkM
+returns c = cc
+
+pub unlink-spec : {M : Type 1} → statement M
+unlink-spec =
+    tie.close
+    (tie.spec
+    (λ c. search needs)
+    (λ c. search needs)
+    (λ c κs. search needs)
+    (λ c. search needs)
+    (λ c. search needs)
+    (λ c. search needs)
+    (λ c κs. search needs)
+    (λ c. search needs)
+    (λ c. search needs)
+    (λ c κs. search needs)
+    (λ c. search needs)
+    (λ c. search needs)
+    (λ c. search needs)
+    (λ c κs. search needs)
+    (λ c. search needs)
+    returns)
