@@ -21,11 +21,13 @@ split-two-requires c κs =
 
 returns : tie.Need-returns
 returns c =
+    let at-split-two = c .before .before in
+    let at-before = at-split-two .before in
     let branched = c .before .before .before .before in
     let summed = branched .before in
     let got = summed .before .before in
     split-two-gives (got .before .before .before .pre) (got .get .ensures .0) (summed .copies-sum .ensures) (branched .if1 .taken)
-    (c .before .before .split-two .ensures)
+    (at-split-two .split-two .ensures)
 
 split-words-requires : tie.Need-split-words-requires
 split-words-requires c κs =
@@ -35,10 +37,12 @@ split-words-requires c κs =
 
 returns-2 : tie.Need-returns-2
 returns-2 c =
+    let at-split-words = c .before .before in
+    let at-before = at-split-words .before .before .before .before in
     let got = c .before .before .before .before .before .before .before in
     let known = got .before .before in
     split-gives (known .before .pre) (λ i. omega (arith, known .slice-known .given i)) (got .get .ensures .0)
-    (c .before .before .split-words .ensures)
+    (at-split-words .split-words .ensures)
 
 pub split-at-spec : {M : Type 1} → statement M
 split-at-spec =

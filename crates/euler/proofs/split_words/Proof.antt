@@ -24,6 +24,7 @@ euler-cycles-requires c κs =
 
 half-requires : tie.Need-half-requires
 half-requires c κs =
+    let at-before = c .before .before in
     let walked = c .before .before .before in
     let filled = walked .before .before .before .before in
     let pre = filled .before .before .before .pre in (
@@ -37,6 +38,7 @@ half-requires c κs =
 
 half-requires-2 : tie.Need-half-requires-2
 half-requires-2 c κs =
+    let at-before = c .before .before in
     let first = c .before .before .before in
     let walked = first .before .before .before .before in
     let filled = walked .before .before .before .before in
@@ -54,6 +56,7 @@ half-requires-2 c κs =
 
 returns : tie.Need-returns
 returns c =
+    let at-before = c .before in
     let second = c .before .before in
     let first = second .before .before .before .before in
     let walked = first .before .before .before .before in

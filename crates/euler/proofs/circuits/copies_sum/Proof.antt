@@ -25,16 +25,22 @@ loop-holds c = (omega arith, omega arith, refl)
 
 add-sum : tie.Need-add-sum Inv-loop μ-loop
 add-sum c =
-    let inv = c .before .before .loop .inv in
-    let pre = c .before .before .before .before .before .pre in
-    omega (arith, inv .0, inv .1, c .word-at .ensures .1, pre .1, c .before .before .before .if1 .left)
+    let at-loop = c .before .before in
+    let branch = at-loop .before in
+    let start = branch .before .before in
+    let inv = at-loop .loop .inv in
+    let pre = start .pre in
+    omega (arith, inv .0, inv .1, c .word-at .ensures .1, pre .1, branch .if1 .left)
 
 loop-again : tie.Need-loop-again Inv-loop μ-loop
 loop-again c =
-    let inv = c .before .before .loop .inv in
-    let a = c .before .before .before .before .before .args in
-    let i : ℕ = c .before .before .loop .i in (
-      omega (arith, c .before .loop-test .taken),
+    let in-loop = c .before in
+    let at-loop = in-loop .before in
+    let start = at-loop .before .before .before in
+    let inv = at-loop .loop .inv in
+    let a = start .args in
+    let i : ℕ = at-loop .loop .i in (
+      omega (arith, in-loop .loop-test .taken),
       omega (arith, inv .1, c .word-at .ensures .1),
       ap (λ (x : ℕ). x + c .word-at .result) (inv .2) ∙ ap (λ (x : ℕ). copiesSumM (a .g) i (a .s .now) + x) (c .word-at .ensures .0) ∙ sym (copies-sum-more (a .g) i (a .s .now)),
     )

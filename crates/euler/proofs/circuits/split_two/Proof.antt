@@ -11,6 +11,7 @@ use Rattle.euler.proofs.circuits.split_two.Tie as tie
 
 two-fill-requires : tie.Need-two-fill-requires
 two-fill-requires c κs =
+    let at-before = c .before .before in
     let sifted = c .before .before .before in
     let started = sifted .before .before .before .before in
     let pre = started .before .before .before .pre in (
@@ -22,6 +23,7 @@ two-fill-requires c κs =
 
 two-fill-requires-2 : tie.Need-two-fill-requires-2
 two-fill-requires-2 c κs =
+    let at-before = c .before .before in
     let firsts = c .before .before .before in
     let sifted = firsts .before .before .before .before in
     let started = sifted .before .before .before .before in
@@ -36,6 +38,7 @@ two-fill-requires-2 c κs =
 
 two-walk-requires : tie.Need-two-walk-requires
 two-walk-requires c κs =
+    let at-before = c .before .before in
     let seconds = c .before .before .before in
     let firsts = seconds .before .before .before .before in
     let sifted = firsts .before .before .before .before in
@@ -53,6 +56,7 @@ two-walk-requires c κs =
 
 returns : tie.Need-returns
 returns c =
+    let at-before = c .before in
     let second-head = c .before .before in
     let first-head = second-head .before .before .before .before in
     let walked = first-head .before .before .before .before in

@@ -26,59 +26,78 @@ loop-holds c =
 
 two-step-requires : tie.Need-two-step-requires Inv-loop μ-loop
 two-step-requires c κs =
-    let inv = c .before .before .loop .inv in
-    let w = c .before .before .loop in
-    let a = c .before .before .before .before .args in
-    let pre = c .before .before .before .before .pre in (
+    let in-loop = c .before in
+    let at-loop = in-loop .before in
+    let start = at-loop .before .before in
+    let inv = at-loop .loop .inv in
+    let w = at-loop .loop in
+    let a = start .args in
+    let pre = start .pre in (
       pre .0,
       pre .0 .first,
       omega (arith, pre .1, inv .0, inv .2),
       inv .3,
-      two-circuits-first (a .l) (a .y0) (a .bound - w .k) (a .bound - (w .k + 1)) (w .s) (w .n) (w .y) (omega (arith, c .before .loop-test .taken)) (inv .4) .0,
+      two-circuits-first (a .l) (a .y0) (a .bound - w .k) (a .bound - (w .k + 1)) (w .s) (w .n) (w .y) (omega (arith, in-loop .loop-test .taken)) (inv .4) .0,
     )
 
 two-step-requires-2 : tie.Need-two-step-requires-2 Inv-loop μ-loop
 two-step-requires-2 c κs =
-    let inv = c .before .before .before .before .before .before .loop .inv in
-    let w = c .before .before .before .before .before .before .loop in
-    let a = c .before .before .before .before .before .before .before .before .args in
-    let pre = c .before .before .before .before .before .before .before .before .pre in (
+    let at-two-step = c .before .before .before in
+    let in-loop = at-two-step .before .before in
+    let at-loop = in-loop .before in
+    let start = at-loop .before .before in
+    let inv = at-loop .loop .inv in
+    let w = at-loop .loop in
+    let a = start .args in
+    let pre = start .pre in (
       pre .0,
       pre .0 .second,
       omega (arith, pre .1, inv .0, inv .2),
-      c .before .before .before .two-step .ensures .1,
-      subst (λ (x : Told). Two-steps (a .l) (a .l .second) (x .words) (w .n) (x .number)) (sym (c .before .before .before .two-step .ensures .0))
-          (two-circuits-first (a .l) (a .y0) (a .bound - w .k) (a .bound - (w .k + 1)) (w .s) (w .n) (w .y) (omega (arith, c .before .before .before .before .before .loop-test .taken)) (inv .4) .1),
+      at-two-step .two-step .ensures .1,
+      subst (λ (x : Told). Two-steps (a .l) (a .l .second) (x .words) (w .n) (x .number)) (sym (at-two-step .two-step .ensures .0))
+          (two-circuits-first (a .l) (a .y0) (a .bound - w .k) (a .bound - (w .k + 1)) (w .s) (w .n) (w .y) (omega (arith, in-loop .loop-test .taken)) (inv .4) .1),
     )
 
 add-n : tie.Need-add-n Inv-loop μ-loop
 add-n c =
-    let inv = c .before .before .before .before .before .before .before .before .before .loop .inv in
-    omega (arith, c .before .before .before .before .before .before .before .before .before .before .before .pre .1, inv .0, inv .2)
+    let at-loop = c .before .before .before .before .before .before .before .before .before in
+    let start = at-loop .before .before in
+    let inv = at-loop .loop .inv in
+    omega (arith, start .pre .1, inv .0, inv .2)
 
 returns : tie.Need-returns Inv-loop μ-loop
 returns c =
-    let inv = c .before .before .before .before .before .before .before .before .before .before .loop .inv in
-    let w = c .before .before .before .before .before .before .before .before .before .before .loop in
-    let a = c .before .before .before .before .before .before .before .before .before .before .before .before .args in
-    let p : Told = record { words = c .before .before .before .before .before .before .before .two-step .last .0; number = c .before .before .before .before .before .before .before .two-step .result } in
-    let q : Told = record { words = c .before .before .before .two-step2 .last .0; number = c .before .before .before .two-step2 .result } in
-    let e : q ≡ twoPairM (a .l) (w .s) (w .n) (w .y) = two-pair-so (a .l) (w .s) (w .n) (w .y) p q (c .before .before .before .before .before .before .before .two-step .ensures .0) (c .before .before .before .two-step2 .ensures .0) in
-    sym (two-circuit-back (a .l) (a .y0) (a .bound - w .k) (a .bound - (w .k + 1)) (w .s) (w .n) (w .y) q (omega (arith, c .before .before .before .before .before .before .before .before .before .loop-test .taken)) e (c .if1 .taken)) ∙ inv .5
+    let at-two-step2 = c .before .before .before in
+    let at-two-step = at-two-step2 .before .before .before .before in
+    let in-loop = at-two-step .before .before in
+    let at-loop = in-loop .before in
+    let start = at-loop .before .before in
+    let inv = at-loop .loop .inv in
+    let w = at-loop .loop in
+    let a = start .args in
+    let p : Told = record { words = at-two-step .two-step .last .0; number = at-two-step .two-step .result } in
+    let q : Told = record { words = at-two-step2 .two-step2 .last .0; number = at-two-step2 .two-step2 .result } in
+    let e : q ≡ twoPairM (a .l) (w .s) (w .n) (w .y) = two-pair-so (a .l) (w .s) (w .n) (w .y) p q (at-two-step .two-step .ensures .0) (at-two-step2 .two-step2 .ensures .0) in
+    sym (two-circuit-back (a .l) (a .y0) (a .bound - w .k) (a .bound - (w .k + 1)) (w .s) (w .n) (w .y) q (omega (arith, in-loop .loop-test .taken)) e (c .if1 .taken)) ∙ inv .5
 
 loop-again : tie.Need-loop-again Inv-loop μ-loop
 loop-again c =
-    let inv = c .before .before .before .before .before .before .before .before .before .before .loop .inv in
-    let w = c .before .before .before .before .before .before .before .before .before .before .loop in
-    let a = c .before .before .before .before .before .before .before .before .before .before .before .before .args in
-    let p : Told = record { words = c .before .before .before .before .before .before .before .two-step .last .0; number = c .before .before .before .before .before .before .before .two-step .result } in
-    let q : Told = record { words = c .before .before .before .two-step2 .last .0; number = c .before .before .before .two-step2 .result } in
-    let e : q ≡ twoPairM (a .l) (w .s) (w .n) (w .y) = two-pair-so (a .l) (w .s) (w .n) (w .y) p q (c .before .before .before .before .before .before .before .two-step .ensures .0) (c .before .before .before .two-step2 .ensures .0) in
-    let more : a .bound - w .k ≡ suc (a .bound - (w .k + 1)) = omega (arith, c .before .before .before .before .before .before .before .before .before .loop-test .taken) in (
+    let at-two-step2 = c .before .before .before in
+    let at-two-step = at-two-step2 .before .before .before .before in
+    let in-loop = at-two-step .before .before in
+    let at-loop = in-loop .before in
+    let start = at-loop .before .before in
+    let inv = at-loop .loop .inv in
+    let w = at-loop .loop in
+    let a = start .args in
+    let p : Told = record { words = at-two-step .two-step .last .0; number = at-two-step .two-step .result } in
+    let q : Told = record { words = at-two-step2 .two-step2 .last .0; number = at-two-step2 .two-step2 .result } in
+    let e : q ≡ twoPairM (a .l) (w .s) (w .n) (w .y) = two-pair-so (a .l) (w .s) (w .n) (w .y) p q (at-two-step .two-step .ensures .0) (at-two-step2 .two-step2 .ensures .0) in
+    let more : a .bound - w .k ≡ suc (a .bound - (w .k + 1)) = omega (arith, in-loop .loop-test .taken) in (
       search needs,
       search needs,
       omega (arith, inv .2),
-      c .before .before .before .two-step2 .ensures .1,
+      at-two-step2 .two-step2 .ensures .1,
       two-circuits-on (a .l) (a .y0) (a .bound - w .k) (a .bound - (w .k + 1)) (w .s) (w .n) (w .y) q more e (c .if1 .left) (inv .4),
       sym (two-circuit-on (a .l) (a .y0) (a .bound - w .k) (a .bound - (w .k + 1)) (w .s) (w .n) (w .y) q more e (c .if1 .left)) ∙ inv .5,
     )

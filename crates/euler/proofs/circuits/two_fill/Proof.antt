@@ -23,23 +23,30 @@ loop-holds c = (search needs, refl, c .before .pre .3, refl)
 
 two-note-requires : tie.Need-two-note-requires Inv-loop μ-loop
 two-note-requires c κs =
-    let inv = c .before .before .loop .inv in
-    let a = c .before .before .before .before .args in
-    let pre = c .before .before .before .before .pre in (
+    let in-loop = c .before in
+    let at-loop = in-loop .before in
+    let start = at-loop .before .before in
+    let inv = at-loop .loop .inv in
+    let a = start .args in
+    let pre = start .pre in (
       pre .0,
       pre .1,
       omega (arith, pre .2, inv .0),
-      two-fills-first (a .l) (a .side) (c .before .before .loop .k) (c .before .before .loop .s) (c .before .loop-test .taken) (inv .2) .0,
+      two-fills-first (a .l) (a .side) (at-loop .loop .k) (at-loop .loop .s) (in-loop .loop-test .taken) (inv .2) .0,
     )
 
 loop-again : tie.Need-loop-again Inv-loop μ-loop
 loop-again c =
-    let inv = c .before .before .before .before .before .loop .inv in
-    let a = c .before .before .before .before .before .before .before .args in
-    let k : ℕ = c .before .before .before .before .before .loop .k in
-    let s : List ℕ = c .before .before .before .before .before .loop .s in
-    let more = c .before .before .before .before .loop-test .taken in
-    let e = c .before .before .two-note .ensures in (
+    let at-two-note = c .before .before in
+    let in-loop = at-two-note .before .before in
+    let at-loop = in-loop .before in
+    let start = at-loop .before .before in
+    let inv = at-loop .loop .inv in
+    let a = start .args in
+    let k : ℕ = at-loop .loop .k in
+    let s : List ℕ = at-loop .loop .s in
+    let more = in-loop .loop-test .taken in
+    let e = at-two-note .two-note .ensures in (
       omega (arith, inv .0),
       search needs,
       subst (Two-fills (a .l) (a .side) (k - 1)) (sym e) (two-fills-first (a .l) (a .side) k s more (inv .2) .1),

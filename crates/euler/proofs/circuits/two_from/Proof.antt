@@ -12,18 +12,25 @@ returns c =
 
 two-circuit-requires : tie.Need-two-circuit-requires
 two-circuit-requires c κs =
-    let a = c .before .before .before .before .before .before .args in
-    let pre = c .before .before .before .before .before .before .pre in (
+    let branch = c .before in
+    let at-word-at = branch .before in
+    let start = at-word-at .before .before .before .before in
+    let a = start .args in
+    let pre = start .pre in (
       pre .0,
       pre .1,
-      omega (arith, c .before .before .word-at .ensures .1),
-      two-froms-some (a .l) (a .m) (record { words = a .s .now; number = a .at }) (a .v) (c .before .before .word-at .result) (c .before .before .word-at .ensures .0) (c .before .if1 .left) (pre .3),
+      omega (arith, at-word-at .word-at .ensures .1),
+      two-froms-some (a .l) (a .m) (record { words = a .s .now; number = a .at }) (a .v) (at-word-at .word-at .result) (at-word-at .word-at .ensures .0) (branch .if1 .left) (pre .3),
     )
 
 returns-2 : tie.Need-returns-2
 returns-2 c =
-    let a = c .before .before .before .before .before .before .before .before .before .args in
-    c .before .before .two-circuit .ensures ∙ two-from-some (a .l) (a .m) (record { words = a .s .now; number = a .at }) (a .v) (c .before .before .before .before .before .word-at .result) (c .before .before .before .before .before .word-at .ensures .0) (c .before .before .before .before .if1 .left)
+    let at-two-circuit = c .before .before in
+    let branch = at-two-circuit .before .before in
+    let at-word-at = branch .before in
+    let start = at-word-at .before .before .before .before in
+    let a = start .args in
+    at-two-circuit .two-circuit .ensures ∙ two-from-some (a .l) (a .m) (record { words = a .s .now; number = a .at }) (a .v) (at-word-at .word-at .result) (at-word-at .word-at .ensures .0) (branch .if1 .left)
 
 pub two-from-spec : {M : Type 1} → statement M
 two-from-spec =

@@ -8,8 +8,11 @@ use Rattle.euler.proofs.circuits.two_head.Tie as tie
 
 returns : tie.Need-returns
 returns c =
-    let a = c .before .before .before .before .before .before .before .before .before .args in
-    c .before .before .put2 .ensures ∙ ap (λ (t : List ℕ). put-word t (a .h + 1) (a .n)) (c .before .before .before .before .before .before .put .ensures)
+    let at-put2 = c .before .before in
+    let at-put = at-put2 .before .before .before .before in
+    let start = at-put .before .before .before in
+    let a = start .args in
+    at-put2 .put2 .ensures ∙ ap (λ (t : List ℕ). put-word t (a .h + 1) (a .n)) (at-put .put .ensures)
 
 pub two-head-spec : {M : Type 1} → statement M
 two-head-spec = tie.close (tie.spec (λ c κs. search needs) (λ c. search needs) (λ c κs. search needs) (λ c. search needs) returns)

@@ -11,28 +11,44 @@ use Rattle.euler.proofs.circuits.two_note.Tie as tie
 -- src/circuits.rt:87:9
 word-at-requires-2 : tie.Need-word-at-requires-2
 word-at-requires-2 c κs =
-    let a = c .before .before .before .before .before .before .before .before .before .args in
-    two-note-party (a .l) (a .side) (a .s .now) (a .j) (c .before .before .before .before .before .word-at .result) (c .before .before .before .end-of .result .0) (c .before .before .before .before .before .word-at .ensures .0) (c .before .before .before .end-of .ensures) (c .before .before .before .before .before .before .before .before .before .pre .3)
+    let at-end-of = c .before .before .before in
+    let at-word-at = at-end-of .before .before in
+    let start = at-word-at .before .before .before .before in
+    let a = start .args in
+    two-note-party (a .l) (a .side) (a .s .now) (a .j) (at-word-at .word-at .result) (at-end-of .end-of .result .0) (at-word-at .word-at .ensures .0) (at-end-of .end-of .ensures) (start .pre .3)
 
 -- src/circuits.rt:88:5
 set-word-requires : tie.Need-set-word-requires
 set-word-requires c κs =
-    let a = c .before .before .before .before .before .before .before .before .before .before .before .before .args in
-    omega (arith, two-note-party (a .l) (a .side) (a .s .now) (a .j) (c .before .before .before .before .before .before .before .before .word-at .result) (c .before .before .before .before .before .before .end-of .result .0) (c .before .before .before .before .before .before .before .before .word-at .ensures .0) (c .before .before .before .before .before .before .end-of .ensures) (c .before .before .before .before .before .before .before .before .before .before .before .before .pre .3))
+    let at-end-of = c .before .before .before .before .before .before in
+    let at-word-at = at-end-of .before .before in
+    let start = at-word-at .before .before .before .before in
+    let a = start .args in
+    omega (arith, two-note-party (a .l) (a .side) (a .s .now) (a .j) (at-word-at .word-at .result) (at-end-of .end-of .result .0) (at-word-at .word-at .ensures .0) (at-end-of .end-of .ensures) (start .pre .3))
 
 -- src/circuits.rt:89:5
 set-word-requires-2 : tie.Need-set-word-requires-2
 set-word-requires-2 c κs =
-    let a = c .before .before .before .before .before .before .before .before .before .before .before .before .before .before .before .before .before .args in
-    let len : length (c .before .before .before .before .set-word .last .0) ≡ length (a .s .now) =
-    ap length (c .before .before .before .before .set-word .ensures) ∙ length-put (a .s .now) (a .l .b + 2 * c .before .before .before .before .before .before .before .before .before .before .before .end-of .result .0) (2 * c .before .before .before .before .before .before .before .before .before .before .before .before .before .word-at .result + a .side + 1) in
-    omega (arith, len, two-note-party (a .l) (a .side) (a .s .now) (a .j) (c .before .before .before .before .before .before .before .before .before .before .before .before .before .word-at .result) (c .before .before .before .before .before .before .before .before .before .before .before .end-of .result .0) (c .before .before .before .before .before .before .before .before .before .before .before .before .before .word-at .ensures .0) (c .before .before .before .before .before .before .before .before .before .before .before .end-of .ensures) (c .before .before .before .before .before .before .before .before .before .before .before .before .before .before .before .before .before .pre .3))
+    let at-set-word = c .before .before .before .before in
+    let at-end-of = at-set-word .before .before .before .before .before .before .before in
+    let at-word-at = at-end-of .before .before in
+    let start = at-word-at .before .before .before .before in
+    let a = start .args in
+    let len : length (at-set-word .set-word .last .0) ≡ length (a .s .now) =
+    ap length (at-set-word .set-word .ensures) ∙ length-put (a .s .now) (a .l .b + 2 * at-end-of .end-of .result .0) (2 * at-word-at .word-at .result + a .side + 1) in
+    omega (arith, len, two-note-party (a .l) (a .side) (a .s .now) (a .j) (at-word-at .word-at .result) (at-end-of .end-of .result .0) (at-word-at .word-at .ensures .0) (at-end-of .end-of .ensures) (start .pre .3))
 
 -- src/circuits.rt:79:1
 returns : tie.Need-returns
 returns c =
-    let a = c .before .before .before .before .before .before .before .before .before .before .before .before .before .before .before .before .before .before .before .before .args in
-    two-note-so (a .l) (a .side) (a .s .now) (a .j) (c .before .before .before .before .before .before .before .before .before .before .before .before .before .before .before .before .word-at .result) (c .before .before .before .before .before .before .before .before .before .before .before .before .before .before .end-of .result .0) (c .before .before .before .before .before .before .before .before .before .before .word-at2 .result) (c .before .before .before .before .before .before .before .set-word .last .0) (c .before .before .set-word2 .last .0) (c .before .before .before .before .before .before .before .before .before .before .before .before .before .before .before .before .word-at .ensures .0) (c .before .before .before .before .before .before .before .before .before .before .before .before .before .before .end-of .ensures) (c .before .before .before .before .before .before .before .before .before .before .word-at2 .ensures .0) (c .before .before .before .before .before .before .before .set-word .ensures) (c .before .before .set-word2 .ensures)
+    let at-set-word2 = c .before .before in
+    let at-set-word = at-set-word2 .before .before .before .before .before in
+    let at-word-at2 = at-set-word .before .before .before in
+    let at-end-of = at-word-at2 .before .before .before .before in
+    let at-word-at = at-end-of .before .before in
+    let start = at-word-at .before .before .before .before in
+    let a = start .args in
+    two-note-so (a .l) (a .side) (a .s .now) (a .j) (at-word-at .word-at .result) (at-end-of .end-of .result .0) (at-word-at2 .word-at2 .result) (at-set-word .set-word .last .0) (at-set-word2 .set-word2 .last .0) (at-word-at .word-at .ensures .0) (at-end-of .end-of .ensures) (at-word-at2 .word-at2 .ensures .0) (at-set-word .set-word .ensures) (at-set-word2 .set-word2 .ensures)
 
 pub two-note-spec : {M : Type 1} → statement M
 two-note-spec =

@@ -5,12 +5,21 @@ use Rattle.euler.proofs.circuits.two_sift.Statement.{statement}
 use Rattle.euler.proofs.circuits.two_sift.Tie as tie
 
 add-t12 : tie.Need-add-t12
-add-t12 c = let pre = c .before .before .before .before .before .before .before .before .before .before .before .before .before .before .before .before .before .before .before .before .before .before .before .before .pre in omega (arith, pre .1, pre .3)
+add-t12 c =
+    let start = c .before .before .before .before .before .before .before .before .before .before .before .before .before .before .before .before .before .before .before .before .before .before .before .before in
+    let pre = start .pre in omega (arith, pre .1, pre .3)
 
 returns : tie.Need-returns
 returns c =
-    let a = c .before .before .before .before .before .before .before .before .before .before .before .before .before .before .before .before .before .before .before .before .before .before .before .before .args in
-    two-sift-so (a .l) (a .s .now) (a .n) (a .i) (c .before .before .before .before .before .before .before .before .before .before .before .before .before .before .before .before .before .before .before .before .word-at .result) (c .before .before .before .before .before .before .before .before .before .before .before .before .before .before .before .before .before .word-at2 .result) (c .before .before .many .result) (c .before .before .before .before .before .before .before .before .before .before .before .before .before .before .before .push .last .0) (c .before .before .before .before .before .before .before .before .before .before .before .push2 .last .0) (c .before .before .before .before .before .set-word .last .0) (c .before .before .before .before .before .before .before .before .before .before .before .before .before .before .before .before .before .before .before .before .word-at .ensures .0) (c .before .before .before .before .before .before .before .before .before .before .before .before .before .before .before .before .before .word-at2 .ensures .0) (c .before .before .before .before .before .before .before .before .before .before .before .before .before .before .before .push .ensures) (c .before .before .before .before .before .before .before .before .before .before .before .push2 .ensures) (c .before .before .before .before .before .set-word .ensures) (c .before .before .many .ensures .0)
+    let at-many = c .before .before in
+    let at-set-word = at-many .before .before .before in
+    let at-push2 = at-set-word .before .before .before .before .before .before in
+    let at-push = at-push2 .before .before .before .before in
+    let at-word-at2 = at-push .before .before in
+    let at-word-at = at-word-at2 .before .before .before in
+    let start = at-word-at .before .before .before .before in
+    let a = start .args in
+    two-sift-so (a .l) (a .s .now) (a .n) (a .i) (at-word-at .word-at .result) (at-word-at2 .word-at2 .result) (at-many .many .result) (at-push .push .last .0) (at-push2 .push2 .last .0) (at-set-word .set-word .last .0) (at-word-at .word-at .ensures .0) (at-word-at2 .word-at2 .ensures .0) (at-push .push .ensures) (at-push2 .push2 .ensures) (at-set-word .set-word .ensures) (at-many .many .ensures .0)
 
 pub two-sift-spec : {M : Type 1} → statement M
 two-sift-spec =

@@ -37,11 +37,14 @@ two-sift-requires c κs =
 
 loop-again : tie.Need-loop-again Inv-loop μ-loop
 loop-again c =
-    let inv = c .before .before .before .before .before .loop .inv in
-    let a = c .before .before .before .before .before .before .before .args in
-    let i : ℕ = c .before .before .before .before .before .loop .i in
-    let t : Apart-so-far = record { words = c .before .before .before .before .before .loop .s; sifted = c .before .before .before .before .before .loop .n } in
-    let e : record { words = c .before .before .two-sift .last .0; sifted = c .before .before .two-sift .result } ≡ twoSiftM (a .l) t i = c .before .before .two-sift .ensures in (
+    let at-two-sift = c .before .before in
+    let at-loop = at-two-sift .before .before .before in
+    let start = at-loop .before .before in
+    let inv = at-loop .loop .inv in
+    let a = start .args in
+    let i : ℕ = at-loop .loop .i in
+    let t : Apart-so-far = record { words = at-loop .loop .s; sifted = at-loop .loop .n } in
+    let e : record { words = at-two-sift .two-sift .last .0; sifted = at-two-sift .two-sift .result } ≡ twoSiftM (a .l) t i = at-two-sift .two-sift .ensures in (
       search needs,
       search needs,
       omega (arith, ap (λ (u : Apart-so-far). u .sifted .even) e, two-sift-even (a .l) t i, inv .2),

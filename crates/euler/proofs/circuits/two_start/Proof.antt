@@ -22,13 +22,17 @@ loop-holds c = (search needs, refl, refl)
 
 loop-again : tie.Need-loop-again Inv-loop μ-loop
 loop-again c =
-    let inv = c .before .before .before .before .before .before .before .before .before .before .before .loop .inv in
-    let a = c .before .before .before .before .before .before .before .before .before .before .before .before .before .args in
-    let v : ℕ = c .before .before .before .before .before .before .before .before .before .before .before .loop .v in (
+    let at-set-word2 = c .before .before in
+    let at-set-word = at-set-word2 .before .before .before .before .before in
+    let at-loop = at-set-word .before .before .before .before in
+    let start = at-loop .before .before in
+    let inv = at-loop .loop .inv in
+    let a = start .args in
+    let v : ℕ = at-loop .loop .v in (
       search needs,
       search needs,
-      c .before .before .set-word2 .ensures
-          ∙ ap (λ (t : List ℕ). put-word t (a .l .b + 2 * v + 1) 0) (c .before .before .before .before .before .before .before .set-word .ensures ∙ ap (λ (t : List ℕ). put-word t (a .l .b + 2 * v) 0) (inv .2))
+      at-set-word2 .set-word2 .ensures
+          ∙ ap (λ (t : List ℕ). put-word t (a .l .b + 2 * v + 1) 0) (at-set-word .set-word .ensures ∙ ap (λ (t : List ℕ). put-word t (a .l .b + 2 * v) 0) (inv .2))
           ∙ sym (two-start-more (a .l) v (a .s .now)),
     )
 

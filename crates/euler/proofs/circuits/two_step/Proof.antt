@@ -7,20 +7,31 @@ use Rattle.euler.proofs.circuits.two_step.Tie as tie
 -- src/circuits.rt:113:9
 word-at-requires : tie.Need-word-at-requires
 word-at-requires c κs =
-    let a = c .before .before .before .before .before .before .before .before .before .before .args in
-    two-step-party (a .l) (a .h) (a .s .now) (a .at) (a .y) (c .before .before .before .end-of .result .0) (c .before .before .before .before .before .before .before .push .last .0) (c .before .before .before .before .before .before .before .push .ensures) (c .before .before .before .end-of .ensures) (c .before .before .before .before .before .before .before .before .before .before .pre .4)
+    let at-end-of = c .before .before .before in
+    let at-push = at-end-of .before .before .before .before in
+    let start = at-push .before .before .before in
+    let a = start .args in
+    two-step-party (a .l) (a .h) (a .s .now) (a .at) (a .y) (at-end-of .end-of .result .0) (at-push .push .last .0) (at-push .push .ensures) (at-end-of .end-of .ensures) (start .pre .4)
 
 -- src/circuits.rt:114:5
 set-word-requires : tie.Need-set-word-requires
 set-word-requires c κs =
-    let a = c .before .before .before .before .before .before .before .before .before .before .before .before .before .args in
-    omega (arith, two-step-party (a .l) (a .h) (a .s .now) (a .at) (a .y) (c .before .before .before .before .before .before .end-of .result .0) (c .before .before .before .before .before .before .before .before .before .before .push .last .0) (c .before .before .before .before .before .before .before .before .before .before .push .ensures) (c .before .before .before .before .before .before .end-of .ensures) (c .before .before .before .before .before .before .before .before .before .before .before .before .before .pre .4))
+    let at-end-of = c .before .before .before .before .before .before in
+    let at-push = at-end-of .before .before .before .before in
+    let start = at-push .before .before .before in
+    let a = start .args in
+    omega (arith, two-step-party (a .l) (a .h) (a .s .now) (a .at) (a .y) (at-end-of .end-of .result .0) (at-push .push .last .0) (at-push .push .ensures) (at-end-of .end-of .ensures) (start .pre .4))
 
 -- src/circuits.rt:105:1
 returns : tie.Need-returns
 returns c =
-    let a = c .before .before .before .before .before .before .before .before .before .before .before .before .before .before .before .before .args in
-    (two-step-so (a .l) (a .h) (a .s .now) (a .at) (a .y) (c .before .before .before .before .before .before .before .before .before .end-of .result .0) (c .before .before .before .before .before .word-at .result) (c .before .before .before .before .before .before .before .before .before .before .before .before .before .push .last .0) (c .before .before .set-word .last .0) (c .before .before .before .before .before .before .before .before .before .before .before .before .before .push .ensures) (c .before .before .before .before .before .before .before .before .before .end-of .ensures) (c .before .before .before .before .before .word-at .ensures .0) (c .before .before .set-word .ensures), omega arith)
+    let at-set-word = c .before .before in
+    let at-word-at = at-set-word .before .before .before in
+    let at-end-of = at-word-at .before .before .before .before in
+    let at-push = at-end-of .before .before .before .before in
+    let start = at-push .before .before .before in
+    let a = start .args in
+    (two-step-so (a .l) (a .h) (a .s .now) (a .at) (a .y) (at-end-of .end-of .result .0) (at-word-at .word-at .result) (at-push .push .last .0) (at-set-word .set-word .last .0) (at-push .push .ensures) (at-end-of .end-of .ensures) (at-word-at .word-at .ensures .0) (at-set-word .set-word .ensures), omega arith)
 
 pub two-step-spec : {M : Type 1} → statement M
 two-step-spec =

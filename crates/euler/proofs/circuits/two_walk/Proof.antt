@@ -22,24 +22,30 @@ loop-holds c = (search needs, refl, refl)
 
 two-from-requires : tie.Need-two-from-requires Inv-loop μ-loop
 two-from-requires c κs =
-    let inv = c .before .before .loop .inv in
-    let a = c .before .before .before .before .args in
-    let pre = c .before .before .before .before .pre in
-    let v : ℕ = c .before .before .loop .v in (
+    let in-loop = c .before in
+    let at-loop = in-loop .before in
+    let start = at-loop .before .before in
+    let inv = at-loop .loop .inv in
+    let a = start .args in
+    let pre = start .pre in
+    let v : ℕ = at-loop .loop .v in (
       pre .0,
-      subst (λ (t : Told). t .number + a .m < 4294967296) (sym (inv .2)) (pre .2 .few v (c .before .loop-test .taken)),
+      subst (λ (t : Told). t .number + a .m < 4294967296) (sym (inv .2)) (pre .2 .few v (in-loop .loop-test .taken)),
       omega (arith, pre .1, inv .0),
-      subst (λ (t : Told). Two-froms (a .l) (a .m) t v) (sym (inv .2)) (pre .2 .froms v (c .before .loop-test .taken)),
+      subst (λ (t : Told). Two-froms (a .l) (a .m) t v) (sym (inv .2)) (pre .2 .froms v (in-loop .loop-test .taken)),
     )
 
 loop-again : tie.Need-loop-again Inv-loop μ-loop
 loop-again c =
-    let inv = c .before .before .before .before .before .loop .inv in
-    let a = c .before .before .before .before .before .before .before .args in
-    let v : ℕ = c .before .before .before .before .before .loop .v in (
+    let at-two-from = c .before .before in
+    let at-loop = at-two-from .before .before .before in
+    let start = at-loop .before .before in
+    let inv = at-loop .loop .inv in
+    let a = start .args in
+    let v : ℕ = at-loop .loop .v in (
       search needs,
       search needs,
-      c .before .before .two-from .ensures ∙ ap (λ (t : Told). twoFromM (a .l) (a .m) t v) (inv .2) ∙ sym (two-walk-more (a .l) (a .m) v (record { words = a .s .now; number = a .even })),
+      at-two-from .two-from .ensures ∙ ap (λ (t : Told). twoFromM (a .l) (a .m) t v) (inv .2) ∙ sym (two-walk-more (a .l) (a .m) v (record { words = a .s .now; number = a .even })),
     )
 
 returns : tie.Need-returns Inv-loop μ-loop

@@ -9,21 +9,28 @@ use Rattle.euler.proofs.halves.half.Tie as tie
 
 returns : tie.Need-returns
 returns c =
-    let a = c .before .before .before .before .before .before .before .before .before .before .before .before .before .before .before .before .before .args in
-    half-so (a .l) (a .h) (a .parity) (a .m) (a .written) (a .s .now) (c .before .before .before .before .before .before .before .before .before .before .before .before .before .before .half-entries .last .0) (c .before .before .before .before .before .before .before .before .before .before .half-singles .last .0)
-    (c .before .before .before .before .before .before .put .last .0) (c .before .before .put2 .last .0) (c .before .before .before .before .before .before .before .before .before .before .before .before .before .before .half-entries .result) (c .before .before .before .before .before .before .before .before .before .before .half-singles .result)
-    (c .before .before .before .before .before .before .before .before .before .before .before .before .before .before .half-entries .ensures .0) (c .before .before .before .before .before .before .before .before .before .before .half-singles .ensures) (c .before .before .before .before .before .before .put .ensures) (c .before .before .put2 .ensures)
+    let at-put2 = c .before .before in
+    let at-put = at-put2 .before .before .before .before in
+    let at-half-singles = at-put .before .before .before .before in
+    let at-half-entries = at-half-singles .before .before .before .before in
+    let start = at-half-entries .before .before .before in
+    let a = start .args in
+    half-so (a .l) (a .h) (a .parity) (a .m) (a .written) (a .s .now) (at-half-entries .half-entries .last .0) (at-half-singles .half-singles .last .0)
+    (at-put .put .last .0) (at-put2 .put2 .last .0) (at-half-entries .half-entries .result) (at-half-singles .half-singles .result)
+    (at-half-entries .half-entries .ensures .0) (at-half-singles .half-singles .ensures) (at-put .put .ensures) (at-put2 .put2 .ensures)
 
 half-singles-requires : tie.Need-half-singles-requires
 half-singles-requires c κs =
-    let a = c .before .before .before .before .before .before .args in
-    let pre = c .before .before .before .before .before .before .pre in (
+    let at-half-entries = c .before .before .before in
+    let start = at-half-entries .before .before .before in
+    let a = start .args in
+    let pre = start .pre in (
       pre .0,
       pre .1,
       pre .2,
-      omega (arith, pre .3, c .before .before .before .half-entries .ensures .1),
+      omega (arith, pre .3, at-half-entries .half-entries .ensures .1),
       pre .4,
-      subst (Singles-fit (a .l) (a .h) (a .parity) ((a .written + 1 - a .parity) / 2)) (sym (c .before .before .before .half-entries .ensures .0)) (pre .5 .singles),
+      subst (Singles-fit (a .l) (a .h) (a .parity) ((a .written + 1 - a .parity) / 2)) (sym (at-half-entries .half-entries .ensures .0)) (pre .5 .singles),
     )
 
 pub half-spec : {M : Type 1} → statement M

@@ -21,16 +21,19 @@ loop-holds c = (search needs, refl, omega arith, refl)
 
 loop-again : tie.Need-loop-again Inv-loop μ-loop
 loop-again c =
-    let inv = c .before .before .before .before .before .loop .inv in
-    let a = c .before .before .before .before .before .before .before .args in
-    let t : Counted = record { words = c .before .before .before .before .before .loop .s; count = c .before .before .before .before .before .loop .at } in
-    let e : record { words = c .before .before .half-entry .last .0; count = c .before .before .half-entry .result } ≡ entryM (a .l) (a .h) (a .parity) t (c .before .before .before .before .before .loop .i) = c .before .before .half-entry .ensures in
-    let f : c .before .before .half-entry .result ≡ entryM (a .l) (a .h) (a .parity) t (c .before .before .before .before .before .loop .i) .count = ap (λ (u : Counted). u .count) e in (
+    let at-half-entry = c .before .before in
+    let at-loop = at-half-entry .before .before .before in
+    let start = at-loop .before .before in
+    let inv = at-loop .loop .inv in
+    let a = start .args in
+    let t : Counted = record { words = at-loop .loop .s; count = at-loop .loop .at } in
+    let e : record { words = at-half-entry .half-entry .last .0; count = at-half-entry .half-entry .result } ≡ entryM (a .l) (a .h) (a .parity) t (at-loop .loop .i) = at-half-entry .half-entry .ensures in
+    let f : at-half-entry .half-entry .result ≡ entryM (a .l) (a .h) (a .parity) t (at-loop .loop .i) .count = ap (λ (u : Counted). u .count) e in (
       search needs,
       search needs,
-      omega (arith, f, entry-count (a .l) (a .h) (a .parity) t (c .before .before .before .before .before .loop .i), inv .2),
-      e ∙ ap (λ (u : Counted). entryM (a .l) (a .h) (a .parity) u (c .before .before .before .before .before .loop .i)) (inv .3)
-          ∙ sym (entries-more (a .l) (a .h) (a .parity) (c .before .before .before .before .before .loop .i) (a .s .now)),
+      omega (arith, f, entry-count (a .l) (a .h) (a .parity) t (at-loop .loop .i), inv .2),
+      e ∙ ap (λ (u : Counted). entryM (a .l) (a .h) (a .parity) u (at-loop .loop .i)) (inv .3)
+          ∙ sym (entries-more (a .l) (a .h) (a .parity) (at-loop .loop .i) (a .s .now)),
     )
 
 returns : tie.Need-returns Inv-loop μ-loop

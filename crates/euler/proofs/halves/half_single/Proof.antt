@@ -7,9 +7,14 @@ use Rattle.euler.proofs.halves.half_single.Tie as tie
 -- src/lib.rt:316:1
 returns : tie.Need-returns
 returns c =
-    let a = c .before .before .before .before .before .before .before .before .before .before .before .before .before .before .before .args in
-    single-so (a .l) (a .h) (a .s .now) (a .at) (a .j) (c .before .before .before .before .before .before .before .before .before .before .before .word-at .result) (c .before .before .before .before .before .before .before .before .word-at2 .result) (c .before .before .before .before .before .word-at3 .result) (c .many .result) (c .before .before .before .push .last .0) _
-    (c .before .before .before .before .before .before .before .before .before .before .before .word-at .ensures .0) (c .before .before .before .before .before .before .before .before .word-at2 .ensures .0) (c .before .before .before .before .before .word-at3 .ensures .0) (c .before .before .before .push .ensures) (c .many .ensures .0) refl
+    let at-push = c .before .before .before in
+    let at-word-at3 = at-push .before .before in
+    let at-word-at2 = at-word-at3 .before .before .before in
+    let at-word-at = at-word-at2 .before .before .before in
+    let start = at-word-at .before .before .before .before in
+    let a = start .args in
+    single-so (a .l) (a .h) (a .s .now) (a .at) (a .j) (at-word-at .word-at .result) (at-word-at2 .word-at2 .result) (at-word-at3 .word-at3 .result) (c .many .result) (at-push .push .last .0) _
+    (at-word-at .word-at .ensures .0) (at-word-at2 .word-at2 .ensures .0) (at-word-at3 .word-at3 .ensures .0) (at-push .push .ensures) (c .many .ensures .0) refl
 
 pub half-single-spec : {M : Type 1} → statement M
 half-single-spec =

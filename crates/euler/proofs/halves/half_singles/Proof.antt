@@ -22,16 +22,19 @@ loop-holds c = (search needs, refl, omega arith, refl)
 
 loop-again : tie.Need-loop-again Inv-loop μ-loop
 loop-again c =
-    let inv = c .before .before .before .before .before .loop .inv in
-    let a = c .before .before .before .before .before .before .before .args in
-    let t : Counted = record { words = c .before .before .before .before .before .loop .s; count = c .before .before .before .before .before .loop .at } in
-    let e : record { words = c .before .before .half-single .last .0; count = c .before .before .half-single .result } ≡ singleM (a .l) (a .h) t (a .parity + 2 * c .before .before .before .before .before .loop .k) = c .before .before .half-single .ensures in
-    let f : c .before .before .half-single .result ≡ singleM (a .l) (a .h) t (a .parity + 2 * c .before .before .before .before .before .loop .k) .count = ap (λ (u : Counted). u .count) e in (
+    let at-half-single = c .before .before in
+    let at-loop = at-half-single .before .before .before in
+    let start = at-loop .before .before in
+    let inv = at-loop .loop .inv in
+    let a = start .args in
+    let t : Counted = record { words = at-loop .loop .s; count = at-loop .loop .at } in
+    let e : record { words = at-half-single .half-single .last .0; count = at-half-single .half-single .result } ≡ singleM (a .l) (a .h) t (a .parity + 2 * at-loop .loop .k) = at-half-single .half-single .ensures in
+    let f : at-half-single .half-single .result ≡ singleM (a .l) (a .h) t (a .parity + 2 * at-loop .loop .k) .count = ap (λ (u : Counted). u .count) e in (
       search needs,
       search needs,
-      omega (arith, f, single-count (a .l) (a .h) t (a .parity + 2 * c .before .before .before .before .before .loop .k), inv .2),
-      e ∙ ap (λ (u : Counted). singleM (a .l) (a .h) u (a .parity + 2 * c .before .before .before .before .before .loop .k)) (inv .3)
-          ∙ sym (singles-more (a .l) (a .h) (a .parity) (c .before .before .before .before .before .loop .k) (record { words = a .s .now; count = a .from })),
+      omega (arith, f, single-count (a .l) (a .h) t (a .parity + 2 * at-loop .loop .k), inv .2),
+      e ∙ ap (λ (u : Counted). singleM (a .l) (a .h) u (a .parity + 2 * at-loop .loop .k)) (inv .3)
+          ∙ sym (singles-more (a .l) (a .h) (a .parity) (at-loop .loop .k) (record { words = a .s .now; count = a .from })),
     )
 
 returns : tie.Need-returns Inv-loop μ-loop
@@ -42,15 +45,18 @@ returns c =
 
 half-single-requires : tie.Need-half-single-requires Inv-loop μ-loop
 half-single-requires c κs =
-    let inv = c .before .before .loop .inv in
-    let a = c .before .before .before .before .args in
-    let pre = c .before .before .before .before .pre in (
+    let in-loop = c .before in
+    let at-loop = in-loop .before in
+    let start = at-loop .before .before in
+    let inv = at-loop .loop .inv in
+    let a = start .args in
+    let pre = start .pre in (
       pre .0,
       pre .1,
       omega (arith, pre .3, pre .4, inv .0, inv .2),
       omega (arith, pre .2, pre .4, inv .0),
-      subst (λ (t : Counted). Single-fits (a .l) (a .h) (t .words) (t .count) (a .parity + 2 * c .before .before .loop .k)) (sym (inv .3))
-          (pre .5 .singles (c .before .before .loop .k) (c .before .loop-test .taken)),
+      subst (λ (t : Counted). Single-fits (a .l) (a .h) (t .words) (t .count) (a .parity + 2 * at-loop .loop .k)) (sym (inv .3))
+          (pre .5 .singles (at-loop .loop .k) (in-loop .loop-test .taken)),
     )
 
 pub half-singles-spec : {M : Type 1} → statement M

@@ -11,24 +11,31 @@ use Rattle.euler.proofs.rings.append.Tie as tie
 
 add-set-word-5 : tie.Need-add-set-word-5
 add-set-word-5 c =
-    omega (arith, c .before .before .before .before .before .before .before .before .before .before .before .before .before .before .before .before .before .before .before .before .before .before .pre .0, c .before .before .before .before .before .before .before .before .before .before .before .before .before .before .before .before .before .before .before .before .before .before .pre .1)
+    let start = c .before .before .before .before .before .before .before .before .before .before .before .before .before .before .before .before .before .before .before .before .before .before in
+    omega (arith, start .pre .0, start .pre .1)
 
 add-set-word-6 : tie.Need-add-set-word-6
 add-set-word-6 c =
-    omega (arith, c .before .before .before .before .before .before .before .before .before .before .before .before .before .before .before .before .before .before .before .before .before .before .pre .0, c .before .before .before .before .before .before .before .before .before .before .before .before .before .before .before .before .before .before .before .before .before .before .pre .1)
+    let start = c .before .before .before .before .before .before .before .before .before .before .before .before .before .before .before .before .before .before .before .before .before .before in
+    omega (arith, start .pre .0, start .pre .1)
 
 set-word-requires-4 : tie.Need-set-word-requires-4
 set-word-requires-4 c κs =
-    let a = c .before .before .before .before .before .before .before .before .before .before .before .before .before .before .before .before .before .before .before .before .before .before .args in
+    let at-set-word3 = c .before .before .before .before in
+    let at-set-word2 = at-set-word3 .before .before .before .before .before in
+    let at-set-word = at-set-word2 .before .before .before .before .before in
+    let at-word-at = at-set-word .before .before .before in
+    let start = at-word-at .before .before .before .before .before in
+    let a = start .args in
     let s : List ℕ = a .s .now in
-    let p : ℕ = c .before .before .before .before .before .before .before .before .before .before .before .before .before .before .before .before .before .word-at .result in
-    let t₁ : List ℕ = c .before .before .before .before .before .before .before .before .before .before .before .before .before .before .set-word .last .0 in
-    let t₂ : List ℕ = c .before .before .before .before .before .before .before .before .before .set-word2 .last .0 in
-    let t₃ : List ℕ = c .before .before .before .before .set-word3 .last .0 in
-    let e₁ : length t₁ ≡ length s = ap length (c .before .before .before .before .before .before .before .before .before .before .before .before .before .before .set-word .ensures) ∙ length-put s (a .l .b + 2 * p) (a .x) in
-    let e₂ : length t₂ ≡ length t₁ = ap length (c .before .before .before .before .before .before .before .before .before .set-word2 .ensures) ∙ length-put t₁ (a .l .b + 2 * a .x + 1) p in
-    let e₃ : length t₃ ≡ length t₂ = ap length (c .before .before .before .before .set-word3 .ensures) ∙ length-put t₂ (a .l .b + 2 * a .x) (a .l .top + a .v) in
-    omega (arith, c .before .before .before .before .before .before .before .before .before .before .before .before .before .before .before .before .before .before .before .before .before .before .pre .3 .own, e₁, e₂, e₃)
+    let p : ℕ = at-word-at .word-at .result in
+    let t₁ : List ℕ = at-set-word .set-word .last .0 in
+    let t₂ : List ℕ = at-set-word2 .set-word2 .last .0 in
+    let t₃ : List ℕ = at-set-word3 .set-word3 .last .0 in
+    let e₁ : length t₁ ≡ length s = ap length (at-set-word .set-word .ensures) ∙ length-put s (a .l .b + 2 * p) (a .x) in
+    let e₂ : length t₂ ≡ length t₁ = ap length (at-set-word2 .set-word2 .ensures) ∙ length-put t₁ (a .l .b + 2 * a .x + 1) p in
+    let e₃ : length t₃ ≡ length t₂ = ap length (at-set-word3 .set-word3 .ensures) ∙ length-put t₂ (a .l .b + 2 * a .x) (a .l .top + a .v) in
+    omega (arith, start .pre .3 .own, e₁, e₂, e₃)
 
 returns : tie.Need-returns
 unfolding appendM

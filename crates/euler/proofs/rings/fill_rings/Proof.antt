@@ -18,6 +18,7 @@ sift-all-requires c κs =
 
 fill-ends-requires : tie.Need-fill-ends-requires
 fill-ends-requires c κs =
+    let at-before = c .before .before in
     let sifted = c .before .before .before in
     let started = sifted .before .before .before .before in
     let pre = started .before .before .before .pre in (
@@ -29,6 +30,7 @@ fill-ends-requires c κs =
 
 fill-ends-requires-2 : tie.Need-fill-ends-requires-2
 fill-ends-requires-2 c κs =
+    let at-before = c .before .before in
     let firsts = c .before .before .before in
     let sifted = firsts .before .before .before .before in
     let started = sifted .before .before .before .before in
@@ -43,6 +45,7 @@ fill-ends-requires-2 c κs =
 
 returns : tie.Need-returns
 returns c =
+    let at-before = c .before in
     let seconds = c .before .before in
     let firsts = seconds .before .before .before .before in
     let sifted = firsts .before .before .before .before in

@@ -6,29 +6,44 @@ use Rattle.euler.proofs.rings.ring_end.Tie as tie
 
 end-of-requires : tie.Need-end-of-requires
 end-of-requires c κs =
-    let a = c .before .before .before .before .before .before .before .before .args in
-    let pre = c .before .before .before .before .before .before .before .before .pre in (
+    let at-word-at2 = c .before in
+    let at-word-at = at-word-at2 .before .before .before in
+    let start = at-word-at .before .before .before .before in
+    let a = start .args in
+    let pre = start .pre in (
       pre .0 .table,
       pre .1,
-      ring-reads (a .l) (a .side) (a .s .now) (a .j) (c .before .before .before .before .word-at .result) (c .before .word-at2 .result) (c .before .before .before .before .word-at .ensures .0) (c .before .word-at2 .ensures .0) (pre .3),
+      ring-reads (a .l) (a .side) (a .s .now) (a .j) (at-word-at .word-at .result) (at-word-at2 .word-at2 .result) (at-word-at .word-at .ensures .0) (at-word-at2 .word-at2 .ensures .0) (pre .3),
     )
 
 append-requires : tie.Need-append-requires
 append-requires c κs =
-    let a = c .before .before .before .before .before .before .before .before .before .before .before .before .before .before .before .before .args in
-    let pre = c .before .before .before .before .before .before .before .before .before .before .before .before .before .before .before .before .pre in (
+    let at-set-word = c .before .before .before in
+    let at-struct-known3 = at-set-word .before .before .before in
+    let at-end-of = at-struct-known3 .before in
+    let at-word-at2 = at-end-of .before .before in
+    let at-word-at = at-word-at2 .before .before .before in
+    let start = at-word-at .before .before .before .before in
+    let a = start .args in
+    let pre = start .pre in (
       pre .0,
-      omega (arith, c .before .before .before .before .before .before .struct-known3 .given),
-      omega (arith, c .before .before .before .before .before .before .before .before .before .before .before .before .word-at .ensures .1, pre .1),
-      ring-asks (a .l) (a .side) (a .s .now) (a .j) (c .before .before .before .before .before .before .before .before .before .before .before .before .word-at .result) (c .before .before .before .before .before .before .before .before .before .word-at2 .result) (c .before .before .before .before .before .before .before .end-of .result .0) (c .before .before .before .set-word .last .0)
-          (c .before .before .before .before .before .before .before .before .before .before .before .before .word-at .ensures .0) (c .before .before .before .before .before .before .before .before .before .word-at2 .ensures .0) (c .before .before .before .before .before .before .before .end-of .ensures) (c .before .before .before .set-word .ensures) (pre .3),
+      omega (arith, at-struct-known3 .struct-known3 .given),
+      omega (arith, at-word-at .word-at .ensures .1, pre .1),
+      ring-asks (a .l) (a .side) (a .s .now) (a .j) (at-word-at .word-at .result) (at-word-at2 .word-at2 .result) (at-end-of .end-of .result .0) (at-set-word .set-word .last .0)
+          (at-word-at .word-at .ensures .0) (at-word-at2 .word-at2 .ensures .0) (at-end-of .end-of .ensures) (at-set-word .set-word .ensures) (pre .3),
     )
 
 returns : tie.Need-returns
 returns c =
-    let a = c .before .before .before .before .before .before .before .before .before .before .before .before .before .before .before .before .before .before .before .args in
-    ring-so (a .l) (a .side) (a .s .now) (a .j) (c .before .before .before .before .before .before .before .before .before .before .before .before .before .before .before .word-at .result) (c .before .before .before .before .before .before .before .before .before .before .before .before .word-at2 .result) (c .before .before .before .before .before .before .before .before .before .before .end-of .result .0) (c .before .before .before .before .before .before .set-word .last .0) (c .before .before .append .last .0)
-    (c .before .before .before .before .before .before .before .before .before .before .before .before .before .before .before .word-at .ensures .0) (c .before .before .before .before .before .before .before .before .before .before .before .before .word-at2 .ensures .0) (c .before .before .before .before .before .before .before .before .before .before .end-of .ensures) (c .before .before .before .before .before .before .set-word .ensures) (c .before .before .append .ensures)
+    let at-append = c .before .before in
+    let at-set-word = at-append .before .before .before .before in
+    let at-end-of = at-set-word .before .before .before .before in
+    let at-word-at2 = at-end-of .before .before in
+    let at-word-at = at-word-at2 .before .before .before in
+    let start = at-word-at .before .before .before .before in
+    let a = start .args in
+    ring-so (a .l) (a .side) (a .s .now) (a .j) (at-word-at .word-at .result) (at-word-at2 .word-at2 .result) (at-end-of .end-of .result .0) (at-set-word .set-word .last .0) (at-append .append .last .0)
+    (at-word-at .word-at .ensures .0) (at-word-at2 .word-at2 .ensures .0) (at-end-of .end-of .ensures) (at-set-word .set-word .ensures) (at-append .append .ensures)
 
 pub ring-end-spec : {M : Type 1} → statement M
 ring-end-spec =

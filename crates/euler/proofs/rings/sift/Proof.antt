@@ -6,8 +6,12 @@ use Rattle.euler.proofs.rings.sift.Tie as tie
 
 returns : tie.Need-returns
 returns c =
-    let a = c .before .before .before .before .before .before .before .before .before .before .before .before .before .before .args in
-    sift-so (a .l) (a .s .now) (a .i) (a .odd) (c .before .before .before .before .before .before .before .before .before .before .word-at .result) (c .before .before .before .before .before .before .before .set-word .last .0) (c .before .before .set-word2 .last .0) _ (c .before .before .before .before .before .before .before .before .before .before .word-at .ensures .0) (c .before .before .before .before .before .before .before .set-word .ensures) (c .before .before .set-word2 .ensures) refl
+    let at-set-word2 = c .before .before in
+    let at-set-word = at-set-word2 .before .before .before .before .before in
+    let at-word-at = at-set-word .before .before .before in
+    let start = at-word-at .before .before .before .before in
+    let a = start .args in
+    sift-so (a .l) (a .s .now) (a .i) (a .odd) (at-word-at .word-at .result) (at-set-word .set-word .last .0) (at-set-word2 .set-word2 .last .0) _ (at-word-at .word-at .ensures .0) (at-set-word .set-word .ensures) (at-set-word2 .set-word2 .ensures) refl
 
 pub sift-spec : {M : Type 1} → statement M
 sift-spec =

@@ -35,11 +35,14 @@ sift-requires c κs =
 
 loop-again : tie.Need-loop-again Inv-loop μ-loop
 loop-again c =
-    let inv = c .before .before .before .before .before .loop .inv in
-    let a = c .before .before .before .before .before .before .before .args in
-    let i = c .before .before .before .before .before .loop .i in
-    let t : Counted = record { words = c .before .before .before .before .before .loop .s; count = c .before .before .before .before .before .loop .odd } in
-    let e : record { words = c .before .before .sift .last .0; count = c .before .before .sift .result } ≡ siftM (a .l) t i = c .before .before .sift .ensures in (
+    let at-sift = c .before .before in
+    let at-loop = at-sift .before .before .before in
+    let start = at-loop .before .before in
+    let inv = at-loop .loop .inv in
+    let a = start .args in
+    let i = at-loop .loop .i in
+    let t : Counted = record { words = at-loop .loop .s; count = at-loop .loop .odd } in
+    let e : record { words = at-sift .sift .last .0; count = at-sift .sift .result } ≡ siftM (a .l) t i = at-sift .sift .ensures in (
       search needs,
       search needs,
       omega (arith, ap (λ (u : Counted). u .count) e, sift-count (a .l) t i, inv .2),

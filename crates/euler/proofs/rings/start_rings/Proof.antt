@@ -21,12 +21,15 @@ loop-holds c = (search needs, refl, refl)
 
 loop-again : tie.Need-loop-again Inv-loop μ-loop
 loop-again c =
-    let inv = c .before .before .before .before .before .loop .inv in (
+    let at-start-ring = c .before .before in
+    let at-loop = at-start-ring .before .before .before in
+    let start = at-loop .before .before in
+    let inv = at-loop .loop .inv in (
       search needs,
       search needs,
-      c .before .before .start-ring .ensures
-          ∙ ap (λ (t : List ℕ). startRingM (c .before .before .before .before .before .before .before .args .l) t (c .before .before .before .before .before .loop .v)) (inv .2)
-          ∙ sym (start-more (c .before .before .before .before .before .before .before .args .l) (c .before .before .before .before .before .loop .v) (c .before .before .before .before .before .before .before .args .s .now)),
+      at-start-ring .start-ring .ensures
+          ∙ ap (λ (t : List ℕ). startRingM (start .args .l) t (at-loop .loop .v)) (inv .2)
+          ∙ sym (start-more (start .args .l) (at-loop .loop .v) (start .args .s .now)),
     )
 
 returns : tie.Need-returns Inv-loop μ-loop

@@ -25,22 +25,27 @@ loop-holds c = (search needs, refl, record { next = omega arith; at = omega arit
 
 returns : tie.Need-returns Inv-loop μ-loop
 returns c =
-    let inv = c .before .before .before .loop .inv in
-    let a = c .before .before .before .before .before .args in
-    let e : walkM (a .l) (a .parties) (2 * a .m + a .parties) (begun (a .s .now)) ≡ record { words = c .before .before .before .loop .s; walk = c .before .before .before .loop .w } =
-    walk-rests (a .l) (a .parties) (2 * a .m + a .parties) (c .before .before .before .loop .k) (begun (a .s .now)) _ (inv .0) (inv .3) (c .if1 .taken) in
+    let at-loop = c .before .before .before in
+    let start = at-loop .before .before in
+    let inv = at-loop .loop .inv in
+    let a = start .args in
+    let e : walkM (a .l) (a .parties) (2 * a .m + a .parties) (begun (a .s .now)) ≡ record { words = at-loop .loop .s; walk = at-loop .loop .w } =
+    walk-rests (a .l) (a .parties) (2 * a .m + a .parties) (at-loop .loop .k) (begun (a .s .now)) _ (inv .0) (inv .3) (c .if1 .taken) in
     (ap (λ (t : Stage). t .words) (sym e), ap (λ (t : Stage). t .walk .written) (sym e), omega (arith, inv .0, inv .2))
 
 loop-again : tie.Need-loop-again Inv-loop μ-loop
 loop-again c =
-    let inv = c .before .before .before .before .before .before .before .loop .inv in
-    let a = c .before .before .before .before .before .before .before .before .before .args in
-    let e : record { words = c .before .before .walk-step .last .0; walk = c .before .before .walk-step .result } ≡ stepM (a .l) (a .parties) (record { words = c .before .before .before .before .before .before .before .loop .s; walk = c .before .before .before .before .before .before .before .loop .w }) =
-    c .before .before .walk-step .ensures in (
+    let at-walk-step = c .before .before in
+    let at-loop = at-walk-step .before .before .before .before .before in
+    let start = at-loop .before .before in
+    let inv = at-loop .loop .inv in
+    let a = start .args in
+    let e : record { words = at-walk-step .walk-step .last .0; walk = at-walk-step .walk-step .result } ≡ stepM (a .l) (a .parties) (record { words = at-loop .loop .s; walk = at-loop .loop .w }) =
+    at-walk-step .walk-step .ensures in (
       search needs,
       search needs,
-      subst (λ (t : Stage). Small (c .before .before .before .before .before .before .before .loop .k + 1) (t .walk)) (sym e) (small-step (a .l) (a .parties) (c .before .before .before .before .before .before .before .loop .k) (record { words = c .before .before .before .before .before .before .before .loop .s; walk = c .before .before .before .before .before .before .before .loop .w }) (inv .4) (inv .2)),
-      e ∙ ap (stepM (a .l) (a .parties)) (inv .3) ∙ sym (walk-more (a .l) (a .parties) (c .before .before .before .before .before .before .before .loop .k) (begun (a .s .now))),
+      subst (λ (t : Stage). Small (at-loop .loop .k + 1) (t .walk)) (sym e) (small-step (a .l) (a .parties) (at-loop .loop .k) (record { words = at-loop .loop .s; walk = at-loop .loop .w }) (inv .4) (inv .2)),
+      e ∙ ap (stepM (a .l) (a .parties)) (inv .3) ∙ sym (walk-more (a .l) (a .parties) (at-loop .loop .k) (begun (a .s .now))),
       λ i. omega (arith, c .slice-known2 .given i),
     )
 
@@ -53,13 +58,16 @@ returns-2 c =
 
 walk-step-requires : tie.Need-walk-step-requires Inv-loop μ-loop
 walk-step-requires c κs =
-    let inv = c .before .before .before .before .loop .inv in
-    let a = c .before .before .before .before .before .before .args in (
+    let in-loop = c .before .before .before in
+    let at-loop = in-loop .before in
+    let start = at-loop .before .before in
+    let inv = at-loop .loop .inv in
+    let a = start .args in (
       search needs,
       search needs,
       λ n.
           subst (λ (t : Stage). t .walk .next < a .parties → Steps (a .l) (t .words) (t .walk)) (sym (inv .3))
-          (c .before .before .before .before .before .before .pre .3 .steps (c .before .before .before .before .loop .k) (c .before .before .before .loop-test .taken)) n,
+          (start .pre .3 .steps (at-loop .loop .k) (in-loop .loop-test .taken)) n,
     )
 
 pub euler-cycles-spec : {M : Type 1} → statement M

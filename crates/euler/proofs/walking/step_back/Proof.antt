@@ -6,7 +6,8 @@ use Rattle.euler.proofs.walking.step_back.Tie as tie
 
 add-t14 : tie.Need-add-t14
 add-t14 c =
-    omega (arith, c .before .before .before .before .before .before .before .before .before .before .before .before .before .before .before .before .before .before .before .pre .1)
+    let start = c .before .before .before .before .before .before .before .before .before .before .before .before .before .before .before .before .before .before .before in
+    omega (arith, start .pre .1)
 
 returns : tie.Need-returns
 unfolding backM

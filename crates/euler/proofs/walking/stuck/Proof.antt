@@ -7,15 +7,22 @@ use Rattle.euler.proofs.walking.stuck.Tie as tie
 
 step-back-requires : tie.Need-step-back-requires
 step-back-requires c κs =
-    (c .before .before .before .before .pre .0, c .before .before .before .before .pre .1, c .before .if1 .taken, c .before .before .before .before .pre .2 (c .before .if1 .taken))
+    let branch = c .before in
+    let start = branch .before .before .before in
+    (start .pre .0, start .pre .1, branch .if1 .taken, start .pre .2 (branch .if1 .taken))
 
 returns : tie.Need-returns
 returns c =
-    c .before .before .step-back .ensures ∙ sym (stuck-backs (c .before .before .before .before .before .before .before .args .l) (c .before .before .before .before .before .before .before .args .s .now) (c .before .before .before .before .before .before .before .args .w) (c .before .before .before .before .if1 .taken))
+    let at-step-back = c .before .before in
+    let branch = at-step-back .before .before in
+    let start = branch .before .before .before in
+    at-step-back .step-back .ensures ∙ sym (stuck-backs (start .args .l) (start .args .s .now) (start .args .w) (branch .if1 .taken))
 
 returns-2 : tie.Need-returns-2
 returns-2 c =
-    sym (stuck-next (c .before .before .before .before .before .args .l) (c .before .before .before .before .before .args .s .now) (c .before .before .before .before .before .args .w) (omega (arith, c .before .before .if1 .left)))
+    let branch = c .before .before in
+    let start = branch .before .before .before in
+    sym (stuck-next (start .args .l) (start .args .s .now) (start .args .w) (omega (arith, branch .if1 .left)))
 
 pub stuck-spec : {M : Type 1} → statement M
 stuck-spec = tie.close (tie.spec step-back-requires (λ c. search needs) returns (λ c. search needs) (λ c. search needs) returns-2)

@@ -11,17 +11,25 @@ use Rattle.euler.proofs.walking.take.Tie as tie
 
 unlink-requires : tie.Need-unlink-requires
 unlink-requires c κs =
-    let pre = c .before .before .before .before .before .before .before .before .before .before .before .pre in
-    (pre .0, omega (arith, pre .2), subst (λ (t : List ℕ). Unlinks (c .before .before .before .before .before .before .before .before .before .before .before .args .l) t (mateM (c .before .before .before .before .before .before .before .before .before .before .before .args .x))) (sym (c .before .before .before .pop .ensures)) (pre .3 .unlinks))
+    let at-pop = c .before .before .before in
+    let start = at-pop .before .before .before .before .before .before .before .before in
+    let pre = start .pre in
+    (pre .0, omega (arith, pre .2), subst (λ (t : List ℕ). Unlinks (start .args .l) t (mateM (start .args .x))) (sym (at-pop .pop .ensures)) (pre .3 .unlinks))
 
 add-t17 : tie.Need-add-t17
 add-t17 c =
-    omega (arith, c .before .before .before .before .before .before .before .before .before .before .before .before .before .before .before .before .before .before .before .before .before .before .pre .1)
+    let start = c .before .before .before .before .before .before .before .before .before .before .before .before .before .before .before .before .before .before .before .before .before .before in
+    omega (arith, start .pre .1)
 
 returns : tie.Need-returns
 returns c =
-    let a = c .before .before .before .before .before .before .before .before .before .before .before .before .before .before .before .before .before .before .before .before .before .before .args in
-    taken-so (a .l) (a .s .now) (a .w) (a .x) (c .before .before .before .before .before .before .before .before .before .before .before .before .before .before .before .before .before .before .word-at .result) (c .before .before .before .before .before .before .before .before .before .before .before .before .before .before .pop .last .0) (c .before .before .before .before .before .before .before .before .before .before .unlink .last .0) (c .before .before .before .set-word .last .0) (c .before .before .before .before .before .before .before .before .before .before .before .before .before .before .before .before .before .before .word-at .ensures .0) (c .before .before .before .before .before .before .before .before .before .before .before .before .before .before .pop .ensures) (c .before .before .before .before .before .before .before .before .before .before .unlink .ensures) (c .before .before .before .set-word .ensures)
+    let at-set-word = c .before .before .before in
+    let at-unlink = at-set-word .before .before .before .before .before .before .before in
+    let at-pop = at-unlink .before .before .before .before in
+    let at-word-at = at-pop .before .before .before .before in
+    let start = at-word-at .before .before .before .before in
+    let a = start .args in
+    taken-so (a .l) (a .s .now) (a .w) (a .x) (at-word-at .word-at .result) (at-pop .pop .last .0) (at-unlink .unlink .last .0) (at-set-word .set-word .last .0) (at-word-at .word-at .ensures .0) (at-pop .pop .ensures) (at-unlink .unlink .ensures) (at-set-word .set-word .ensures)
 
 pub take-spec : {M : Type 1} → statement M
 take-spec =

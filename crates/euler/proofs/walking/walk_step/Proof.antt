@@ -10,40 +10,60 @@ use Rattle.euler.proofs.walking.walk_step.Tie as tie
 
 returns : tie.Need-returns
 returns c =
-    sym (step-idle (c .before .before .before .args .l) (c .before .before .before .args .parties) (record { words = c .before .before .before .args .s .now; walk = c .before .before .before .args .w }) (c .if1 .taken))
+    let start = c .before .before .before in
+    sym (step-idle (start .args .l) (start .args .parties) (record { words = start .args .s .now; walk = start .args .w }) (c .if1 .taken))
 
 word-at-requires : tie.Need-word-at-requires
-word-at-requires c κs = c .before .before .before .before .before .before .before .pre .2 (omega (arith, c .before .before .before .before .if1 .left)) .here
+word-at-requires c κs =
+    let branch = c .before .before .before .before in
+    let start = branch .before .before .before in
+    start .pre .2 (omega (arith, branch .if1 .left)) .here
 
 stuck-requires : tie.Need-stuck-requires
 stuck-requires c κs =
-    let pre = c .before .before .before .before .before .before .before .before .before .before .pre in
-    (pre .0, pre .1, pre .2 (omega (arith, c .before .before .before .before .before .before .before .if1 .left)) .backs)
+    let branch = c .before .before .before .before .before .before .before in
+    let start = branch .before .before .before in
+    let pre = start .pre in
+    (pre .0, pre .1, pre .2 (omega (arith, branch .if1 .left)) .backs)
 
 returns-2 : tie.Need-returns-2
 returns-2 c =
-    let a = c .before .before .before .before .before .before .before .before .before .before .before .before .before .args in
+    let at-stuck = c .before .before in
+    let at-if2 = at-stuck .before .before in
+    let at-word-at = at-if2 .before in
+    let branch = at-word-at .before .before .before .before .before in
+    let start = branch .before .before .before in
+    let a = start .args in
     let s = a .s .now in
-    let n : a .w .next < a .parties = omega (arith, c .before .before .before .before .before .before .before .before .before .before .if1 .left) in
-    c .before .before .stuck .ensures ∙ sym (step-stuck (a .l) (a .parties) s (a .w) n (sym (c .before .before .before .before .before .word-at .ensures .0) ∙ c .before .before .before .before .if2 .taken))
+    let n : a .w .next < a .parties = omega (arith, branch .if1 .left) in
+    at-stuck .stuck .ensures ∙ sym (step-stuck (a .l) (a .parties) s (a .w) n (sym (at-word-at .word-at .ensures .0) ∙ at-if2 .if2 .taken))
 
 take-requires : tie.Need-take-requires
 take-requires c κs =
-    let a = c .before .before .before .before .before .before .before .before .before .before .args in
-    let pre = c .before .before .before .before .before .before .before .before .before .before .pre in
-    let e = c .before .before .word-at .ensures .0 in (
+    let at-if2 = c .before in
+    let at-word-at = at-if2 .before in
+    let branch = at-word-at .before .before .before .before .before in
+    let start = branch .before .before .before in
+    let a = start .args in
+    let pre = start .pre in
+    let e = at-word-at .word-at .ensures .0 in (
       pre .0,
       pre .1,
-      c .before .before .word-at .ensures .1,
-      subst (Takes (a .l) (a .s .now) (a .w)) (sym e) (pre .2 (omega (arith, c .before .before .before .before .before .before .before .if1 .left)) .takes (λ z. c .before .if2 .left (e ∙ z))),
+      at-word-at .word-at .ensures .1,
+      subst (Takes (a .l) (a .s .now) (a .w)) (sym e) (pre .2 (omega (arith, branch .if1 .left)) .takes (λ z. at-if2 .if2 .left (e ∙ z))),
     )
 
 returns-3 : tie.Need-returns-3
 returns-3 c =
-    let a = c .before .before .before .before .before .before .before .before .before .before .before .before .before .args in
+    let at-take = c .before .before in
+    let at-if2 = at-take .before .before in
+    let at-word-at = at-if2 .before in
+    let branch = at-word-at .before .before .before .before .before in
+    let start = branch .before .before .before in
+    let a = start .args in
     let s = a .s .now in
-    let n : a .w .next < a .parties = omega (arith, c .before .before .before .before .before .before .before .before .before .before .if1 .left) in
-    c .before .before .take .ensures ∙ ap (takeM (a .l) s (a .w)) (c .before .before .before .before .before .word-at .ensures .0) ∙ sym (step-takes (a .l) (a .parties) s (a .w) n (λ z. c .before .before .before .before .if2 .left (c .before .before .before .before .before .word-at .ensures .0 ∙ z)))
+    let n : a .w .next < a .parties = omega (arith, branch .if1 .left) in
+    at-take .take .ensures ∙ ap (takeM (a .l) s (a .w)) (at-word-at .word-at .ensures .0) ∙ sym (step-takes (a .l) (a .parties) s (a .w) n (λ z. at-if2 .if2 .left (at-word-at .word-at .ensures .0 ∙ z)))
 
 pub walk-step-spec : {M : Type 1} → statement M
 walk-step-spec =
