@@ -30,14 +30,14 @@ single-length h s at e = length-put (put-word s (h + 2 + 2 * at) e) (h + 3 + 2 *
 -- ── sifting ──
 
 pub two-sift-so :
-    (l : Two) (s : List ℕ) (n : Sifted) (i e c more : ℕ) (t u w : List ℕ) → e ≡ word s (l .g + 2 + 2 * i) →
+    (l : Two) (s : List ℕ) (n : Sifted) (i : ℕ) {e c more : ℕ} {t u w : List ℕ} → e ≡ word s (l .g + 2 + 2 * i) →
     c ≡ word s (l .g + 3 + 2 * i) → t ≡ singleM (l .first) s (n .even) e → u ≡ singleM (l .second) t (n .even) e →
     w ≡ put-word u (l .notes + n .odd) e → more ≡ manyM c →
     _≡_ {A = Apart-so-far}
     (record { words = w; sifted = record { even = n .even + more; odd = n .odd + c % 2 } })
     (twoSiftM l (record { words = s; sifted = n }) i)
 unfolding twoSiftM
-two-sift-so l s n i e c more t u w ee ec et eu ew em = rw (em, ew, eu, et, ec, ee)
+two-sift-so l s n i ee ec et eu ew em = rw (em, ew, eu, et, ec, ee)
 
 pub two-sift-even : (l : Two) (t : Apart-so-far) (i : ℕ) → twoSiftM l t i .sifted .even ≤ t .sifted .even + 1
 unfolding twoSiftM
@@ -58,18 +58,18 @@ two-sift-more l i s = rw add-one
 -- ── noting ──
 
 pub two-note-so :
-    (l : Two) (side : ℕ) (s : List ℕ) (j e v sum : ℕ) (t u : List ℕ) → e ≡ word s (l .notes + j) →
+    (l : Two) (side : ℕ) (s : List ℕ) (j : ℕ) {e v sum : ℕ} {t u : List ℕ} → e ≡ word s (l .notes + j) →
     v ≡ word s (l .ends + 2 * e + side) → sum ≡ word s (l .b + 2 * v + 1) → t ≡ put-word s (l .b + 2 * v) (2 * e + side + 1) →
     u ≡ put-word t (l .b + 2 * v + 1) (sum + (2 * e + side)) → u ≡ twoNoteM l side s j
 unfolding twoNoteM
-two-note-so l side s j e v sum t u ee ev es et eu =
+two-note-so l side s j {e = e} {v = v} ee ev es et eu =
     let ev' : v ≡ word s (l .ends + (2 * e + side)) = ev ∙ ap (λ (x : ℕ). word s x) (omega arith) in
     rw (eu, es, et, ev', ee)
 
 pub two-note-party :
-    (l : Two) (side : ℕ) (s : List ℕ) (j e v : ℕ) → e ≡ word s (l .notes + j) → v ≡ word s (l .ends + 2 * e + side) →
+    {l : Two} {side : ℕ} {s : List ℕ} {j e v : ℕ} → e ≡ word s (l .notes + j) → v ≡ word s (l .ends + 2 * e + side) →
     Two-notes l side s j → l .b + 2 * v + 1 < length s
-two-note-party l side s j e v ee ev h =
+two-note-party {l = l} {side = side} {s = s} {e = e} {v = v} ee ev h =
     let ev' : v ≡ word s (l .ends + (2 * e + side)) = ev ∙ ap (λ (x : ℕ). word s x) (omega arith) in
     rw (ev', ee) (h .party)
 
@@ -92,28 +92,28 @@ two-fills-first l side (suc k) s h f = let e : suc k - 1 ≡ k = omega arith in 
 -- ── steps and circuits ──
 
 pub two-step-so :
-    (l : Two) (h : ℕ) (s : List ℕ) (at y v sum : ℕ) (t u : List ℕ) → t ≡ singleM h s at (y / 2) →
+    (l : Two) (h : ℕ) (s : List ℕ) (at y : ℕ) {v sum : ℕ} {t u : List ℕ} → t ≡ singleM h s at (y / 2) →
     v ≡ word t (l .ends + 2 * (y / 2) + (1 - y % 2)) → sum ≡ word t (l .b + 2 * v + 1) → u ≡ put-word t (l .b + 2 * v) 0 →
     _≡_ {A = Told}
     (record { words = u; number = (sum + 4294967296 - otherM y) % 4294967296 })
     (twoStepM l h s at y)
 unfolding twoStepM
-two-step-so l h s at y v sum t u et ev es eu =
+two-step-so l h s at y {v = v} {t = t} et ev es eu =
     let ev' : v ≡ word t (l .ends + otherM y) = ev ∙ ap (λ (x : ℕ). word t x) (omega arith) in rw (eu, es, ev', et)
 
 pub two-step-party :
-    (l : Two) (h : ℕ) (s : List ℕ) (at y v : ℕ) (t : List ℕ) → t ≡ singleM h s at (y / 2) →
+    {l : Two} {h : ℕ} {s : List ℕ} {at y v : ℕ} {t : List ℕ} → t ≡ singleM h s at (y / 2) →
     v ≡ word t (l .ends + 2 * (y / 2) + (1 - y % 2)) → Two-steps l h s at y → l .b + 2 * v + 1 < length t
-two-step-party l h s at y v t et ev k =
+two-step-party {l = l} {h = h} {s = s} {at = at} {y = y} {v = v} {t = t} et ev k =
     let ev' : v ≡ word t (l .ends + otherM y) = ev ∙ ap (λ (x : ℕ). word t x) (omega arith) in
     let e : v ≡ word (singleM h s at (y / 2)) (l .ends + otherM y) = rw (← et) ev' in
     rw e (omega (arith, k .party, ap length et, single-length h s at (y / 2)))
 
 pub two-pair-so :
-    (l : Two) (s : List ℕ) (at y : ℕ) (p q : Told) → p ≡ twoStepM l (l .first) s at y →
+    (l : Two) (s : List ℕ) (at y : ℕ) {p q : Told} → p ≡ twoStepM l (l .first) s at y →
     q ≡ twoStepM l (l .second) (p .words) at (p .number) → q ≡ twoPairM l s at y
 unfolding twoPairM
-two-pair-so l s at y p q ep eq = eq ∙ ap (λ (x : Told). twoStepM l (l .second) (x .words) at (x .number)) ep
+two-pair-so l s at y ep eq = eq ∙ ap (λ (x : Told). twoStepM l (l .second) (x .words) at (x .number)) ep
 
 pub two-circuits-first :
     (l : Two) (y₀ n k : ℕ) (s : List ℕ) (at y : ℕ) → n ≡ suc k → Two-circuits l y₀ n s at y →

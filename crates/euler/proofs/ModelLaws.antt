@@ -23,11 +23,11 @@ unfolding startM
 start-more l v s = rw add-one
 
 pub sift-so :
-    (l : Rings) (s : List ℕ) (i odd c : ℕ) (t u : List ℕ) (r : ℕ) → c ≡ copiesM l s i → t ≡ put-word s (l .b + 8 * i + 2) 0 →
+    (l : Rings) (s : List ℕ) (i odd : ℕ) {c : ℕ} {t u : List ℕ} {r : ℕ} → c ≡ copiesM l s i → t ≡ put-word s (l .b + 8 * i + 2) 0 →
     u ≡ put-word t (l .col + 2 * odd) i → r ≡ odd + c % 2 →
     _≡_ {A = Counted} (record { words = u; count = r }) (siftM l (record { words = s; count = odd }) i)
 unfolding siftM
-sift-so l s i odd c t u r ec et eu er = rw (er, eu, et, ec)
+sift-so l s i odd ec et eu er = rw (er, eu, et, ec)
 
 pub sift-count : (l : Rings) (t : Counted) (i : ℕ) → siftM l t i .count ≤ t .count + 1
 unfolding siftM
@@ -38,22 +38,22 @@ unfolding siftAllM
 sift-more l i s = rw add-one
 
 pub ring-so :
-    (l : Rings) (side : ℕ) (s : List ℕ) (j i e v : ℕ) (t u : List ℕ) → i ≡ notedM l s j → e ≡ word s (l .g + 2 + 2 * i) →
+    (l : Rings) (side : ℕ) (s : List ℕ) (j : ℕ) {i e v : ℕ} {t u : List ℕ} → i ≡ notedM l s j → e ≡ word s (l .g + 2 + 2 * i) →
     v ≡ word s (l .ends + 2 * e + side) → t ≡ put-word s (l .b + 8 * i + 7 - 4 * side) v →
     u ≡ appendM l t v (4 * i + 2 * side) → u ≡ ringEndM l side s j
 unfolding ringEndM
-ring-so l side s j i e v t u ei ee ev et eu = rw (eu, et, ev, ee, ei)
+ring-so l side s j ei ee ev et eu = rw (eu, et, ev, ee, ei)
 
 pub ring-reads :
-    (l : Rings) (side : ℕ) (s : List ℕ) (j i e : ℕ) → i ≡ notedM l s j → e ≡ word s (l .g + 2 + 2 * i) → Rings-end l side s j →
+    {l : Rings} {side : ℕ} {s : List ℕ} {j i e : ℕ} → i ≡ notedM l s j → e ≡ word s (l .g + 2 + 2 * i) → Rings-end l side s j →
     l .ends + 2 * e + side < length s
-ring-reads l side s j i e ei ee h = rw (ee, ei) (h .end)
+ring-reads ei ee h = rw (ee, ei) (h .end)
 
 pub ring-asks :
-    (l : Rings) (side : ℕ) (s : List ℕ) (j i e v : ℕ) (t : List ℕ) → i ≡ notedM l s j → e ≡ word s (l .g + 2 + 2 * i) →
+    {l : Rings} {side : ℕ} {s : List ℕ} {j i e v : ℕ} {t : List ℕ} → i ≡ notedM l s j → e ≡ word s (l .g + 2 + 2 * i) →
     v ≡ word s (l .ends + 2 * e + side) → t ≡ put-word s (l .b + 8 * i + 7 - 4 * side) v → Rings-end l side s j →
     Appends l t v (4 * i + 2 * side)
-ring-asks l side s j i e v t ei ee ev et h = rw (et, ev, ee, ei) (h .appends)
+ring-asks ei ee ev et h = rw (et, ev, ee, ei) (h .appends)
 
 pub ends-none : (l : Rings) (side k : ℕ) (s : List ℕ) → k ≡ 0 → endsM l side k s ≡ s
 unfolding endsM
@@ -92,13 +92,13 @@ fill-so l m parties s et eu ev ew =
 -- ── the walk ──
 
 pub taken-so :
-    (l : Rings) (s : List ℕ) (w : Walk) (x to : ℕ) (t u v : List ℕ) → to ≡ word s (l .b + 2 * x + 3) →
+    (l : Rings) (s : List ℕ) (w : Walk) (x : ℕ) {to : ℕ} {t u v : List ℕ} → to ≡ word s (l .b + 2 * x + 3) →
     t ≡ popM l s (l .top + w .at) x → u ≡ unlinkM l t (mateM x) → v ≡ put-word u (l .col + 2 * w .height) (x / 4 * 2048 + w .at) →
     _≡_ {A = Stage}
     (record { words = v; walk = record { next = w .next; at = to; height = w .height + 1; written = w .written } })
     (takeM l s w x)
 unfolding takeM
-taken-so l s w x to t u v eo et eu ev = rw (ev, eu, et, eo)
+taken-so l s w x eo et eu ev = rw (ev, eu, et, eo)
 
 pub stuck-backs : (l : Rings) (s : List ℕ) (w : Walk) → 0 < w .height → stuckM l s w ≡ backM l s w
 unfolding stuckM
@@ -218,27 +218,27 @@ single-count l h t j = omega arith
 -- ── whole functions, from what each of their calls gives ──
 
 pub single-so :
-    (l : Rings) (h : ℕ) (s : List ℕ) (at j i c e n : ℕ) (t : List ℕ) (r : ℕ) → i ≡ word s (l .col + 2 * j + 1) →
+    (l : Rings) (h : ℕ) (s : List ℕ) (at j : ℕ) {i c e n : ℕ} {t : List ℕ} {r : ℕ} → i ≡ word s (l .col + 2 * j + 1) →
     c ≡ copiesM l s i → e ≡ word s (l .g + 2 + 2 * i) → t ≡ pushM h s at e 1 → n ≡ manyM c → r ≡ at + (1 - n) →
     _≡_ {A = Counted} (record { words = t; count = r }) (singleM l h (record { words = s; count = at }) j)
 unfolding singleM
-single-so l h s at j i c e n t r ei ec ee et en er = rw (er, en, et, ee, ec, ei)
+single-so l h s at j ei ec ee et en er = rw (er, en, et, ee, ec, ei)
 
 pub entry-so :
-    (l : Rings) (h parity : ℕ) (s : List ℕ) (at i c e mark x n : ℕ) (t : List ℕ) (r : ℕ) → c ≡ copiesM l s i →
+    (l : Rings) (h parity : ℕ) (s : List ℕ) (at i : ℕ) {c e mark x n : ℕ} {t : List ℕ} {r : ℕ} → c ≡ copiesM l s i →
     e ≡ word s (l .g + 2 + 2 * i) → mark ≡ word s (l .b + 8 * i + 2) → x ≡ moreM mark parity →
     t ≡ pushM h s at e (c / 2 + x) → n ≡ manyM c → r ≡ at + n →
     _≡_ {A = Counted} (record { words = t; count = r }) (entryM l h parity (record { words = s; count = at }) i)
 unfolding entryM
-entry-so l h parity s at i c e mark x n t r ec ee em ex et en er = rw (er, en, et, ex, em, ee, ec)
+entry-so l h parity s at i ec ee em ex et en er = rw (er, en, et, ex, em, ee, ec)
 
 pub half-so :
-    (l : Rings) (h parity m written : ℕ) (s t₁ t₂ t₃ t₄ : List ℕ) (from at : ℕ) →
+    (l : Rings) (h parity m written : ℕ) (s : List ℕ) {t₁ t₂ t₃ t₄ : List ℕ} {from at : ℕ} →
     record { words = t₁; count = from } ≡ entriesM l h parity m s →
     record { words = t₂; count = at } ≡ singlesM l h parity ((written + 1 - parity) / 2) (record { words = t₁; count = from }) →
     t₃ ≡ put-word t₂ h h → t₄ ≡ put-word t₃ (h + 1) at → t₄ ≡ halfM l h parity m written s
 unfolding halfM
-half-so l h parity m written s t₁ t₂ t₃ t₄ from at e f u v =
+half-so l h parity m written s e f u v =
     rw (v, u, ← e) (ap (λ (t : Counted). put-word (put-word (t .words) h h) (h + 1) (t .count)) f)
 
 -- what each half asks, from what the steps before it give

@@ -77,7 +77,7 @@ returns c =
     let a = start .args in
     let p : Told = record { words = at-two-step .two-step .last .0; number = at-two-step .two-step .result } in
     let q : Told = record { words = at-two-step2 .two-step2 .last .0; number = at-two-step2 .two-step2 .result } in
-    let e : q ≡ twoPairM (a .l) (w .s) (w .n) (w .y) = two-pair-so (a .l) (w .s) (w .n) (w .y) p q (at-two-step .two-step .ensures .0) (at-two-step2 .two-step2 .ensures .0) in
+    let e : q ≡ twoPairM (a .l) (w .s) (w .n) (w .y) = two-pair-so (a .l) (w .s) (w .n) (w .y) (at-two-step .two-step .ensures .0) (at-two-step2 .two-step2 .ensures .0) in
     sym (two-circuit-back (a .l) (a .y0) (a .bound - w .k) (a .bound - (w .k + 1)) (w .s) (w .n) (w .y) q (omega (arith, in-loop .loop-test .taken)) e (c .if1 .taken)) ∙ inv .5
 
 loop-again : tie.Need-loop-again Inv-loop μ-loop
@@ -92,7 +92,7 @@ loop-again c =
     let a = start .args in
     let p : Told = record { words = at-two-step .two-step .last .0; number = at-two-step .two-step .result } in
     let q : Told = record { words = at-two-step2 .two-step2 .last .0; number = at-two-step2 .two-step2 .result } in
-    let e : q ≡ twoPairM (a .l) (w .s) (w .n) (w .y) = two-pair-so (a .l) (w .s) (w .n) (w .y) p q (at-two-step .two-step .ensures .0) (at-two-step2 .two-step2 .ensures .0) in
+    let e : q ≡ twoPairM (a .l) (w .s) (w .n) (w .y) = two-pair-so (a .l) (w .s) (w .n) (w .y) (at-two-step .two-step .ensures .0) (at-two-step2 .two-step2 .ensures .0) in
     let more : a .bound - w .k ≡ suc (a .bound - (w .k + 1)) = omega (arith, in-loop .loop-test .taken) in (
       search needs,
       search needs,

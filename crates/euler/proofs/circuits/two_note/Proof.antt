@@ -15,7 +15,7 @@ word-at-requires-2 c κs =
     let at-word-at = at-end-of .before .before in
     let start = at-word-at .before .before .before .before in
     let a = start .args in
-    two-note-party (a .l) (a .side) (a .s .now) (a .j) (at-word-at .word-at .result) (at-end-of .end-of .result .0) (at-word-at .word-at .ensures .0) (at-end-of .end-of .ensures) (start .pre .3)
+    two-note-party (at-word-at .word-at .ensures .0) (at-end-of .end-of .ensures) (start .pre .3)
 
 -- src/circuits.rt:88:5
 set-word-requires : tie.Need-set-word-requires
@@ -24,7 +24,7 @@ set-word-requires c κs =
     let at-word-at = at-end-of .before .before in
     let start = at-word-at .before .before .before .before in
     let a = start .args in
-    omega (arith, two-note-party (a .l) (a .side) (a .s .now) (a .j) (at-word-at .word-at .result) (at-end-of .end-of .result .0) (at-word-at .word-at .ensures .0) (at-end-of .end-of .ensures) (start .pre .3))
+    omega (arith, two-note-party (at-word-at .word-at .ensures .0) (at-end-of .end-of .ensures) (start .pre .3))
 
 -- src/circuits.rt:89:5
 set-word-requires-2 : tie.Need-set-word-requires-2
@@ -36,7 +36,7 @@ set-word-requires-2 c κs =
     let a = start .args in
     let len : length (at-set-word .set-word .last .0) ≡ length (a .s .now) =
     ap length (at-set-word .set-word .ensures) ∙ length-put (a .s .now) (a .l .b + 2 * at-end-of .end-of .result .0) (2 * at-word-at .word-at .result + a .side + 1) in
-    omega (arith, len, two-note-party (a .l) (a .side) (a .s .now) (a .j) (at-word-at .word-at .result) (at-end-of .end-of .result .0) (at-word-at .word-at .ensures .0) (at-end-of .end-of .ensures) (start .pre .3))
+    omega (arith, len, two-note-party (at-word-at .word-at .ensures .0) (at-end-of .end-of .ensures) (start .pre .3))
 
 -- src/circuits.rt:79:1
 returns : tie.Need-returns
@@ -48,7 +48,7 @@ returns c =
     let at-word-at = at-end-of .before .before in
     let start = at-word-at .before .before .before .before in
     let a = start .args in
-    two-note-so (a .l) (a .side) (a .s .now) (a .j) (at-word-at .word-at .result) (at-end-of .end-of .result .0) (at-word-at2 .word-at2 .result) (at-set-word .set-word .last .0) (at-set-word2 .set-word2 .last .0) (at-word-at .word-at .ensures .0) (at-end-of .end-of .ensures) (at-word-at2 .word-at2 .ensures .0) (at-set-word .set-word .ensures) (at-set-word2 .set-word2 .ensures)
+    two-note-so (a .l) (a .side) (a .s .now) (a .j) (at-word-at .word-at .ensures .0) (at-end-of .end-of .ensures) (at-word-at2 .word-at2 .ensures .0) (at-set-word .set-word .ensures) (at-set-word2 .set-word2 .ensures)
 
 pub two-note-spec : {M : Type 1} → statement M
 two-note-spec =

@@ -19,7 +19,7 @@ returns c =
     let at-word-at = at-word-at2 .before .before .before in
     let start = at-word-at .before .before .before .before in
     let a = start .args in
-    two-sift-so (a .l) (a .s .now) (a .n) (a .i) (at-word-at .word-at .result) (at-word-at2 .word-at2 .result) (at-many .many .result) (at-push .push .last .0) (at-push2 .push2 .last .0) (at-set-word .set-word .last .0) (at-word-at .word-at .ensures .0) (at-word-at2 .word-at2 .ensures .0) (at-push .push .ensures) (at-push2 .push2 .ensures) (at-set-word .set-word .ensures) (at-many .many .ensures .0)
+    two-sift-so (a .l) (a .s .now) (a .n) (a .i) (at-word-at .word-at .ensures .0) (at-word-at2 .word-at2 .ensures .0) (at-push .push .ensures) (at-push2 .push2 .ensures) (at-set-word .set-word .ensures) (at-many .many .ensures .0)
 
 pub two-sift-spec : {M : Type 1} → statement M
 two-sift-spec =

@@ -11,7 +11,7 @@ word-at-requires c κs =
     let at-push = at-end-of .before .before .before .before in
     let start = at-push .before .before .before in
     let a = start .args in
-    two-step-party (a .l) (a .h) (a .s .now) (a .at) (a .y) (at-end-of .end-of .result .0) (at-push .push .last .0) (at-push .push .ensures) (at-end-of .end-of .ensures) (start .pre .4)
+    two-step-party (at-push .push .ensures) (at-end-of .end-of .ensures) (start .pre .4)
 
 -- src/circuits.rt:114:5
 set-word-requires : tie.Need-set-word-requires
@@ -20,7 +20,7 @@ set-word-requires c κs =
     let at-push = at-end-of .before .before .before .before in
     let start = at-push .before .before .before in
     let a = start .args in
-    omega (arith, two-step-party (a .l) (a .h) (a .s .now) (a .at) (a .y) (at-end-of .end-of .result .0) (at-push .push .last .0) (at-push .push .ensures) (at-end-of .end-of .ensures) (start .pre .4))
+    omega (arith, two-step-party (at-push .push .ensures) (at-end-of .end-of .ensures) (start .pre .4))
 
 -- src/circuits.rt:105:1
 returns : tie.Need-returns
@@ -31,7 +31,7 @@ returns c =
     let at-push = at-end-of .before .before .before .before in
     let start = at-push .before .before .before in
     let a = start .args in
-    (two-step-so (a .l) (a .h) (a .s .now) (a .at) (a .y) (at-end-of .end-of .result .0) (at-word-at .word-at .result) (at-push .push .last .0) (at-set-word .set-word .last .0) (at-push .push .ensures) (at-end-of .end-of .ensures) (at-word-at .word-at .ensures .0) (at-set-word .set-word .ensures), omega arith)
+    (two-step-so (a .l) (a .h) (a .s .now) (a .at) (a .y) (at-push .push .ensures) (at-end-of .end-of .ensures) (at-word-at .word-at .ensures .0) (at-set-word .set-word .ensures), omega arith)
 
 pub two-step-spec : {M : Type 1} → statement M
 two-step-spec =

@@ -15,8 +15,7 @@ returns c =
     let at-half-entries = at-half-singles .before .before .before .before in
     let start = at-half-entries .before .before .before in
     let a = start .args in
-    half-so (a .l) (a .h) (a .parity) (a .m) (a .written) (a .s .now) (at-half-entries .half-entries .last .0) (at-half-singles .half-singles .last .0)
-    (at-put .put .last .0) (at-put2 .put2 .last .0) (at-half-entries .half-entries .result) (at-half-singles .half-singles .result)
+    half-so (a .l) (a .h) (a .parity) (a .m) (a .written) (a .s .now)
     (at-half-entries .half-entries .ensures .0) (at-half-singles .half-singles .ensures) (at-put .put .ensures) (at-put2 .put2 .ensures)
 
 half-singles-requires : tie.Need-half-singles-requires

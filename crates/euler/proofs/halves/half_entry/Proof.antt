@@ -14,7 +14,7 @@ returns c =
     let at-word-at = at-word-at2 .before .before .before in
     let start = at-word-at .before .before .before .before in
     let a = start .args in
-    entry-so (a .l) (a .h) (a .parity) (a .s .now) (a .at) (a .i) (at-word-at .word-at .result) (at-word-at2 .word-at2 .result) (at-word-at3 .word-at3 .result) (at-more .more .result) (c .many .result) (at-push .push .last .0) _
+    entry-so (a .l) (a .h) (a .parity) (a .s .now) (a .at) (a .i)
     (at-word-at .word-at .ensures .0) (at-word-at2 .word-at2 .ensures .0) (at-word-at3 .word-at3 .ensures .0) (at-more .more .ensures .0) (at-push .push .ensures) (c .many .ensures .0) refl
 
 pub half-entry-spec : {M : Type 1} → statement M

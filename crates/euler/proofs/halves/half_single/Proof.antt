@@ -13,7 +13,7 @@ returns c =
     let at-word-at = at-word-at2 .before .before .before in
     let start = at-word-at .before .before .before .before in
     let a = start .args in
-    single-so (a .l) (a .h) (a .s .now) (a .at) (a .j) (at-word-at .word-at .result) (at-word-at2 .word-at2 .result) (at-word-at3 .word-at3 .result) (c .many .result) (at-push .push .last .0) _
+    single-so (a .l) (a .h) (a .s .now) (a .at) (a .j)
     (at-word-at .word-at .ensures .0) (at-word-at2 .word-at2 .ensures .0) (at-word-at3 .word-at3 .ensures .0) (at-push .push .ensures) (c .many .ensures .0) refl
 
 pub half-single-spec : {M : Type 1} → statement M

@@ -13,7 +13,7 @@ end-of-requires c κs =
     let pre = start .pre in (
       pre .0 .table,
       pre .1,
-      ring-reads (a .l) (a .side) (a .s .now) (a .j) (at-word-at .word-at .result) (at-word-at2 .word-at2 .result) (at-word-at .word-at .ensures .0) (at-word-at2 .word-at2 .ensures .0) (pre .3),
+      ring-reads (at-word-at .word-at .ensures .0) (at-word-at2 .word-at2 .ensures .0) (pre .3),
     )
 
 append-requires : tie.Need-append-requires
@@ -29,7 +29,7 @@ append-requires c κs =
       pre .0,
       omega (arith, at-struct-known3 .struct-known3 .given),
       omega (arith, at-word-at .word-at .ensures .1, pre .1),
-      ring-asks (a .l) (a .side) (a .s .now) (a .j) (at-word-at .word-at .result) (at-word-at2 .word-at2 .result) (at-end-of .end-of .result .0) (at-set-word .set-word .last .0)
+      ring-asks
           (at-word-at .word-at .ensures .0) (at-word-at2 .word-at2 .ensures .0) (at-end-of .end-of .ensures) (at-set-word .set-word .ensures) (pre .3),
     )
 
@@ -42,7 +42,7 @@ returns c =
     let at-word-at = at-word-at2 .before .before .before in
     let start = at-word-at .before .before .before .before in
     let a = start .args in
-    ring-so (a .l) (a .side) (a .s .now) (a .j) (at-word-at .word-at .result) (at-word-at2 .word-at2 .result) (at-end-of .end-of .result .0) (at-set-word .set-word .last .0) (at-append .append .last .0)
+    ring-so (a .l) (a .side) (a .s .now) (a .j)
     (at-word-at .word-at .ensures .0) (at-word-at2 .word-at2 .ensures .0) (at-end-of .end-of .ensures) (at-set-word .set-word .ensures) (at-append .append .ensures)
 
 pub ring-end-spec : {M : Type 1} → statement M

@@ -11,7 +11,7 @@ returns c =
     let at-word-at = at-set-word .before .before .before in
     let start = at-word-at .before .before .before .before in
     let a = start .args in
-    sift-so (a .l) (a .s .now) (a .i) (a .odd) (at-word-at .word-at .result) (at-set-word .set-word .last .0) (at-set-word2 .set-word2 .last .0) _ (at-word-at .word-at .ensures .0) (at-set-word .set-word .ensures) (at-set-word2 .set-word2 .ensures) refl
+    sift-so (a .l) (a .s .now) (a .i) (a .odd) (at-word-at .word-at .ensures .0) (at-set-word .set-word .ensures) (at-set-word2 .set-word2 .ensures) refl
 
 pub sift-spec : {M : Type 1} → statement M
 sift-spec =

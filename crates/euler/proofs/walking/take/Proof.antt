@@ -29,7 +29,7 @@ returns c =
     let at-word-at = at-pop .before .before .before .before in
     let start = at-word-at .before .before .before .before in
     let a = start .args in
-    taken-so (a .l) (a .s .now) (a .w) (a .x) (at-word-at .word-at .result) (at-pop .pop .last .0) (at-unlink .unlink .last .0) (at-set-word .set-word .last .0) (at-word-at .word-at .ensures .0) (at-pop .pop .ensures) (at-unlink .unlink .ensures) (at-set-word .set-word .ensures)
+    taken-so (a .l) (a .s .now) (a .w) (a .x) (at-word-at .word-at .ensures .0) (at-pop .pop .ensures) (at-unlink .unlink .ensures) (at-set-word .set-word .ensures)
 
 pub take-spec : {M : Type 1} → statement M
 take-spec =
