@@ -6,7 +6,8 @@ use native.Mathlib.Omega.{arith}
 use lib.ListN.{length}
 use Rattle.words.specs.Words.{word, put-word}
 use Rattle.words.proofs.Frames.{here, away, length-put}
-use Rattle.euler.specs.CircuitModel.{singleM, headM}
+use Rattle.euler.specs.Model.{headM}
+use Rattle.euler.specs.CircuitModel.{singleM}
 use Rattle.euler.proofs.Bases.{away2}
 
 -- the half at h holds one copy each of the pairs es, the last first

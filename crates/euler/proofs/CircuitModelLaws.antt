@@ -14,8 +14,8 @@ use Rattle.words.specs.Words.{word, put-word}
 use Rattle.words.proofs.Frames.{length-put}
 use Rattle.euler.specs.declared.circuits.Two.{Two}
 use Rattle.euler.specs.declared.circuits.Sifted.{Sifted}
-use Rattle.euler.specs.Model.{manyM}
-use Rattle.euler.specs.CircuitModel.{Told, Apart-so-far, singleM, twoStartM, twoSiftM, twoSiftAllM, twoNoteM, twoFillM, otherM, twoStepM, twoPairM, twoCircuitM, twoFromM, twoWalkM, headM, twoFilledM, splitTwoM, copiesSumM, fewSumM}
+use Rattle.euler.specs.Model.{manyM, headM}
+use Rattle.euler.specs.CircuitModel.{Told, Apart-so-far, singleM, twoStartM, twoSiftM, twoSiftAllM, twoNoteM, twoFillM, otherM, twoStepM, twoPairM, twoCircuitM, twoFromM, twoWalkM, twoFilledM, splitTwoM, copiesSumM, fewSumM}
 use Rattle.euler.specs.CircuitBounds.{Two-notes, Two-fills, Two-steps, Two-circuits, Two-froms, Two-walks, Two-splits}
 
 pub two-start-more :

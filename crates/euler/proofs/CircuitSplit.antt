@@ -18,7 +18,8 @@ use Rattle.euler.specs.declared.circuits.Two.{Two}
 use Rattle.euler.specs.Euler.{Tour}
 use Rattle.euler.specs.Split.{add-halves, rest, every-other, add-pairs, rbmg-split-into-two}
 use Rattle.euler.specs.Room.{Splits, Numbers-from, Halves-stored}
-use Rattle.euler.specs.CircuitModel.{Lies, Told, Apart-so-far, twoFillM, twoFilledM, twoWalkM, headM, splitTwoM, copiesSumM, fewSumM, two-laid}
+use Rattle.euler.specs.Model.{headM}
+use Rattle.euler.specs.CircuitModel.{Lies, Told, Apart-so-far, twoFillM, twoFilledM, twoWalkM, splitTwoM, copiesSumM, fewSumM, two-laid}
 use Rattle.euler.specs.CircuitBounds.{Two-fills, Two-walks, Two-splits}
 use Rattle.euler.proofs.Trail.{aslant}
 use Rattle.euler.proofs.Straight.{along, along-total, split-along}

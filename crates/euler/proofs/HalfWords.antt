@@ -15,7 +15,7 @@ use Rattle.words.proofs.Frames.{here, away, length-put}
 use Rattle.multigraph.specs.Multigraph.{Pair, Graph}
 use Rattle.multigraph.specs.Stored.{entry, entries, graph-at}
 use Rattle.euler.specs.declared.rings.Rings.{Rings}
-use Rattle.euler.specs.Model.{Counted, copiesM, moreM, manyM, entryM, entriesM, singleM, singlesM, halfM}
+use Rattle.euler.specs.Model.{Counted, copiesM, moreM, manyM, entryM, entriesM, singleM, singlesM, headM, halfM}
 use Rattle.euler.specs.Bounds.{Half-fits}
 use Rattle.euler.proofs.ModelLaws.{many-none, many-one, entry-count}
 use Rattle.euler.proofs.Places.{keep, keep-append}
@@ -228,7 +228,7 @@ module _ {l : Rings} {m k u h n : ℕ} (pairs parity : ℕ) {s₀ s ws : List �
   -- the two words in front
   headed :
       (t : Counted) (x : Graph) → Holding t x → t .count ≤ m →
-      Half-done (put-word (put-word (t .words) h h) (h + 1) (t .count)) x
+      Half-done (headM h (t .words) (t .count)) x
   unfolding graph-at
   headed t x f few =
       let w : List ℕ = t .words in

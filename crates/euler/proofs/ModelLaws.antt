@@ -14,7 +14,7 @@ use Rattle.words.proofs.Runs.{iterate-suc-out, iterate-rest, iterate-add}
 use Rattle.euler.specs.declared.rings.Rings.{Rings}
 use Rattle.euler.specs.declared.walking.Walk.{Walk}
 use Rattle.euler.specs.Bounds.{Appends, Rings-end, Fills-ends, Fills, Half-fits, Split-fits}
-use Rattle.euler.specs.Model.{Stage, Counted, Small, copiesM, appendM, startRingM, startM, siftM, siftAllM, notedM, ringEndM, endsM, fillM, popM, unlinkM, mateM, takeM, backM, stuckM, stepM, walkM, begun, moreM, manyM, pushM, entryM, entriesM, singleM, singlesM, halfM, splitM}
+use Rattle.euler.specs.Model.{Stage, Counted, Small, copiesM, appendM, startRingM, startM, siftM, siftAllM, notedM, ringEndM, endsM, fillM, popM, unlinkM, mateM, takeM, backM, stuckM, stepM, walkM, begun, moreM, manyM, pushM, entryM, entriesM, singleM, singlesM, headM, halfM, splitM}
 
 -- ── filling ──
 
@@ -233,13 +233,13 @@ unfolding entryM
 entry-so l h parity s at i ec ee em ex et en er = rw (er, en, et, ex, em, ee, ec)
 
 pub half-so :
-    (l : Rings) (h parity m written : ℕ) (s : List ℕ) {t₁ t₂ t₃ t₄ : List ℕ} {from at : ℕ} →
+    (l : Rings) (h parity m written : ℕ) (s : List ℕ) {t₁ t₂ t₃ : List ℕ} {from at : ℕ} →
     record { words = t₁; count = from } ≡ entriesM l h parity m s →
     record { words = t₂; count = at } ≡ singlesM l h parity ((written + 1 - parity) / 2) (record { words = t₁; count = from }) →
-    t₃ ≡ put-word t₂ h h → t₄ ≡ put-word t₃ (h + 1) at → t₄ ≡ halfM l h parity m written s
+    t₃ ≡ headM h t₂ at → t₃ ≡ halfM l h parity m written s
 unfolding halfM
-half-so l h parity m written s e f u v =
-    rw (v, u, ← e) (ap (λ (t : Counted). put-word (put-word (t .words) h h) (h + 1) (t .count)) f)
+half-so l h parity m written s e f u =
+    rw (u, ← e) (ap (λ (t : Counted). headM h (t .words) (t .count)) f)
 
 -- what each half asks, from what the steps before it give
 pub halves-ask :

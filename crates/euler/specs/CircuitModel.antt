@@ -7,7 +7,7 @@ use Rattle.words.specs.Basics.{pick}
 use Rattle.words.specs.Words.{word, put-word}
 use Rattle.euler.specs.declared.circuits.Two.{Two}
 use Rattle.euler.specs.declared.circuits.Sifted.{Sifted}
-use Rattle.euler.specs.Model.{pushM, manyM}
+use Rattle.euler.specs.Model.{pushM, manyM, headM}
 
 -- bases that leave room for sums of them
 pub record Lies (l : Two) : Type 0 where
@@ -110,9 +110,6 @@ twoWalkM l m zero t = t
 twoWalkM l m (suc v) t = twoFromM l m (twoWalkM l m v t) v
 
 -- ── the split ──
-
-abbrev pub headM : ℕ → List ℕ → ℕ → List ℕ
-headM h s n = put-word (put-word s h h) (h + 1) n
 
 -- each party's half-edges, from both sides of the noted pairs
 abbrev pub twoFilledM : Two → Apart-so-far → List ℕ

@@ -193,10 +193,14 @@ unfoldable pub singlesM : Rings → ℕ → ℕ → ℕ → Counted → Counted
 singlesM l h parity zero t = t
 singlesM l h parity (suc k) t = singleM l h (singlesM l h parity k t) (parity + 2 * k)
 
+-- the head of a half: its base and the number of its entries
+abbrev pub headM : ℕ → List ℕ → ℕ → List ℕ
+headM h s n = put-word (put-word s h h) (h + 1) n
+
 unfoldable pub halfM : Rings → ℕ → ℕ → ℕ → ℕ → List ℕ → List ℕ
 halfM l h parity m written s =
     let t = singlesM l h parity ((written + 1 - parity) / 2) (entriesM l h parity m s) in
-    put-word (put-word (t .words) h h) (h + 1) (t .count)
+    headM h (t .words) (t .count)
 
 -- ── the split ──
 

@@ -7,9 +7,10 @@ ghost use mathlib.Core.Path.{_≡_};
 ghost use Prim.Native.Nat.{ℕ, _+_, _*_, _-_, _/_, _<_, _≤_};
 ghost use lib.ListN.{length};
 ghost use Rattle.euler.specs.CircuitModel.{Lies, twoStartM, twoSiftM, twoSiftAllM, twoNoteM, twoFillM};
-ghost use Rattle.euler.specs.CircuitModel.{twoStepM, twoCircuitM, twoFromM, twoWalkM, headM, splitTwoM, fewSumM};
+ghost use Rattle.euler.specs.CircuitModel.{twoStepM, twoCircuitM, twoFromM, twoWalkM, splitTwoM, fewSumM};
 ghost use Rattle.euler.specs.CircuitBounds.{«Two-sifts», «Two-sifts-all», «Two-notes», «Two-fills», «Two-steps», «Two-circuits»};
 ghost use Rattle.euler.specs.CircuitBounds.{«Two-froms», «Two-walks», «Two-splits»};
+use crate::halves::head;
 use crate::halves::many;
 use crate::halves::push;
 use multigraph::EdgeIndex;
@@ -167,15 +168,6 @@ fn two_walk(s: &mut [u32], l: Two, m: usize, even: usize, parties: usize) -> usi
     n
 }
 
-// A half's base and the number of its pairs.
-fn two_head(s: &mut [u32], h: usize, n: usize)
-    requires { ⌜ h < 4294967296 ⌝ }
-    ensures { λ r. ⌜ now (s .exit) ≡ headM h (now (s .entry)) n ⌝ }
-{
-    words::put(s, h, h);
-    words::put(s, h + 1, n);
-}
-
 // Both halves of a graph of degree 2.
 pub(crate) fn split_two(s: &mut [u32], l: Two, m: usize, parties: usize)
     requires { ⌜ Lies l × (m < 4294967296) × (parties < 4294967296) × Two-splits l m parties (now s) ⌝ }
@@ -186,8 +178,8 @@ pub(crate) fn split_two(s: &mut [u32], l: Two, m: usize, parties: usize)
     two_fill(s, l, 0, t.odd);
     two_fill(s, l, 1, t.odd);
     let n = two_walk(s, l, m, t.even, parties);
-    two_head(s, l.first, n);
-    two_head(s, l.second, n);
+    head(s, l.first, n);
+    head(s, l.second, n);
 }
 
 // The copies of all m entries of the graph at g, or 0 if there are more entries than parties.

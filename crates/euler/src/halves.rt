@@ -3,7 +3,7 @@
 ghost use mathlib.Core.Path.{_≡_};
 ghost use Prim.Native.Nat.{ℕ, _+_, _*_, _-_, _/_, _<_, _≤_};
 ghost use lib.ListN.{length};
-ghost use Rattle.euler.specs.Model.{Fits, moreM, manyM, pushM, entryM, entriesM, singleM, singlesM, halfM};
+ghost use Rattle.euler.specs.Model.{Fits, moreM, manyM, pushM, entryM, entriesM, singleM, singlesM, headM, halfM};
 ghost use Rattle.euler.specs.Bounds.{«Entry-fits», «Entries-fit», «Single-fits», «Singles-fit», «Half-fits»};
 use crate::rings::Rings;
 use words::set_word;
@@ -98,13 +98,21 @@ fn half_singles(
     at
 }
 
-// One half: its entries of 2 copies or more, its entries of one copy, and in front its base and how many they are.
+// The head of a half: its base and the number of its entries.
+pub(crate) fn head(s: &mut [u32], h: usize, n: usize)
+    requires { ⌜ h < 4294967296 ⌝ }
+    ensures { λ r. ⌜ now (s .exit) ≡ headM h (now (s .entry)) n ⌝ }
+{
+    words::put(s, h, h);
+    words::put(s, h + 1, n);
+}
+
+// One half: its entries of 2 copies or more, its entries of one copy, and its head.
 pub(crate) fn half(s: &mut [u32], l: Rings, h: usize, parity: usize, m: usize, written: usize)
     requires { ⌜ Fits l × (h < 4294967296) × (parity < 2) × (m < 4294967296) × (written < 68719476736) × Half-fits l h parity m written (now s) ⌝ }
     ensures { λ r. ⌜ now (s .exit) ≡ halfM l h parity m written (now (s .entry)) ⌝ }
 {
     let from = half_entries(s, l, h, parity, m);
     let at = half_singles(s, l, h, parity, from, written);
-    words::put(s, h, h);
-    words::put(s, h + 1, at);
+    head(s, h, at);
 }

@@ -66,8 +66,8 @@ returns c =
     let started = sifted .before .before .before .before in
     let a = started .before .before .before .args in
     split-two-so (a .l) (a .m) (a .parties) (a .s .now) (started .two-start .ensures) (sifted .two-sift-all .ensures .0)
-    (firsts .two-fill .ensures) (seconds .two-fill2 .ensures) (walked .two-walk .ensures) (first-head .two-head .ensures)
-    (second-head .two-head2 .ensures)
+    (firsts .two-fill .ensures) (seconds .two-fill2 .ensures) (walked .two-walk .ensures) (first-head .head .ensures)
+    (second-head .head2 .ensures)
 
 pub split-two-spec : {M : Type 1} → statement M
 split-two-spec =

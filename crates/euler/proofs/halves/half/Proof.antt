@@ -9,14 +9,12 @@ use Rattle.euler.proofs.halves.half.Tie as tie
 
 returns : tie.Need-returns
 returns c =
-    let at-put2 = c .before .before in
-    let at-put = at-put2 .before .before .before .before in
-    let at-half-singles = at-put .before .before .before .before in
+    let at-head = c .before .before in
+    let at-half-singles = at-head .before .before .before .before in
     let at-half-entries = at-half-singles .before .before .before .before in
-    let start = at-half-entries .before .before .before in
-    let a = start .args in
-    half-so (a .l) (a .h) (a .parity) (a .m) (a .written) (a .s .now)
-    (at-half-entries .half-entries .ensures .0) (at-half-singles .half-singles .ensures) (at-put .put .ensures) (at-put2 .put2 .ensures)
+    let a = at-half-entries .before .before .before .args in
+    half-so (a .l) (a .h) (a .parity) (a .m) (a .written) (a .s .now) (at-half-entries .half-entries .ensures .0)
+    (at-half-singles .half-singles .ensures) (at-head .head .ensures)
 
 half-singles-requires : tie.Need-half-singles-requires
 half-singles-requires c κs =
@@ -38,8 +36,6 @@ half-spec =
     (tie.spec
     (λ c κs. search needs)
     half-singles-requires
-    (λ c κs. search needs)
-    (λ c. search needs)
     (λ c κs. search needs)
     (λ c. search needs)
     returns)

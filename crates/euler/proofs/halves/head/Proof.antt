@@ -3,8 +3,8 @@ use mathlib.Core.Path.{_∙_, ap}
 use mathlib.Core.List.{List}
 use Rattle.words.specs.Words.{put-word}
 use borrow.Author.Needs.{needs}
-use Rattle.euler.proofs.circuits.two_head.Statement.{statement}
-use Rattle.euler.proofs.circuits.two_head.Tie as tie
+use Rattle.euler.proofs.halves.head.Statement.{statement}
+use Rattle.euler.proofs.halves.head.Tie as tie
 
 returns : tie.Need-returns
 returns c =
@@ -14,5 +14,5 @@ returns c =
     let a = start .args in
     at-put2 .put2 .ensures ∙ ap (λ (t : List ℕ). put-word t (a .h + 1) (a .n)) (at-put .put .ensures)
 
-pub two-head-spec : {M : Type 1} → statement M
-two-head-spec = tie.close (tie.spec (λ c κs. search needs) (λ c. search needs) (λ c κs. search needs) (λ c. search needs) returns)
+pub head-spec : {M : Type 1} → statement M
+head-spec = tie.close (tie.spec (λ c κs. search needs) (λ c. search needs) (λ c κs. search needs) (λ c. search needs) returns)
