@@ -1,7 +1,7 @@
 -- Where the words of a split lie, and its graph, which stays as it is. Assumes nothing.
 use Prim.Native.Nat.{ℕ, _+_, _*_, _%_, _≤_, _<_}
 use mathlib.Core.Path.{_≡_, _∙_, ap}
-use mathlib.Core.Bool.{Bool, true, false}
+use mathlib.Core.Bool.{Bool, true, false, not}
 use mathlib.Core.List.{List}
 use native.Mathlib.Omega.{arith}
 use lib.ListN.{length}
@@ -85,6 +85,10 @@ module _ {l : Rings} {N m k : ℕ} {s₀ : List ℕ} (g : Laid l N m k s₀) whe
     -- the pair of the rest at a place
     abbrev pub P : ℕ → Pair
     P i = pair (first-at l s₀ i) (second-at l s₀ i) 1 (flag i)
+
+    -- the party to which an entry's half-edge leads
+    abbrev pub far : Bool → ℕ → ℕ
+    far d i = end P (not d) i
 
     pub end-below : (d : Bool) (i : ℕ) → i < m → end P d i < N
     end-below true i b = g .fit .first-below i b

@@ -47,22 +47,23 @@ module _ (b : ℕ) where
     pub prior-node : Node (prior s x)
     pub after-node : Node (after s x)
 
+  -- what comes after the first node of a chain has it before
+  first-next :
+      (Node : ℕ → Type 0) (s : List ℕ) (u : ℕ) (ys : List ℕ) (z : ℕ) → All Node ys → Node z → Chain s u ys z →
+      (prior s (after s u) ≡ u) × Node (after s u)
+  first-next Node s u [] z ns nz h = (ap (prior s) (h .0) ∙ h .1, subst Node (sym (h .0)) nz)
+  first-next Node s u (y ∷ ys) z ns nz h = (ap (prior s) (h .0) ∙ h .1, subst Node (sym (h .0)) (ns .0))
+
   between-first :
       (Node : ℕ → Type 0) (s : List ℕ) (u x : ℕ) (ys : List ℕ) (z : ℕ) → Node u → All Node ys → Node z →
       Chain s u (x ∷ ys) z → Between Node x s
-  between-first Node s u x [] z nu ns nz h =
+  between-first Node s u x ys z nu ns nz h =
+      let n : (prior s (after s x) ≡ x) × Node (after s x) = first-next Node s x ys z ns nz (h .2) in
       record {
         from = ap (after s) (h .1) ∙ h .0;
-        to = ap (prior s) (h .2 .0) ∙ h .2 .1;
+        to = n .0;
         prior-node = subst Node (sym (h .1)) nu;
-        after-node = subst Node (sym (h .2 .0)) nz;
-      }
-  between-first Node s u x (y ∷ ys) z nu ns nz h =
-      record {
-        from = ap (after s) (h .1) ∙ h .0;
-        to = ap (prior s) (h .2 .0) ∙ h .2 .1;
-        prior-node = subst Node (sym (h .1)) nu;
-        after-node = subst Node (sym (h .2 .0)) (ns .0);
+        after-node = n .1;
       }
 
   -- every member of a chain stands so

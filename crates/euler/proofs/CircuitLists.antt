@@ -31,22 +31,22 @@ pub map-numbers : (f : ℕ → Pair) (hs : List ℕ) → map f (numbers hs) ≡ 
 map-numbers f [] = refl
 map-numbers f (y ∷ hs) = ap (λ (l : List Pair). f (y / 2) ∷ l) (map-numbers f hs)
 
-pub others-length : (n : ℕ) (hs : List ℕ) → length hs ≡ double n → (b : Bool) → length (every-other b hs) ≡ n
+pub every-other-length : (n : ℕ) (hs : List ℕ) → length hs ≡ double n → (b : Bool) → length (every-other b hs) ≡ n
 unfolding every-other double
-others-length zero [] e true = refl
-others-length zero [] e false = refl
-others-length zero (y ∷ hs) e b = absurd (omega arith)
-others-length (suc n) [] e b = absurd (omega arith)
-others-length (suc n) (y ∷ []) e b = absurd (omega arith)
-others-length (suc n) (y ∷ z ∷ hs) e true = ap suc (others-length n hs (omega arith) true)
-others-length (suc n) (y ∷ z ∷ hs) e false = ap suc (others-length n hs (omega arith) false)
+every-other-length zero [] e true = refl
+every-other-length zero [] e false = refl
+every-other-length zero (y ∷ hs) e b = absurd (omega arith)
+every-other-length (suc n) [] e b = absurd (omega arith)
+every-other-length (suc n) (y ∷ []) e b = absurd (omega arith)
+every-other-length (suc n) (y ∷ z ∷ hs) e true = ap suc (every-other-length n hs (omega arith) true)
+every-other-length (suc n) (y ∷ z ∷ hs) e false = ap suc (every-other-length n hs (omega arith) false)
 
-pub others-all : (Q : ℕ → Type 0) (b : Bool) (hs : List ℕ) → All Q hs → All Q (every-other b hs)
+pub every-other-all : (Q : ℕ → Type 0) (b : Bool) (hs : List ℕ) → All Q hs → All Q (every-other b hs)
 unfolding every-other
-others-all Q true [] h = tt
-others-all Q false [] h = tt
-others-all Q true (y ∷ hs) h = (h .0, others-all Q false hs (h .1))
-others-all Q false (y ∷ hs) h = others-all Q true hs (h .1)
+every-other-all Q true [] h = tt
+every-other-all Q false [] h = tt
+every-other-all Q true (y ∷ hs) h = (h .0, every-other-all Q false hs (h .1))
+every-other-all Q false (y ∷ hs) h = every-other-all Q true hs (h .1)
 
 pub numbers-all : (Q R : ℕ → Type 0) → ((y : ℕ) → Q y → R (y / 2)) → (hs : List ℕ) → All Q hs → All R (numbers hs)
 numbers-all Q R f [] h = tt
@@ -57,12 +57,12 @@ unfolding trace
 trace-length f zero x = refl
 trace-length f (suc n) x = ap suc (trace-length f n (f x))
 
-pub others-map : (f : ℕ → Pair) (b : Bool) (hs : List ℕ) → map f (every-other b hs) ≡ every-other b (map f hs)
+pub every-other-map : (f : ℕ → Pair) (b : Bool) (hs : List ℕ) → map f (every-other b hs) ≡ every-other b (map f hs)
 unfolding every-other
-others-map f true [] = refl
-others-map f false [] = refl
-others-map f true (y ∷ hs) = ap (λ (l : List Pair). f y ∷ l) (others-map f false hs)
-others-map f false (y ∷ hs) = others-map f true hs
+every-other-map f true [] = refl
+every-other-map f false [] = refl
+every-other-map f true (y ∷ hs) = ap (λ (l : List Pair). f y ∷ l) (every-other-map f false hs)
+every-other-map f false (y ∷ hs) = every-other-map f true hs
 
 pub onto-length : (xs ys : List ℕ) → length (reverseAux xs ys) ≡ length xs + length ys
 onto-length [] ys = omega arith

@@ -86,29 +86,19 @@ module _ (r : List Pair) (mate at : ℕ → ℕ) (pr : ℕ → Pair) (early late
     next-is : (x : ℕ) → Half x → Goes-on x (next x)
     unfolding next
     next-is x i =
+        let v : ℕ = to x in
         let m : Half (mate x) = h .mate-half x i in
-        let s : 0 < total (ends (to x)) r = h .some (mate x) m in
+        let s : 0 < total (ends v) r = h .some (mate x) m in
+        let one : (y : ℕ) → next x ≡ y → Half y × (at y ≡ v) → ((f : Pair → ℕ) → total (λ p. ends v p * f p) r ≡ f (pr x) + f (pr y)) → Goes-on x (next x) =
+        λ y n k both. rw n (record { half = k .0; here = k .1; both = both }) in
         ⊎-elim
         (λ e.
-        let n : early (to x) + late (to x) - mate x ≡ late (to x) = omega arith in
-        rw n
-        (record {
-          half = h .late-half (to x) s .0;
-          here = h .late-half (to x) s .1;
-          both = λ f.
-              h .both (to x) s f
-              ∙ ap (λ (p : Pair). f p + f (pr (late (to x)))) (ap pr (sym e) ∙ h .mate-pair x i);
-        }))
+        one (late v) (omega arith) (h .late-half v s)
+        (λ f. h .both v s f ∙ ap (λ (p : Pair). f p + f (pr (late v))) (ap pr (sym e) ∙ h .mate-pair x i)))
         (λ e.
-        let n : early (to x) + late (to x) - mate x ≡ early (to x) = omega arith in
-        rw n
-        (record {
-          half = h .early-half (to x) s .0;
-          here = h .early-half (to x) s .1;
-          both = λ f.
-              let g : f (pr (late (to x))) ≡ f (pr x) = ap f (ap pr (sym e) ∙ h .mate-pair x i) in
-              omega (arith, h .both (to x) s f, g);
-        })) (h .one-of (mate x) m)
+        one (early v) (omega arith) (h .early-half v s)
+        (λ f. omega (arith, h .both v s f, ap f (ap pr (sym e) ∙ h .mate-pair x i))))
+        (h .one-of (mate x) m)
 
     -- A trail qs to c goes on from the half-edge x; os are the other pairs.
     pub record Goes (c x : ℕ) (qs os : List Pair) : Type 0 where

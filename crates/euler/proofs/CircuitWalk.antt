@@ -29,7 +29,7 @@ use Rattle.euler.proofs.CircuitFill as Fill
 use Rattle.euler.proofs.CircuitFill.{Ground}
 use Rattle.euler.proofs.CircuitSteps as Steps
 use Rattle.euler.proofs.CircuitSteps.{double, numbers}
-use Rattle.euler.proofs.CircuitLists.{double-is, even-double, reverse-onto, map-numbers, others-map, others-length, others-all, numbers-all, onto-length, onto-all, trace-length}
+use Rattle.euler.proofs.CircuitLists.{double-is, even-double, reverse-onto, map-numbers, every-other-map, every-other-length, every-other-all, numbers-all, onto-length, onto-all, trace-length}
 use Rattle.euler.proofs.CircuitModelLaws.{two-circuit-back, two-circuit-on, two-from-none, two-from-some}
 
 module _ {l : Two} {N m k u : ℕ} {s₀ : List ℕ} (g : Ground l N m k u s₀) (flag : ℕ → ℕ) (r : List Pair) (two : Ends.Twos (Steps.E g flag r) flag (Steps.es g flag r) r) where
@@ -181,19 +181,19 @@ module _ {l : Two} {N m k u : ℕ} {s₀ : List ℕ} (g : Ground l N m k u s₀)
     dealt-pairs b hs ds t t' cycle even e more h =
         ap (map pn) (reverse-onto (numbers (every-other b hs)) ds)
         ∙ map-append pn (reverse ds) (numbers (every-other b hs))
-        ∙ rw (h, map-numbers pn (every-other b hs), others-map pr b hs, e, more, every-other-even b (along (t .cycles)) cycle even)
+        ∙ rw (h, map-numbers pn (every-other b hs), every-other-map pr b hs, e, more, every-other-even b (along (t .cycles)) cycle even)
         (append-assoc (map pn (reverse ps)) (every-other b (along (t .cycles))) (every-other b cycle))
 
     dealt-count : (b : Bool) (n : ℕ) (hs ds : List ℕ) → length hs ≡ double n → length (dealt b hs ds) ≡ length ds + n
     dealt-count b n hs ds e =
-        omega (arith, onto-length (numbers (every-other b hs)) ds, length-map (every-other b hs) (λ y. y / 2), others-length n hs e b)
+        omega (arith, onto-length (numbers (every-other b hs)) ds, length-map (every-other b hs) (λ y. y / 2), every-other-length n hs e b)
 
     half-num : (y : ℕ) → Half y → Num (y / 2)
     half-num y i = all-counted Num (y / 2) es (Fill.those-nums g (λ c. eqb (c % 2) 1) m (omega arith)) i
 
     dealt-nums : (b : Bool) (hs ds : List ℕ) → All Half hs → All Num ds → All Num (dealt b hs ds)
     dealt-nums b hs ds h k =
-        onto-all Num (numbers (every-other b hs)) ds (numbers-all Half Num half-num (every-other b hs) (others-all Half b hs h)) k
+        onto-all Num (numbers (every-other b hs)) ds (numbers-all Half Num half-num (every-other b hs) (every-other-all Half b hs h)) k
 
     -- the tour's next party
     abbrev Turned : ℕ → Tour → Type 0

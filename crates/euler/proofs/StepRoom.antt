@@ -12,8 +12,8 @@ use Rattle.euler.specs.declared.rings.Rings.{Rings}
 use Rattle.euler.specs.declared.walking.Walk.{Walk}
 use Rattle.euler.specs.Model.{popM}
 use Rattle.euler.specs.Bounds.{Unlinks, Takes, Backs, Steps}
-use Rattle.euler.proofs.Nodes.{edge, end, nodes, First, first-node}
-use Rattle.euler.proofs.Bases.{Laid, P, edge-is, end-below}
+use Rattle.euler.proofs.Nodes.{edge, nodes, First, first-node}
+use Rattle.euler.proofs.Bases.{Laid, P, far, edge-is, end-below}
 use Rattle.euler.proofs.Columns.{column, column-first}
 use Rattle.euler.proofs.Following.{ringed-between, left, is-odd, first-there, mate-there, first-out}
 use Rattle.euler.proofs.Stacks.{Sound, sound-here}
@@ -22,10 +22,6 @@ use Rattle.euler.proofs.Live.{mate-is, edge-low, few-places, Live, ring
 module _ {l : Rings} {N m k : ℕ} {s₀ : List ℕ} (g : Laid l N m k s₀) (flag : ℕ → ℕ) (r : List Pair) where
   abbrev Q : ℕ → Pair
   Q i = P g flag i
-
-  -- the party to which a half-edge leads
-  abbrev far : Bool → ℕ → ℕ
-  far d i = end Q (not d) i
 
   -- room for nodes and columns
   low-node : (y : ℕ) → y < l .top + N → l .b + 2 * y + 1 < length s₀
@@ -46,7 +42,7 @@ module _ {l : Rings} {N m k : ℕ} {s₀ : List ℕ} (g : Laid l N m k s₀) (fl
       let lent : length t ≡ length s₀ = out₁ .0 .keeps .len in
       let p = ringed-between g flag (λ u. nodes Q u is) s v (edge d i) vb (first-there g flag v s is vb (h .falling) (h .rings) f) (h .rings .rung) in
       let q =
-      ringed-between g flag (left g flag v s is vb (h .falling) (h .rings) f) t (far d i) (edge (not d) i) (end-below g flag (not d) i ib)
+      ringed-between g flag (left g flag v s is vb (h .falling) (h .rings) f) t (far g flag d i) (edge (not d) i) (end-below g flag (not d) i ib)
       (mate-there g flag v s is vb (h .falling) (h .rings) f) (out₁ .0) in
       let el : edge d i < l .top = edge-is g d i ib .0 in
       let yl : edge (not d) i < l .top = edge-is g (not d) i ib .0 in

@@ -18,7 +18,7 @@ use Rattle.euler.specs.Model.{popM, unlinkM, takeM}
 use Rattle.euler.proofs.Straight.{straight}
 use Rattle.euler.proofs.Places.{without, keep-falling, without-shorter}
 use Rattle.euler.proofs.Nodes.{edge, end, First}
-use Rattle.euler.proofs.Bases.{Laid, P, end-below}
+use Rattle.euler.proofs.Bases.{Laid, P, far, end-below}
 use Rattle.euler.proofs.Asides.{Aside, same-high}
 use Rattle.euler.proofs.Columns.{column, column-same, column-more}
 use Rattle.euler.proofs.Following.{remaining-same, has-odd, remaining-take}
@@ -29,12 +29,8 @@ module _ {l : Rings} {N m k : ℕ} {s₀ : List ℕ} (g : Laid l N m k s₀) (fl
   abbrev Q : ℕ → Pair
   Q i = P g flag i
 
-  -- the party to which a half-edge leads
-  abbrev far : Bool → ℕ → ℕ
-  far d i = end Q (not d) i
-
   -- the other party of the half-edge (d, i)
-  other-party : (d : Bool) (i v : ℕ) → i < m → end Q d i ≡ v → other-node (Q i) v ≡ far d i
+  other-party : (d : Bool) (i v : ℕ) → i < m → end Q d i ≡ v → other-node (Q i) v ≡ far g flag d i
   other-party true i v b e = rw (eq-eqb v (Q i .first) (sym e))
   other-party false i v b e = rw (ne-eqb v (Q i .first) (λ q. g .fit .different i b (sym q ∙ sym e)))
 
@@ -47,11 +43,11 @@ module _ {l : Rings} {N m k : ℕ} {s₀ : List ℕ} (g : Laid l N m k s₀) (fl
   took s w d i = put-word (out s (w .at) d i) (l .col + 2 * w .height) (i * 2048 + w .at)
 
   pub take-form :
-      (s : List ℕ) (w : Walk) (d : Bool) (i x : ℕ) → x ≡ edge d i → word s (l .b + 2 * edge d i + 3) ≡ far d i →
+      (s : List ℕ) (w : Walk) (d : Bool) (i x : ℕ) → x ≡ edge d i → word s (l .b + 2 * edge d i + 3) ≡ far g flag d i →
       takeM l s w x
       ≡ record {
         words = took s w d i;
-        walk = record { next = w .next; at = far d i; height = w .height + 1; written = w .written };
+        walk = record { next = w .next; at = far g flag d i; height = w .height + 1; written = w .written };
       }
   unfolding takeM
   take-form s w d i x e f = rw (e, f, mate-is d i, entry-is d i)
@@ -77,7 +73,7 @@ module _ {l : Rings} {N m k : ℕ} {s₀ : List ℕ} (g : Laid l N m k s₀) (fl
       Moved g flag r (record { words = s; walk = w })
       (record {
         words = took s w (f .side) (f .entry);
-        walk = record { next = w .next; at = far (f .side) (f .entry); height = w .height + 1; written = w .written };
+        walk = record { next = w .next; at = far g flag (f .side) (f .entry); height = w .height + 1; written = w .written };
       })
   unfolding measure
   live-take s w xs ws is h b f =
@@ -86,15 +82,15 @@ module _ {l : Rings} {N m k : ℕ} {s₀ : List ℕ} (g : Laid l N m k s₀) (fl
       let d : Bool = f .side in
       let i : ℕ = f .entry in
       let ib : i < m = has-odd g flag s is i (h .rings) (f .has) .below in
-      let fb : far d i < N = end-below g flag (not d) i ib in
+      let fb : far g flag d i < N = end-below g flag (not d) i ib in
       let out-is = remaining-take g flag v s is vb (h .falling) (h .rings) f in
       let u : List ℕ = out s v d i in
       let a : ℕ = l .col + 2 * w .height in
       let x : ℕ = i * 2048 + v in
       let shorter : length is ≡ suc (length (without i is)) = without-shorter Q v i is (f .row-left) (h .falling) (f .row-is) in
       let hb : w .height < k = omega (arith, h .size, few-places g flag r, g .entries) in
-      let on : walk-step (w .next) (walking g flag v xs is ws) ≡ walking g flag (far d i) (x ∷ xs) (without i is) ws =
-      step-on g flag (w .next) v i (far d i) xs is (f .row-left) ws (h .rooted) (h .falling) (f .row-is)
+      let on : walk-step (w .next) (walking g flag v xs is ws) ≡ walking g flag (far g flag d i) (x ∷ xs) (without i is) ws =
+      step-on g flag (w .next) v i (far g flag d i) xs is (f .row-left) ws (h .rooted) (h .falling) (f .row-is)
       (omega (arith, g .few)) (omega (arith, g .few)) (other-party d i v ib (f .own)) in
       let q₁ : x / 2048 ≡ i = omega (arith, g .few) in
       let q₂ : x % 2048 ≡ v = omega (arith, g .few) in
