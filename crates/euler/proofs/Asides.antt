@@ -55,6 +55,7 @@ module _ {l : Rings} {N m k : ℕ} {s₀ : List ℕ} (g : Laid l N m k s₀) whe
         high = λ a b. away s (l .b + 2 * y + 1) a x (λ e. omega (arith, n .0, g .place, g .parties));
       }
 
+  -- one after the other
   pub aside-trans : (s t u : List ℕ) → Aside s t → Aside t u → Aside s u
   aside-trans s t u x y =
       record {
@@ -64,6 +65,7 @@ module _ {l : Rings} {N m k : ℕ} {s₀ : List ℕ} (g : Laid l N m k s₀) whe
         high = λ a b. y .high a b ∙ x .high a b;
       }
 
+  -- one word of each of two nodes
   pub aside-two :
       (s : List ℕ) (p q x y : ℕ) → Nd p → Nd q → Aside s (put-word (put-word s (l .b + 2 * p) x) (l .b + 2 * q + 1) y)
   aside-two s p q x y a b =
@@ -76,6 +78,7 @@ module _ {l : Rings} {N m k : ℕ} {s₀ : List ℕ} (g : Laid l N m k s₀) whe
     pub afters : (y : ℕ) → Nd y → after (l .b) t y ≡ after (l .b) s y
     pub priors : (y : ℕ) → Nd y → prior (l .b) t y ≡ prior (l .b) s y
 
+  -- a mark written leaves the nodes
   pub same-mark : (s : List ℕ) (i x : ℕ) → i < k → Same-nodes s (put-word s (l .b + 8 * i + 2) x)
   same-mark s i x b =
       record {
@@ -84,6 +87,7 @@ module _ {l : Rings} {N m k : ℕ} {s₀ : List ℕ} (g : Laid l N m k s₀) whe
         priors = λ y n. away s (l .b + 8 * i + 2) (l .b + 2 * y + 1) x (λ e. omega arith);
       }
 
+  -- and so does an end to which a half-edge leads
   pub same-lead : (s : List ℕ) (d : Bool) (i x : ℕ) → i < k → Same-nodes s (put-word s (l .b + 2 * edge d i + 3) x)
   same-lead s d i x b =
       record {
@@ -92,6 +96,7 @@ module _ {l : Rings} {N m k : ℕ} {s₀ : List ℕ} (g : Laid l N m k s₀) whe
         priors = λ y n. away s (l .b + 2 * edge d i + 3) (l .b + 2 * y + 1) x (λ e. lead-beside d y i n b (sym e));
       }
 
+  -- and what is written to the columns
   pub same-high : (s : List ℕ) (a x : ℕ) → l .b + 10 * k ≤ a → Same-nodes s (put-word s a x)
   same-high s a x b =
       record {
@@ -100,6 +105,7 @@ module _ {l : Rings} {N m k : ℕ} {s₀ : List ℕ} (g : Laid l N m k s₀) whe
         priors = λ y n. away s a (l .b + 2 * y + 1) x (λ e. omega (arith, n .0, g .place, g .parties));
       }
 
+  -- one after the other
   pub same-trans : (s t u : List ℕ) → Same-nodes s t → Same-nodes t u → Same-nodes s u
   same-trans s t u x y =
       record {

@@ -28,6 +28,7 @@ use Rattle.euler.proofs.Following.{Remaining, remaining-same}
 use Rattle.euler.proofs.Stacks.{steps, bottom, walking, step-off}
 use Rattle.euler.proofs.Live.{edge-low, few-places, Live, measure, Moved, stuck-row}
 
+-- no step
 pub iterate-zero {ℓ} : {A : Type ℓ} (f : A → A) (a : A) → iterate 0 f a ≡ a
 unfolding iterate
 iterate-zero f a = refl
@@ -138,6 +139,7 @@ module _ {l : Rings} {N m k : ℕ} {s₀ : List ℕ} (g : Laid l N m k s₀) (fl
         less = omega (arith, h .size);
       }
 
+  -- a step back keeps what holds
   pub live-back :
       (s : List ℕ) (w : Walk) (xs ws is : List ℕ) → Live g flag r s w xs ws is → w .next < N → 0 < w .height →
       word s (l .b + 2 * (l .top + w .at)) ≡ l .top + w .at →
@@ -151,6 +153,7 @@ module _ {l : Rings} {N m k : ℕ} {s₀ : List ℕ} (g : Laid l N m k s₀) (fl
   -- ── on to the next party ──
 
   module _ (side : ℕ → ℕ) (slant : total (aslant side) r ≡ 0) (evens : (v : ℕ) → total (ends v) r % 2 ≡ 0) where
+    -- going on from the next party keeps what holds
     pub live-next :
         (s : List ℕ) (w : Walk) (xs ws is : List ℕ) → Live g flag r s w xs ws is → w .next < N → w .height ≤ 0 →
         word s (l .b + 2 * (l .top + w .at)) ≡ l .top + w .at →

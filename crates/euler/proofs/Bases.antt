@@ -15,10 +15,12 @@ use Rattle.euler.proofs.Nodes.{Ends-fit, edge, end}
 
 -- ── words after several puts ──
 
+-- a word that two puts pass by
 pub away2 :
     (s : List ℕ) (a x b y j : ℕ) → (j ≡ a → ⊥) → (j ≡ b → ⊥) → word (put-word (put-word s a x) b y) j ≡ word s j
 away2 s a x b y j p q = away (put-word s a x) b j y q ∙ away s a j x p
 
+-- or three
 pub away3 :
     (s : List ℕ) (a x b y c z j : ℕ) → (j ≡ a → ⊥) → (j ≡ b → ⊥) → (j ≡ c → ⊥) →
     word (put-word (put-word (put-word s a x) b y) c z) j ≡ word s j
@@ -26,9 +28,11 @@ away3 s a x b y c z j p q r = away (put-word (put-word s a x) b y) c j z r ∙ a
 
 -- ── the ends of an entry ──
 
+-- the party at the first end of entry i
 abbrev pub first-at : Rings → List ℕ → ℕ → ℕ
 first-at l s i = word s (l .ends + 2 * word s (l .g + 2 + 2 * i))
 
+-- and at its second end
 abbrev pub second-at : Rings → List ℕ → ℕ → ℕ
 second-at l s i = word s (l .ends + 2 * word s (l .g + 2 + 2 * i) + 1)
 
@@ -63,18 +67,21 @@ module _ {l : Rings} {N m k : ℕ} {s₀ : List ℕ} (g : Laid l N m k s₀) whe
   abbrev pub Edge : ℕ → Type 0
   Edge y = (y < l .top) × (y % 2 ≡ 0)
 
+  -- a half-edge is a node, and so is a party's own
   pub edge-node : (y : ℕ) → Edge y → Node y
   edge-node y e = (omega (arith, e .0), λ b. e .1)
 
   pub party-node : (v : ℕ) → v < N → Node (l .top + v)
   party-node v b = (omega arith, λ c. absurd (omega arith))
 
+  -- the half-edges of the entries
   pub edge-is : (d : Bool) (i : ℕ) → i < m → Edge (edge d i)
   edge-is true i b = (omega (arith, g .place, g .entries), omega arith)
   edge-is false i b = (omega (arith, g .place, g .entries), omega arith)
 
   -- ── the graph as it was ──
 
+  -- what stays below the rings: pair numbers and copies
   pub number-kept : (s : List ℕ) → Keeps (l .b) s₀ s → (i : ℕ) → i < m → word s (l .g + 2 + 2 * i) ≡ word s₀ (l .g + 2 + 2 * i)
   number-kept s h i b = h .same (l .g + 2 + 2 * i) (omega (arith, g .graph))
 
@@ -90,10 +97,12 @@ module _ {l : Rings} {N m k : ℕ} {s₀ : List ℕ} (g : Laid l N m k s₀) whe
     abbrev pub far : Bool → ℕ → ℕ
     far d i = end P (not d) i
 
+    -- ends are parties
     pub end-below : (d : Bool) (i : ℕ) → i < m → end P d i < N
     end-below true i b = g .fit .first-below i b
     end-below false i b = g .fit .second-below i b
 
+    -- and stay as they were
     pub end-kept :
         (s : List ℕ) → Keeps (l .b) s₀ s → (d : Bool) (i : ℕ) → i < m → endM l (side-of d) s i ≡ end P d i
     end-kept s h true i b =

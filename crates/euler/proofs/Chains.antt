@@ -30,6 +30,7 @@ module _ (b : ℕ) where
   Chain s u [] z = (after s u ≡ z) × (prior s z ≡ u)
   Chain s u (y ∷ ys) z = (after s u ≡ y) × (prior s y ≡ u) × Chain s y ys z
 
+  -- a chain whose nodes read the same
   pub chain-same :
       (Node : ℕ → Type 0) (s t : List ℕ) → ((y : ℕ) → Node y → after t y ≡ after s y) →
       ((y : ℕ) → Node y → prior t y ≡ prior s y) → (u : ℕ) (ys : List ℕ) (z : ℕ) → Node u → All Node ys → Node z →
@@ -83,6 +84,7 @@ module _ (b : ℕ) where
   chain-last s u [] z h = ap (after s) (h .1) ∙ h .0
   chain-last s u (y ∷ ys) z h = chain-last s y ys z (h .2)
 
+  -- and it is a node
   pub last-node :
       (Node : ℕ → Type 0) (s : List ℕ) (u : ℕ) (ys : List ℕ) (z : ℕ) → Node u → All Node ys → Chain s u ys z → Node (prior s z)
   last-node Node s u [] z nu ns h = subst Node (sym (h .1)) nu
@@ -90,6 +92,7 @@ module _ (b : ℕ) where
 
   -- ── a node taken out ──
 
+  -- x was taken out: its neighbours know each other, and all else is as it was
   pub record Cut (x : ℕ) (s t : List ℕ) : Type 0 where
     pub from : after s (prior s x) ≡ x
     pub to : prior s (after s x) ≡ x
@@ -155,6 +158,7 @@ module _ (b : ℕ) where
     pub afters : (y : ℕ) → (y ≡ prior s z → ⊥) → (y ≡ x → ⊥) → after t y ≡ after s y
     pub priors : (y : ℕ) → (y ≡ x → ⊥) → (y ≡ z → ⊥) → prior t y ≡ prior s y
 
+  -- the ring of z with x put in
   pub chain-joined :
       (x z : ℕ) (s t : List ℕ) → Joined x z s t → (u : ℕ) (ys : List ℕ) → (x ≡ u → ⊥) → All (λ (y : ℕ). x ≡ y → ⊥) ys →
       All (λ (y : ℕ). z ≡ y → ⊥) ys → Chain s u ys z → Chain t u (ys ++ (x ∷ [])) z

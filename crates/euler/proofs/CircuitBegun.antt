@@ -32,15 +32,18 @@ module _ {s : List ℕ} {u table graph n width : ℕ} (q : Splits s u table grap
   abbrev m : ℕ
   m = word s (graph + 1)
 
+  -- where the words lie
   abbrev pub l : Two
   l = two-laid u k table graph
 
   abbrev pub h₂ : ℕ
   h₂ = u + 2 * k
 
+  -- the degree is 2
   pub is-two : 2 * q .half ≡ 2
   is-two = Two-grounds.degree-two q sum
 
+  -- where everything lies, and that ends are parties
   pub ground : Ground l N m k u s
   ground =
       let kk : n * (width + 1) ≡ n * width + n = omega arith in
@@ -63,20 +66,24 @@ module _ {s : List ℕ} {u table graph n width : ℕ} (q : Splits s u table grap
             ];
       }
 
+  -- the pairs of odd copies, and those of 2 copies, newest first
   abbrev pub es : List ℕ
   es = Fill.odds-of s graph m
 
   abbrev pub ps : List ℕ
   ps = Fill.evens-of s graph m
 
+  -- the party at a half-edge
   abbrev pub E : ℕ → ℕ
   E y = word s (table + y)
 
   -- ── before the circuits ──
 
+  -- the words once no party has a half-edge
   abbrev pub s₁ : List ℕ
   s₁ = twoStartM l N s
 
+  -- and once the entries are sifted
   abbrev pub sifted : Apart-so-far
   sifted = twoSiftAllM l m s₁
 
@@ -103,18 +110,21 @@ module _ {s : List ℕ} {u table graph n width : ℕ} (q : Splits s u table grap
   few-odds : length es ≤ k
   few-odds = omega (arith, Fill.those-length (λ c. eqb (c % 2) 1) s graph m, ground .entries)
 
+  -- the half-edges of first ends, the last first, and then all
   abbrev pub done₁ : List ℕ
   done₁ = reverseAux (map (λ e. 2 * e + 0) es) []
 
   abbrev pub done : List ℕ
   done = reverseAux (map (λ e. 2 * e + 1) es) done₁
 
+  -- the words once the first ends are noted at their parties, and then all
   abbrev pub s₃ : List ℕ
   s₃ = twoFillM l 0 (length es) (sifted .words)
 
   abbrev pub s₄ : List ℕ
   s₄ = twoFillM l 1 (length es) s₃
 
+  -- what they then hold
   pub filled-first : Two-fills l 0 (length es) (sifted .words) × Fill.Filled ground (sifted .words) done₁ s₃
   filled-first = Fill.fill-done ground (sifted .words) 0 (sift .keeps) es (fine 0 (omega arith)) (sift .noted) few-odds [] (sifted .words) begun
 

@@ -51,9 +51,11 @@ member : (xs : List ℕ) (x : ℕ) → count x xs ≡ 0 ⊎ (0 < count x xs)
 member xs x = elim (ℕ-discrete (count x xs) 0) [ yes e ↦ inl e | no n ↦ inr (omega arith) ]
 
 module _ (E flag : ℕ → ℕ) (es : List ℕ) where
+  -- the pair number e of the rest
   abbrev pub pn : ℕ → Pair
   pn e = pair (E (2 * e)) (E (2 * e + 1)) 1 (flag e)
 
+  -- the pair of a half-edge
   abbrev pub pr : ℕ → Pair
   pr y = pn (y / 2)
 
@@ -71,12 +73,14 @@ module _ (E flag : ℕ → ℕ) (es : List ℕ) where
   unfoldable pub own : ℕ → List ℕ
   own v = keep (at-v v) (firsts ++ seconds)
 
+  -- the first of a party's two half-edges, and the last
   abbrev pub early : ℕ → ℕ
   early v = one-th (own v)
 
   abbrev pub late : ℕ → ℕ
   late v = two-th (own v)
 
+  -- a half-edge of one of these pairs
   abbrev pub Half : ℕ → Type 0
   Half y = 0 < count (y / 2) es
 
@@ -241,6 +245,7 @@ module _ (E flag : ℕ → ℕ) (es : List ℕ) where
     places-total : (f : Pair → ℕ) → total f (map pn es) ≡ total f r
     places-total f = ap (total f) (sym (t .places)) ∙ total-reverse f r
 
+    -- a party has as many half-edges as ends
     pub own-length : (v : ℕ) → length (own v) ≡ total (ends v) r
     own-length v =
         omega (
@@ -251,6 +256,7 @@ module _ (E flag : ℕ → ℕ) (es : List ℕ) where
           total-cong {f = λ p. ends v p * 1} {g = ends v} (λ p. omega arith) r,
         )
 
+    -- two, where it has any
     pub own-two : (v : ℕ) → 0 < total (ends v) r → own v ≡ early v ∷ late v ∷ []
     own-two v s = as-two (own v) (omega (arith, own-length v, t .few v, t .even v))
 
@@ -289,6 +295,7 @@ module _ (E flag : ℕ → ℕ) (es : List ℕ) where
               | no n ↦ let one : x ≡ 1 = omega arith in rw one (omega arith)
             ]
 
+    -- so the pairs form circuits
     pub two-ended : Two-ended r mate E pr early late Half
     unfolding count
     two-ended =
@@ -311,6 +318,7 @@ module _ (E flag : ℕ → ℕ) (es : List ℕ) where
           apart = not-same;
         }
 
+    -- and the first pair of a party is that of its first half-edge
     pub first-is : (v : ℕ) → 0 < total (ends v) r → lead (first-pair v (reverse r)) ≡ pr (early v) ∷ []
     first-is v s =
         ap (λ (l : List Pair). lead (first-pair v l)) (t .places)

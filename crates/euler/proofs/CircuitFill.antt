@@ -63,6 +63,7 @@ evens-of s graph j = those-of (λ c. leb 2 c) s graph j
 abbrev pub odds-of : List ℕ → ℕ → ℕ → List ℕ
 odds-of s graph j = those-of (λ c. eqb (c % 2) 1) s graph j
 
+-- no more than entries
 pub those-length : (test : ℕ → Bool) (s : List ℕ) (graph j : ℕ) → length (those-of test s graph j) ≤ j
 those-length test s graph j =
     let q : ℕ → Bool = λ i. test (word s (graph + 3 + 2 * i)) in
@@ -84,6 +85,7 @@ cut-sum [] = 0
 cut-sum (y ∷ ys) = (cut-sum ys + y) % 4294967296
 
 module _ {l : Two} {N m k u : ℕ} {s₀ : List ℕ} (g : Ground l N m k u s₀) where
+  -- an entry's pair number, its copies, and the party at a half-edge
   abbrev pub num : ℕ → ℕ
   num i = word s₀ (l .g + 2 + 2 * i)
 
@@ -108,6 +110,7 @@ module _ {l : Two} {N m k u : ℕ} {s₀ : List ℕ} (g : Ground l N m k u s₀)
   num-small : (j : ℕ) → j < m → num j < 4294967296
   num-small j b = omega (arith, g .table j b, g .room, g .small)
 
+  -- each of them is one
   pub those-nums : (test : ℕ → Bool) (j : ℕ) → j ≤ m → All Num (those-of test s₀ (l .g) j)
   those-nums test j b =
       let q : ℕ → Bool = λ i. test (C i) in
@@ -119,6 +122,7 @@ module _ {l : Two} {N m k u : ℕ} {s₀ : List ℕ} (g : Ground l N m k u s₀)
 
   -- ── sifting ──
 
+  -- after the first j entries, from the words s₁ on
   pub record Sift-done (s₁ : List ℕ) (j : ℕ) (t : Apart-so-far) : Type 0 where
     pub keeps : Keeps u s₀ (t .words)
     pub parties : (a : ℕ) → l .b ≤ a → a < l .notes → word (t .words) a ≡ word s₁ a
@@ -226,6 +230,7 @@ module _ {l : Two} {N m k u : ℕ} {s₀ : List ℕ} (g : Ground l N m k u s₀)
 
   -- ── the start ──
 
+  -- no party below j has a half-edge
   pub record Started (j : ℕ) (s : List ℕ) : Type 0 where
     pub keeps : Keeps u s₀ s
     pub marks : (v : ℕ) → v < j → word s (l .b + 2 * v) ≡ 0
@@ -273,6 +278,7 @@ module _ {l : Two} {N m k u : ℕ} {s₀ : List ℕ} (g : Ground l N m k u s₀)
   abbrev pub sum-of : ℕ → List ℕ → ℕ
   sum-of v done = cut-sum (at-party v done)
 
+  -- the words after the half-edges `done`, from the words s₂ on
   pub record Filled (s₂ done s : List ℕ) : Type 0 where
     pub len : length s ≡ length s₀
     pub low : (a : ℕ) → a < l .b → word s a ≡ word s₂ a
@@ -357,6 +363,7 @@ module _ {l : Two} {N m k u : ℕ} {s₀ : List ℕ} (g : Ground l N m k u s₀)
             }),
       )
 
+  -- all noted pairs on one side, from the last down
   pub fill-done :
       (s₂ : List ℕ) (side : ℕ) → Keeps u s₀ s₂ → (es : List ℕ) → All (λ (e : ℕ). Fine (2 * e + side)) es → Noted (λ i. l .notes + i) s₂ es →
       length es ≤ k → (done s : List ℕ) → Filled s₂ done s →

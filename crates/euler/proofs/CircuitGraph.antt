@@ -61,6 +61,7 @@ add-pairs-behind h (p ∷ ps) c once =
     one x y = omega arith
 
 module _ {l : Two} {N m k u : ℕ} {s₀ : List ℕ} (g : Ground l N m k u s₀) (pairs : ℕ) where
+  -- flagged where the number is not below `pairs`
   abbrev pub flag : ℕ → ℕ
   flag e = pick (leb pairs e) 1 0
 
@@ -76,6 +77,7 @@ module _ {l : Two} {N m k u : ℕ} {s₀ : List ℕ} (g : Ground l N m k u s₀)
   abbrev es : List ℕ
   es = Fill.odds-of s₀ (l .g) m
 
+  -- the pair number e of the rest
   abbrev pub pn : ℕ → Pair
   pn e = Ends.pn E flag es e
 
@@ -93,6 +95,7 @@ module _ {l : Two} {N m k u : ℕ} {s₀ : List ℕ} (g : Ground l N m k u s₀)
 
   -- ── the rest ──
 
+  -- the rest, newest first, is the pairs of odd copies
   pub rest-are : (j : ℕ) → reverse (rest (G j)) ≡ map pn (Fill.odds-of s₀ (l .g) j)
   rest-are j = rest-places s₀ (l .ends) (l .g) pairs j ∙ go (odds C (descend j))
     where
@@ -150,6 +153,7 @@ module _ {l : Two} {N m k u : ℕ} {s₀ : List ℕ} (g : Ground l N m k u s₀)
               (sym (map-append pn (reverse (evens j)) (num j ∷ [])) ∙ ap (map pn) (sym (reverse-cons (num j) (evens j))))
         ]
 
+    -- both halves begin with the pairs of 2 copies
     pub halves-are : Apart-at at m → add-halves [] (G m) ≡ map pn (reverse (evens m))
     halves-are apart =
         ap (add-halves []) (sym (upto-entries s₀ (l .ends) (l .g) pairs m))
@@ -158,6 +162,7 @@ module _ {l : Two} {N m k u : ℕ} {s₀ : List ℕ} (g : Ground l N m k u s₀)
 
   -- ── what a half holds ──
 
+  -- the words of a half that holds ds read as the graph of these pairs
   pub held-graph :
       (t : List ℕ) (h : ℕ) (ds : List ℕ) → Keeps u s₀ t → All (Fill.Num g) ds → Held t h ds →
       entries t (l .ends) pairs h 0 (length ds) ≡ map pn (reverse ds)

@@ -49,6 +49,7 @@ module _ {s : List ℕ} {u table graph n width : ℕ} (q : Splits s u table grap
       ]
 
   module _ (is-two : 2 * q .half ≡ 2) (pairs : ℕ) where
+    -- no pair has more than 2 copies
     pub copies-two : (i : ℕ) → i < m q → entry s table pairs graph i .copies ≤ 2
     unfolding weigh
     copies-two i b =
@@ -60,6 +61,7 @@ module _ {s : List ℕ} {u table graph n width : ℕ} (q : Splits s u table grap
         let more : p .copies * 1 ≤ p .copies * names v (p .first) (p .second) = mul-le-mul-left (p .copies) one in
         omega (arith, degree-is q pairs v (across-at q i b .first-below))
 
+    -- and no two have the same ends
     pub once : (a b : ℕ) → total (λ p. between a b (p .first) (p .second)) (G q pairs) ≤ 1
     unfolding pairs-between
     once a b =
@@ -69,6 +71,7 @@ module _ {s : List ℕ} {u table graph n width : ℕ} (q : Splits s u table grap
           apart-le a b (G q 0) (reg q .apart),
         )
 
+    -- no pair of the rest names a party twice
     pub rest-thin : (v : ℕ) → All (λ (p : Pair). ends v p ≤ 1) (rest (G q pairs))
     rest-thin v = all-map one (rest (G q pairs)) (rest-across q pairs)
       where
@@ -82,6 +85,7 @@ module _ {s : List ℕ} {u table graph n width : ℕ} (q : Splits s u table grap
               is-ne {u = v} {v = p .second} (λ e. omega (arith, h .sides, ap (q .side) (sym (c .0) ∙ e))),
             )) (λ c. omega (arith, c .1, is-le v (p .second))) (is-cases v (p .first))
 
+    -- no party is in more than two
     pub rest-few : (v : ℕ) → total (ends v) (rest (G q pairs)) ≤ 2
     rest-few v =
         elim (decLt v (N q)) [

@@ -15,6 +15,7 @@ abbrev pub Held : List ℕ → ℕ → List ℕ → Type 0
 Held s h [] = Unit {0}
 Held s h (e ∷ es) = (word s (h + 2 + 2 * length es) ≡ e) × (word s (h + 3 + 2 * length es) ≡ 1) × Held s h es
 
+-- words that read the same hold the same
 pub held-same :
     (s t : List ℕ) (h : ℕ) (es : List ℕ) → ((a : ℕ) → h + 2 ≤ a → a < h + 2 + 2 * length es → word t a ≡ word s a) →
     Held s h es → Held t h es
@@ -25,11 +26,13 @@ held-same s t h (e ∷ es) f k = (
   held-same s t h es (λ a lo hi. f a lo (omega arith)) (k .2),
 )
 
+-- a word that a pair written to a half passes by
 pub single-away :
     (h : ℕ) (s : List ℕ) (at e a : ℕ) → (a ≡ h + 2 + 2 * at → ⊥) → (a ≡ h + 3 + 2 * at → ⊥) → word (singleM h s at e) a ≡ word s a
 single-away h s at e a p q =
     away2 s (h + 2 + 2 * at) e (h + 3 + 2 * at) 1 a p q
 
+-- one pair more
 pub held-more :
     (s : List ℕ) (h e : ℕ) (es : List ℕ) → h + 3 + 2 * length es < length s → e < 4294967296 → Held s h es →
     Held (singleM h s (length es) e) h (e ∷ es)
@@ -51,9 +54,11 @@ pub record Headed (t : List ℕ) (h : ℕ) (ds : List ℕ) : Type 0 where
   pub number : word t (h + 1) ≡ length ds
   pub held : Held t h ds
 
+-- a word that a head passes by
 pub head-away : (h : ℕ) (s : List ℕ) (c a : ℕ) → (a ≡ h → ⊥) → (a ≡ h + 1 → ⊥) → word (headM h s c) a ≡ word s a
 head-away h s c a p q = away2 s h h (h + 1) c a p q
 
+-- a half gets its head
 pub headed :
     (s : List ℕ) (h c : ℕ) (ds : List ℕ) → length ds ≡ c → h + 1 < length s → length s ≤ 4294967296 → c < 4294967296 →
     Held s h ds → Headed (headM h s c) h ds

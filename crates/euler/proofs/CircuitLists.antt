@@ -27,10 +27,12 @@ reverse-onto [] ys = sym (append-nil (reverse ys))
 reverse-onto (x ∷ xs) ys =
     reverse-onto xs (x ∷ ys) ∙ ap (λ (l : List ℕ). l ++ xs) (reverse-cons x ys) ∙ append-assoc (reverse ys) (x ∷ []) xs
 
+-- the pairs of half-edges, by number
 pub map-numbers : (f : ℕ → Pair) (hs : List ℕ) → map f (numbers hs) ≡ map (λ y. f (y / 2)) hs
 map-numbers f [] = refl
 map-numbers f (y ∷ hs) = ap (λ (l : List Pair). f (y / 2) ∷ l) (map-numbers f hs)
 
+-- every other of an even list is half of it
 pub every-other-length : (n : ℕ) (hs : List ℕ) → length hs ≡ double n → (b : Bool) → length (every-other b hs) ≡ n
 unfolding every-other double
 every-other-length zero [] e true = refl
@@ -41,6 +43,7 @@ every-other-length (suc n) (y ∷ []) e b = absurd (omega arith)
 every-other-length (suc n) (y ∷ z ∷ hs) e true = ap suc (every-other-length n hs (omega arith) true)
 every-other-length (suc n) (y ∷ z ∷ hs) e false = ap suc (every-other-length n hs (omega arith) false)
 
+-- what all are, every other is
 pub every-other-all : (Q : ℕ → Type 0) (b : Bool) (hs : List ℕ) → All Q hs → All Q (every-other b hs)
 unfolding every-other
 every-other-all Q true [] h = tt
@@ -48,6 +51,7 @@ every-other-all Q false [] h = tt
 every-other-all Q true (y ∷ hs) h = (h .0, every-other-all Q false hs (h .1))
 every-other-all Q false (y ∷ hs) h = every-other-all Q true hs (h .1)
 
+-- and so are their pairs
 pub numbers-all : (Q R : ℕ → Type 0) → ((y : ℕ) → Q y → R (y / 2)) → (hs : List ℕ) → All Q hs → All R (numbers hs)
 numbers-all Q R f [] h = tt
 numbers-all Q R f (y ∷ hs) h = (f y (h .0), numbers-all Q R f hs (h .1))
@@ -57,6 +61,7 @@ unfolding trace
 trace-length f zero x = refl
 trace-length f (suc n) x = ap suc (trace-length f n (f x))
 
+-- every other of what is mapped
 pub every-other-map : (f : ℕ → Pair) (b : Bool) (hs : List ℕ) → map f (every-other b hs) ≡ every-other b (map f hs)
 unfolding every-other
 every-other-map f true [] = refl
@@ -64,6 +69,7 @@ every-other-map f false [] = refl
 every-other-map f true (y ∷ hs) = ap (λ (l : List Pair). f y ∷ l) (every-other-map f false hs)
 every-other-map f false (y ∷ hs) = every-other-map f true hs
 
+-- lengths and members of what is reversed onto
 pub onto-length : (xs ys : List ℕ) → length (reverseAux xs ys) ≡ length xs + length ys
 onto-length [] ys = omega arith
 onto-length (x ∷ xs) ys = omega (arith, onto-length xs (x ∷ ys))

@@ -37,6 +37,7 @@ abbrev pub numbers : List ℕ → List ℕ
 numbers hs = map (λ y. y / 2) hs
 
 module _ {l : Two} {N m k u : ℕ} {s₀ : List ℕ} (g : Ground l N m k u s₀) (flag : ℕ → ℕ) (r : List Pair) where
+  -- the party at a half-edge, the pairs of odd copies, and a party's two half-edges
   abbrev pub E : ℕ → ℕ
   E y = word s₀ (l .ends + y)
 
@@ -49,6 +50,7 @@ module _ {l : Two} {N m k u : ℕ} {s₀ : List ℕ} (g : Ground l N m k u s₀)
   abbrev pub late : ℕ → ℕ
   late v = Ends.late E flag es v
 
+  -- a half-edge of one of these pairs
   abbrev pub Half : ℕ → Type 0
   Half y = Ends.Half E flag es y
 
@@ -56,6 +58,7 @@ module _ {l : Two} {N m k u : ℕ} {s₀ : List ℕ} (g : Ground l N m k u s₀)
   abbrev pub leads-to : ℕ → ℕ
   leads-to y = E (Ends.mate y)
 
+  -- the half-edge that goes on from there
   abbrev pub next : ℕ → ℕ
   next y = Trails.next r Ends.mate E (Ends.pr E flag es) early late Half y
 
@@ -67,6 +70,7 @@ module _ {l : Two} {N m k u : ℕ} {s₀ : List ℕ} (g : Ground l N m k u s₀)
   wipe [] M = M
   wipe (y ∷ hs) M = wipe hs (wiped y M)
 
+  -- what is wiped out stays so
   pub wipe-zero : (hs : List ℕ) (M : ℕ → ℕ) (x : ℕ) → M x ≡ 0 → wipe hs M x ≡ 0
   unfolding wipe
   wipe-zero [] M x z = z
@@ -76,6 +80,7 @@ module _ {l : Two} {N m k u : ℕ} {s₀ : List ℕ} (g : Ground l N m k u s₀)
       go true = refl
       go false = z
 
+  -- a party visited has no mark
   pub wipe-hit : (hs : List ℕ) (M : ℕ → ℕ) (x : ℕ) → 0 < total (λ y. is x (leads-to y)) hs → wipe hs M x ≡ 0
   unfolding wipe total
   wipe-hit [] M x h = absurd (omega arith)
@@ -85,6 +90,7 @@ module _ {l : Two} {N m k u : ℕ} {s₀ : List ℕ} (g : Ground l N m k u s₀)
         | no n ↦ wipe-hit hs (wiped y M) x (omega (arith, is-ne {u = x} {v = leads-to y} n))
       ]
 
+  -- and any other keeps it
   pub wipe-miss : (hs : List ℕ) (M : ℕ → ℕ) (x : ℕ) → total (λ y. is x (leads-to y)) hs ≡ 0 → wipe hs M x ≡ M x
   unfolding wipe total
   wipe-miss [] M x h = refl
@@ -102,6 +108,7 @@ module _ {l : Two} {N m k u : ℕ} {s₀ : List ℕ} (g : Ground l N m k u s₀)
         (v : ℕ) → v < N → 0 < total (ends v) r → word s (l .b + 2 * v + 1) ≡ (early v + late v) % 4294967296
 
   module _ (two : Ends.Twos E flag es r) where
+    -- the circuits' law holds of these half-edges
     pub ended : Trails.Two-ended r Ends.mate E (Ends.pr E flag es) early late Half
     ended = Ends.two-ended E flag es r two
 

@@ -83,6 +83,7 @@ module _ (r : List Pair) (mate at : ℕ → ℕ) (pr : ℕ → Pair) (early late
     pub along-more : along (u .cycles) ≡ along (t .cycles) ++ cycle
     pub left-less : (f : Pair → ℕ) → total f cycle + total f (u .left) ≡ total f (t .left)
 
+  -- one of the two
   pub record Turned (v : ℕ) (t : Tour) : Type 0 where
     pub after : Tour
     pub ordered : Tour-ordered (suc v) after

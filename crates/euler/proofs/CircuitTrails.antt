@@ -61,6 +61,7 @@ module _ (r : List Pair) (mate at : ℕ → ℕ) (pr : ℕ → Pair) (early late
   unfoldable pub next : ℕ → ℕ
   next x = early (to x) + late (to x) - mate x
 
+  -- What is known of these half-edges.
   pub record Two-ended : Type 0 where
     pub few : (v : ℕ) → total (ends v) r ≤ 2
     pub mate-half : (x : ℕ) → Half x → Half (mate x)
@@ -245,6 +246,7 @@ module _ (r : List Pair) (mate at : ℕ → ℕ) (pr : ℕ → Pair) (early late
     not-before v n here off (suc j) lo hi e =
         trace-at (λ y. at y ≡ v → ⊥) n (next (late v)) j off (omega arith) (ap at e ∙ here)
 
+    -- A closed trail that begins with the last pair of v is the circuit.
     pub circuit-of :
         (v : ℕ) (qs os : List Pair) → 0 < total (ends v) r → Trail v v (pr (late v) ∷ qs) →
         ((f : Pair → ℕ) → total f (pr (late v) ∷ qs) + total f os ≡ total f r) → suc (length qs) % 2 ≡ 0 →

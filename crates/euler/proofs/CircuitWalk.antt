@@ -129,6 +129,7 @@ module _ {l : Two} {N m k u : ℕ} {s₀ : List ℕ} (g : Ground l N m k u s₀)
     abbrev Dealt-so : Bool → List ℕ → Tour → Type 0
     Dealt-so b ds t = map pn (reverse ds) ≡ map pn (reverse ps) ++ every-other b (along (t .cycles))
 
+    -- what the words hold before party v, and the definition's tour
     pub record Walked (v : ℕ) (w : Told) : Type 0 where
       pub tour : Tour
       pub ordered : Tour-ordered v tour
@@ -171,6 +172,7 @@ module _ {l : Two} {N m k u : ℕ} {s₀ : List ℕ} (g : Ground l N m k u s₀)
           length-map es pn,
         )
 
+    -- no half has more pairs than the graph
     pub walked-few : (v : ℕ) (w : Told) → Walked v w → w .number ≤ m
     walked-few v w h = omega (arith, h .size, few-along (h .tour) v (h .ordered), split-length)
 
@@ -334,6 +336,7 @@ module _ {l : Two} {N m k u : ℕ} {s₀ : List ℕ} (g : Ground l N m k u s₀)
     walked-all zero w b h = h
     walked-all (suc v) w b h = onward v (twoWalkM l m v w) (omega arith) (walked-all v w (omega arith) h) .walked
 
+    -- every place that the circuits touch is one
     pub walks-on : (w : Told) → Walked 0 w → Two-walks l m N w
     walks-on w h =
         record {

@@ -22,6 +22,7 @@ unfoldable pub column : Rings → Bool → List ℕ → ℕ → List ℕ
 column l c s zero = []
 column l c s (suc n) = word s (slot c l n) ∷ column l c s n
 
+-- a column whose words read the same
 pub column-same :
     (l : Rings) (c : Bool) (s t : List ℕ) (n : ℕ) → ((j : ℕ) → j < n → word t (slot c l j) ≡ word s (slot c l j)) →
     column l c t n ≡ column l c s n
@@ -29,10 +30,12 @@ unfolding column
 column-same l c s t zero h = refl
 column-same l c s t (suc n) h = rw (h n (omega arith), column-same l c s t n (λ j b. h j (omega arith)))
 
+-- one word more
 pub column-more : (l : Rings) (c : Bool) (s : List ℕ) (n : ℕ) → column l c s (n + 1) ≡ word s (slot c l n) ∷ column l c s n
 unfolding column
 column-more l c s n = rw add-one
 
+-- the last word, and those below it
 pub column-first :
     (l : Rings) (c : Bool) (s : List ℕ) (n : ℕ) → 0 < n → column l c s n ≡ word s (slot c l (n - 1)) ∷ column l c s (n - 1)
 unfolding column
@@ -49,10 +52,12 @@ unfoldable pub mark-of : ℕ → List ℕ → ℕ
 mark-of i [] = 0
 mark-of i (x ∷ ws) = pick (eqb i x) (2 + length ws % 2) (mark-of i ws)
 
+-- the entry written last has its parity
 pub mark-same : (i x : ℕ) (ws : List ℕ) → i ≡ x → mark-of i (x ∷ ws) ≡ 2 + length ws % 2
 unfolding mark-of
 mark-same i x ws e = rw (eq-eqb i x e)
 
+-- and any other the mark it had
 pub mark-other : (i x : ℕ) (ws : List ℕ) → (i ≡ x → ⊥) → mark-of i (x ∷ ws) ≡ mark-of i ws
 unfolding mark-of
 mark-other i x ws n = rw (ne-eqb i x n)

@@ -95,12 +95,14 @@ weigh-add-half w s h p = go (leb 2 (p .copies)) refl
         let z : p .copies / 2 ≡ 0 = omega (arith, leb-false 2 (p .copies) e) in
         rw z (omega arith)
 
+-- what half of each pair adds
 pub weigh-add-halves :
     (w : ℕ → ℕ → ℕ) → Symmetric w → (h g : Graph) → weigh w (add-halves h g) ≡ weigh w h + weigh-halves w g
 unfolding add-halves weigh-halves total
 weigh-add-halves w s h [] = omega arith
 weigh-add-halves w s h (p ∷ g) = omega (arith, weigh-add-half w s h p, weigh-add-halves w s (add-half h p) g)
 
+-- what one copy of each adds
 pub weigh-add-pairs :
     (w : ℕ → ℕ → ℕ) → Symmetric w → (h : Graph) (ps : List Pair) → weigh w (add-pairs h ps) ≡ weigh w h + weigh-ends w ps
 unfolding add-pairs total
@@ -125,6 +127,7 @@ all-evens f cs = total (λ (c : List Pair). total f (evens c)) cs
 abbrev pub all-odds : (Pair → ℕ) → List (List Pair) → ℕ
 all-odds f cs = total (λ (c : List Pair). total f (odds c)) cs
 
+-- what the cycles add to each half
 pub record Dealt (w : ℕ → ℕ → ℕ) (h : Halves) (cs : List (List Pair)) : Type 0 where
   pub to-first :
       weigh w (deal h cs .first-half) ≡ weigh w (h .first-half) + all-evens (λ (p : Pair). w (p .first) (p .second)) cs
@@ -184,6 +187,7 @@ module _ (Q : Graph → Type 0) (f : Pair → ℕ) (kept : Kept Q f) where
       go true e = kept h p (p .copies / 2) z (omega (arith, leb-true 2 (p .copies) e)) q
       go false e = q
 
+  -- half of each pair keeps it
   pub add-halves-keeps : (h g : Graph) → total f g ≡ 0 → Q h → Q (add-halves h g)
   unfolding add-halves total
   add-halves-keeps h [] z q = q
@@ -194,6 +198,7 @@ module _ (Q : Graph → Type 0) (f : Pair → ℕ) (kept : Kept Q f) where
   add-pairs-keeps h [] z q = q
   add-pairs-keeps h (p ∷ ps) z q = add-pairs-keeps _ ps (omega arith) (kept h p 1 (omega arith) (omega arith) q)
 
+  -- and so does dealing
   pub deal-keeps :
       (h : Halves) (cs : List (List Pair)) → total (λ (c : List Pair). total f c) cs ≡ 0 → Both Q h → Both Q (deal h cs)
   unfolding deal total

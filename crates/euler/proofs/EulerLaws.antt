@@ -26,6 +26,7 @@ across-astray N side p a = omega arith
 pub astray-across : (N : ℕ) (side : ℕ → ℕ) (p : Pair) → astray N side p ≡ 0 → Across N side p
 astray-across N side p z = omega arith
 
+-- pairs across the sides are not astray, and not aslant
 pub none-astray : (N : ℕ) (side : ℕ → ℕ) (ps : List Pair) → All (Across N side) ps → total (astray N side) ps ≡ 0
 none-astray N side ps h = total-all-zero (astray N side) ps (all-map (across-astray N side) ps h)
 

@@ -321,6 +321,7 @@ module _ {l : Rings} {N m k : ℕ} {s₀ : List ℕ} (g : Laid l N m k s₀) (fl
           ∙ odds-all C (λ y. (y < m) × (word half-filled (l .b + 2 * edge false y + 3) ≡ end Q true y)) m
           (firsts-filled .side .leads) i ib (o .odd) .1
 
+  -- so it is after filling
   pub filled : Filled (fillM l m N s₀)
   unfolding fillM
   filled =

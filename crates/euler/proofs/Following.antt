@@ -45,6 +45,7 @@ module _ {l : Rings} {N m k : ℕ} {s₀ : List ℕ} (g : Laid l N m k s₀) (fl
     pub below : All (λ (i : ℕ). i < m) is
     pub odds : All (λ (i : ℕ). C i % 2 ≡ 1) is
 
+  -- nodes and leads that read the same
   pub remaining-same :
       (s t is : List ℕ) → Same-nodes g s t →
       ((d : Bool) (i : ℕ) → i < m → word t (l .b + 2 * edge d i + 3) ≡ word s (l .b + 2 * edge d i + 3)) → Remaining s is → Remaining t is
@@ -70,6 +71,7 @@ module _ {l : Rings} {N m k : ℕ} {s₀ : List ℕ} (g : Laid l N m k s₀) (fl
 
   -- ── a half-edge taken out ──
 
+  -- the first of a ring goes out as any other
   pub pop-is : (s : List ℕ) (z x : ℕ) → prior (l .b) s x ≡ z → popM l s z x ≡ unlinkM l s x
   unfolding popM unlinkM
   pop-is s z x e = rw e
@@ -133,12 +135,14 @@ module _ {l : Rings} {N m k : ℕ} {s₀ : List ℕ} (g : Laid l N m k s₀) (fl
     abbrev i : ℕ
     i = f .entry
 
+    -- the half-edge, and its mate
     abbrev pub x : ℕ
     x = edge d i
 
     abbrev pub y : ℕ
     y = edge (not d) i
 
+    -- the rings without it
     abbrev pub left : ℕ → List ℕ
     left u = without x (nodes Q u is)
 
@@ -146,9 +150,11 @@ module _ {l : Rings} {N m k : ℕ} {s₀ : List ℕ} (g : Laid l N m k s₀) (fl
     abbrev pub popped : List ℕ
     popped = popM l s (l .top + v) x
 
+    -- its entry is odd
     pub is-odd : Odd m C i
     is-odd = has-odd s is i h (f .has)
 
+    -- both are in their rings
     pub first-there : Has x (nodes Q v is)
     first-there = has-node Q d i v is (f .own) (f .has)
 
@@ -161,6 +167,7 @@ module _ {l : Rings} {N m k : ℕ} {s₀ : List ℕ} (g : Laid l N m k s₀) (fl
         apart true i e = omega arith
         apart false i e = omega arith
 
+    -- the first is taken out
     pub first-out : Ringed g left popped × Aside g s popped
     first-out =
         let first : prior (l .b) s x ≡ l .top + v =

@@ -39,6 +39,7 @@ module _ (s : List ℕ) (table graph : ℕ) where
   abbrev all-of : ℕ → ℕ → ℕ → Graph
   all-of pairs i n = entries s table pairs graph i n
 
+  -- what all entries are, each is
   pub entries-all :
       (R : Pair → Type 0) (pairs i n : ℕ) → All R (all-of pairs i n) → (j : ℕ) → i ≤ j → j < i + n → R (at pairs j)
   unfolding entries
@@ -154,6 +155,7 @@ falling-once i (x ∷ xs) f =
 -- ── a graph that can be split ──
 
 module _ {s : List ℕ} {u table graph n width : ℕ} (q : Splits s u table graph n width) where
+  -- the parties, and the entries
   abbrev pub N : ℕ
   N = 2 * n
 
@@ -179,6 +181,7 @@ module _ {s : List ℕ} {u table graph n width : ℕ} (q : Splits s u table grap
       flag-all s table graph (Across N (q .side))
       (λ a b c x y h. record { first-below = h .first-below; second-below = h .second-below; sides = h .sides }) pairs 0 m (reg .across)
 
+  -- each entry joins the two sides
   pub across-at : (i : ℕ) → i < m → Across N (q .side) (entry s table 0 graph i)
   across-at i b = entries-all s table graph (Across N (q .side)) 0 0 m (reg .across) i (omega arith) (omega arith)
 
@@ -201,6 +204,7 @@ module _ {s : List ℕ} {u table graph n width : ℕ} (q : Splits s u table grap
   pub apart-at : (pairs : ℕ) → Apart-at (λ i. entry s table pairs graph i) m
   apart-at pairs i j c b e n = not-joined (F i) (S i) (with-copies c (entry s table pairs graph j)) (not-same i j b e n)
 
+  -- the ends of every entry are two parties
   pub ends-fit : Ends-fit N m F S
   ends-fit =
       record {
@@ -237,11 +241,13 @@ module _ {s : List ℕ} {u table graph n width : ℕ} (q : Splits s u table grap
     abbrev odd-ones : List ℕ
     odd-ones = odds (λ i. word s (graph + 3 + 2 * i)) (descend m)
 
+    -- every party has the degree, whatever is flagged
     pub degree-is : (v : ℕ) → v < N → degree v (G pairs) ≡ 2 * q .half
     unfolding weigh
     degree-is v b =
         flag-total s table graph (λ p. p .copies * names v (p .first) (p .second)) (λ a b c x y. refl) pairs 0 m ∙ reg .even v b
 
+    -- the rest joins the two sides
     pub rest-across : All (Across N (q .side)) (rest (G pairs))
     rest-across =
         rest-all (Across N (q .side))
@@ -250,6 +256,7 @@ module _ {s : List ℕ} {u table graph n width : ℕ} (q : Splits s u table grap
     pub rest-slant : total (aslant (q .side)) (rest (G pairs)) ≡ 0
     rest-slant = none-aslant N (q .side) (rest (G pairs)) rest-across
 
+    -- every party has an even number of ends in it
     pub rest-evens : (v : ℕ) → total (ends v) (rest (G pairs)) % 2 ≡ 0
     rest-evens v =
         elim (decLt v N) [
@@ -257,6 +264,7 @@ module _ {s : List ℕ} {u table graph n width : ℕ} (q : Splits s u table grap
           | no b ↦ ap (λ (x : ℕ). x % 2) (beyond N (q .side) (rest (G pairs)) rest-across v b)
         ]
 
+    -- newest first, it is the odd places
     pub rest-odd : reverse (rest (G pairs)) ≡ map Q (odd-places m (λ i. word s (graph + 3 + 2 * i)))
     unfolding odd-places
     rest-odd = rest-places s table graph pairs m

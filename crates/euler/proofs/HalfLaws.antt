@@ -22,6 +22,7 @@ use Rattle.euler.proofs.Dealing.{halves-append}
 
 -- ── adding to a graph whose front doesn't have the pair ──
 
+-- a pair with other ends is not joined
 pub not-joined : (a b : ℕ) (p : Pair) → (Same-ends a b (p .first) (p .second) → ⊥) → joins a b p ≡ false
 not-joined a b p n = go (joins a b p) refl
   where
@@ -29,6 +30,7 @@ not-joined a b p n = go (joins a b p) refl
     go false e = refl
     go true e = absurd (n (joins-true a b p e))
 
+-- pairs in front that are not joined stay
 pub add-past :
     (g h : Graph) (a b n f : ℕ) → All (λ (p : Pair). joins a b p ≡ false) g →
     add-edge (g ++ h) a b n f ≡ g ++ add-edge h a b n f
@@ -36,6 +38,7 @@ unfolding add-edge
 add-past [] h a b n f e = refl
 add-past (p ∷ g) h a b n f e = rw (e .0) (ap (λ (x : Graph). p ∷ x) (add-past g h a b n f (e .1)))
 
+-- a pair that is new comes last
 pub add-new :
     (g : Graph) (a b n f : ℕ) → All (λ (p : Pair). joins a b p ≡ false) g → add-edge g a b n f ≡ g ++ (pair a b n f ∷ [])
 unfolding add-edge
@@ -84,6 +87,7 @@ module _ (A : ℕ → Pair) where
   abbrev pub small : List ℕ → List ℕ
   small is = keep (λ i. not (leb 2 (C i))) is
 
+  -- the entry at a place, with one copy
   abbrev pub one : ℕ → Pair
   one i = held i 1
 
@@ -133,6 +137,7 @@ module _ (A : ℕ → Pair) where
         | no b ↦ rw (big-yes n (e n) (omega arith)) (h n (C n / 2 + e n) (omega arith) (omega arith), tt)
       ])
 
+  -- as many as there are entries of 2 copies or more
   pub bigs-length : (e : ℕ → ℕ) (n : ℕ) → length (bigs e n) ≡ sum-below (λ i. pick (leb 2 (C i)) 1 0) n
   unfolding bigs sum-below
   bigs-length e zero = refl
@@ -273,6 +278,7 @@ module _ (A : ℕ → Pair) where
               bump (λ j. count j cs) m i (map one (small cs)) (omega arith) b big' ∙ rw (front, rest)
         ]
 
+    -- all of cs dealt, one after the other
     pub deal-all :
         (cs ds : List ℕ) → All (λ (j : ℕ). j < m) ds → All (λ (j : ℕ). j < m) cs → ((i : ℕ) → count i (ds ++ cs) ≤ 1) →
         add-pairs (half-of ds) (map one cs) ≡ half-of (ds ++ cs)

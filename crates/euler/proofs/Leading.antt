@@ -50,6 +50,7 @@ drops-pair v ps =
 
 -- ── what a dropped pair leaves ──
 
+-- one pair more in front
 pub lead-cons : (p : Pair) (ps : List Pair) (b : Bool) (t : Taken) → lead (pick b (taken p ps) (past p t)) ≡ pick b (p ∷ []) (lead t)
 lead-cons p ps true t = refl
 lead-cons p ps false (taken q os) = refl
@@ -66,6 +67,7 @@ kept-by end u q ps os (there p ps' os' d) n =
     ∙ ap (pick (eqb u (end p)) (p ∷ [])) (kept-by end u q ps' os' d n)
     ∙ sym (lead-cons p ps' (eqb u (end p)) (take-by end u ps'))
 
+-- the one, or else the other
 abbrev pub either-lead : List Pair → List Pair → List Pair
 either-lead [] l = l
 either-lead (p ∷ ps) l = p ∷ ps
@@ -93,9 +95,11 @@ pub record Leaves (ps os : List Pair) : Type 0 where
   pub fewer : (u : ℕ) → total (ends u) os ≤ total (ends u) ps
   pub same : (u : ℕ) → total (ends u) os ≡ total (ends u) ps → lead (first-pair u os) ≡ lead (first-pair u ps)
 
+-- nothing taken
 pub leaves-all : (ps : List Pair) → Leaves ps ps
 leaves-all ps = record { fewer = λ u. omega arith; same = λ u e. refl }
 
+-- one after the other
 pub leaves-then : (ps os ns : List Pair) → Leaves ps os → Leaves os ns → Leaves ps ns
 leaves-then ps os ns a b =
     record {
@@ -123,6 +127,7 @@ leaves-step s w = go (first-pair (standing s (w .stack)) (w .left)) (drops-pair 
     go (taken q os) d = leaves-dropped q (w .left) os d
     go none d = back (w .stack)
 
+-- a walk leaves the order
 pub leaves-walk : (s n : ℕ) (r : List Pair) → Leaves r (iterate n (walk-step s) (begin r) .left)
 leaves-walk s n r =
     iterate-keeps {Inv = λ w. Leaves r (w .left)} (walk-step s)

@@ -24,6 +24,7 @@ use Rattle.euler.proofs.Stacks.{bottom, Sound, walking}
 
 -- ── half-edges and their entries ──
 
+-- a half-edge's mate, its entry, and that it is below the parties' nodes
 pub mate-is : (d : Bool) (i : ℕ) → mateM (edge d i) ≡ edge (not d) i
 mate-is true i = omega arith
 mate-is false i = omega arith
@@ -48,6 +49,7 @@ module _ {l : Rings} {N m k : ℕ} {s₀ : List ℕ} (g : Laid l N m k s₀) (fl
   unfolding odd-places
   few-places = odds-length C m
 
+  -- The walk on words: the rings hold the places `is`, the stack xs, and ws are written; and it stands where the definition's does.
   pub record Live (s : List ℕ) (w : Walk) (xs ws is : List ℕ) : Type 0 where
     pub rings : Remaining g flag s is
     pub stack : column l true s (w .height) ≡ xs

@@ -18,10 +18,12 @@ use Rattle.euler.specs.Model.{Stage, Counted, Small, copiesM, appendM, s
 
 -- ── filling ──
 
+-- one party more
 pub start-more : (l : Rings) (v : ℕ) (s : List ℕ) → startM l (v + 1) s ≡ startRingM l (startM l v s) v
 unfolding startM
 start-more l v s = rw add-one
 
+-- an entry sifted, from what the calls give
 pub sift-so :
     (l : Rings) (s : List ℕ) (i odd : ℕ) {c : ℕ} {t u : List ℕ} {r : ℕ} → c ≡ copiesM l s i → t ≡ put-word s (l .b + 8 * i + 2) 0 →
     u ≡ put-word t (l .col + 2 * odd) i → r ≡ odd + c % 2 →
@@ -29,14 +31,17 @@ pub sift-so :
 unfolding siftM
 sift-so l s i odd ec et eu er = rw (er, eu, et, ec)
 
+-- the count grows by at most 1
 pub sift-count : (l : Rings) (t : Counted) (i : ℕ) → siftM l t i .count ≤ t .count + 1
 unfolding siftM
 sift-count l t i = omega arith
 
+-- one entry more
 pub sift-more : (l : Rings) (i : ℕ) (s : List ℕ) → siftAllM l (i + 1) s ≡ siftM l (siftAllM l i s) i
 unfolding siftAllM
 sift-more l i s = rw add-one
 
+-- a half-edge put in, from what the calls give
 pub ring-so :
     (l : Rings) (side : ℕ) (s : List ℕ) (j : ℕ) {i e v : ℕ} {t u : List ℕ} → i ≡ notedM l s j → e ≡ word s (l .g + 2 + 2 * i) →
     v ≡ word s (l .ends + 2 * e + side) → t ≡ put-word s (l .b + 8 * i + 7 - 4 * side) v →
@@ -44,6 +49,7 @@ pub ring-so :
 unfolding ringEndM
 ring-so l side s j ei ee ev et eu = rw (eu, et, ev, ee, ei)
 
+-- its end is a place, and it can be appended
 pub ring-reads :
     {l : Rings} {side : ℕ} {s : List ℕ} {j i e : ℕ} → i ≡ notedM l s j → e ≡ word s (l .g + 2 + 2 * i) → Rings-end l side s j →
     l .ends + 2 * e + side < length s
@@ -55,6 +61,7 @@ pub ring-asks :
     Appends l t v (4 * i + 2 * side)
 ring-asks ei ee ev et h = rw (et, ev, ee, ei) (h .appends)
 
+-- none left
 pub ends-none : (l : Rings) (side k : ℕ) (s : List ℕ) → k ≡ 0 → endsM l side k s ≡ s
 unfolding endsM
 ends-none l side k s z = rw z
@@ -91,6 +98,7 @@ fill-so l m parties s et eu ev ew =
 
 -- ── the walk ──
 
+-- a half-edge taken, from what the calls give
 pub taken-so :
     (l : Rings) (s : List ℕ) (w : Walk) (x : ℕ) {to : ℕ} {t u v : List ℕ} → to ≡ word s (l .b + 2 * x + 3) →
     t ≡ popM l s (l .top + w .at) x → u ≡ unlinkM l t (mateM x) → v ≡ put-word u (l .col + 2 * w .height) (x / 4 * 2048 + w .at) →
@@ -100,6 +108,7 @@ pub taken-so :
 unfolding takeM
 taken-so l s w x eo et eu ev = rw (ev, eu, et, eo)
 
+-- stuck with something on the stack, or with nothing
 pub stuck-backs : (l : Rings) (s : List ℕ) (w : Walk) → 0 < w .height → stuckM l s w ≡ backM l s w
 unfolding stuckM
 stuck-backs l s w h = rw (lt-ltb 0 (w .height) h)
@@ -110,6 +119,7 @@ pub stuck-next :
 unfolding stuckM
 stuck-next l s w h = rw (le-ltb 0 (w .height) h)
 
+-- a step past the last party, one that takes, one that is stuck
 pub step-idle : (l : Rings) (parties : ℕ) (t : Stage) → parties ≤ t .walk .next → stepM l parties t ≡ t
 unfolding stepM
 step-idle l parties t h = rw (le-leb parties (t .walk .next) h)
@@ -129,6 +139,7 @@ unfolding stepM
 step-stuck l parties s w n h =
     rw (lt-leb parties (w .next) n, eq-eqb (word s (l .b + 2 * (l .top + w .at))) (l .top + w .at) h)
 
+-- one step more
 pub walk-more : (l : Rings) (parties k : ℕ) (t : Stage) → walkM l parties (k + 1) t ≡ stepM l parties (walkM l parties k t)
 walk-more l parties k t = rw add-one (iterate-suc-out k (stepM l parties) t)
 
@@ -183,6 +194,7 @@ small-step l parties k t fit h =
 
 -- ── the halves ──
 
+-- 0 below 2 copies, else 1
 pub many-none : (c : ℕ) → c < 2 → manyM c ≡ 0
 many-none c h = rw (lt-ltb c 2 h)
 
@@ -196,21 +208,25 @@ many-le c = go (ltb c 2)
     go true = omega arith
     go false = omega arith
 
+-- one entry more
 pub entries-more :
     (l : Rings) (h parity i : ℕ) (s : List ℕ) → entriesM l h parity (i + 1) s ≡ entryM l h parity (entriesM l h parity i s) i
 unfolding entriesM
 entries-more l h parity i s = rw add-one
 
+-- the count grows by at most 1
 pub entry-count : (l : Rings) (h parity : ℕ) (t : Counted) (i : ℕ) → entryM l h parity t i .count ≤ t .count + 1
 unfolding entryM
 entry-count l h parity t i = omega (arith, many-le (copiesM l (t .words) i))
 
+-- one place more
 pub singles-more :
     (l : Rings) (h parity k : ℕ) (t : Counted) →
     singlesM l h parity (k + 1) t ≡ singleM l h (singlesM l h parity k t) (parity + 2 * k)
 unfolding singlesM
 singles-more l h parity k t = rw add-one
 
+-- the count grows by at most 1
 pub single-count : (l : Rings) (h : ℕ) (t : Counted) (j : ℕ) → singleM l h t j .count ≤ t .count + 1
 unfolding singleM
 single-count l h t j = omega arith

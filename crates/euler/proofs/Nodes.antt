@@ -35,6 +35,7 @@ odds C xs = keep (λ i. eqb (C i % 2) 1) xs
 unfoldable pub odd-places : ℕ → (ℕ → ℕ) → List ℕ
 odd-places m C = odds C (descend m)
 
+-- the odd ones of the first m entries are below m, fall, and are odd
 pub odds-below : (C : ℕ → ℕ) (m : ℕ) → All (λ (i : ℕ). i < m) (odds C (descend m))
 odds-below C m = keep-all (λ i. i < m) (λ i. eqb (C i % 2) 1) (descend m) (descend-below m)
 
@@ -115,6 +116,7 @@ unkept q i (x ∷ xs) t h = go (q x) refl h (unkept q i xs t)
     go true e k r = (k .0, r (k .1))
     go false e k r = ((λ p. differ (sym t ∙ ap q p ∙ e)), r k)
 
+-- a member that passes is kept
 pub has-kept : (q : ℕ → Bool) (i : ℕ) (xs : List ℕ) → q i ≡ true → Has i xs → Has i (keep q xs)
 has-kept q i xs t h a = h (unkept q i xs t a)
 
@@ -154,6 +156,7 @@ sides-distinct (x ∷ xs) ys h k = (
   sides-distinct xs ys (h .1) k,
 )
 
+-- different members stay different
 pub keep-distinct : (q : ℕ → Bool) (xs : List ℕ) → Distinct xs → Distinct (keep q xs)
 unfolding keep
 keep-distinct q [] h = tt
@@ -209,9 +212,11 @@ module _ (P : ℕ → Pair) where
   end true i = P i .first
   end false i = P i .second
 
+  -- the nodes of the ring of v, where the places `is` remain
   abbrev pub nodes : ℕ → List ℕ → List ℕ
   nodes v is = map (edge true) (firsts P v is) ++ map (edge false) (seconds P v is)
 
+  -- no two are the same
   pub nodes-distinct : (v : ℕ) (is : List ℕ) → Falling is → Distinct (nodes v is)
   nodes-distinct v is f =
       sides-distinct (firsts P v is) (seconds P v is)
@@ -238,6 +243,7 @@ module _ (P : ℕ → Pair) where
     pub own : end side entry ≡ v
     pub has : Has entry is
 
+  -- a ring is empty, or has a first node
   pub first-node : (v : ℕ) (is : List ℕ) → ((row P v is ≡ []) × (nodes v is ≡ [])) ⊎ First v is
   unfolding row
   first-node v is = go (firsts P v is) (seconds P v is) refl refl

@@ -11,6 +11,7 @@ abbrev pub Noted : (ℕ → ℕ) → List ℕ → List ℕ → Type 0
 Noted at s [] = Unit {0}
 Noted at s (x ∷ xs) = (word s (at (length xs)) ≡ x) × Noted at s xs
 
+-- words that read the same
 pub noted-same :
     (at : ℕ → ℕ) (s t xs : List ℕ) → ((j : ℕ) → j < length xs → word t (at j) ≡ word s (at j)) → Noted at s xs → Noted at t xs
 noted-same at s t [] f h = tt

@@ -23,6 +23,7 @@ dealt parity [] = []
 dealt parity (x ∷ ws) =
     let before = dealt parity ws in pick (eqb (length ws % 2) parity) (before ++ (x ∷ [])) before
 
+-- the last place, of this parity or not
 pub dealt-yes : (parity x : ℕ) (ws : List ℕ) → length ws % 2 ≡ parity → dealt parity (x ∷ ws) ≡ dealt parity ws ++ (x ∷ [])
 unfolding dealt
 dealt-yes parity x ws e = rw (eq-eqb (length ws % 2) parity e)
@@ -31,6 +32,7 @@ pub dealt-no : (parity x : ℕ) (ws : List ℕ) → (length ws % 2 ≡ parity �
 unfolding dealt
 dealt-no parity x ws n = rw (ne-eqb (length ws % 2) parity n)
 
+-- what all are, those dealt are
 pub dealt-all : (R : ℕ → Type 0) (parity : ℕ) (ws : List ℕ) → All R ws → All R (dealt parity ws)
 unfolding dealt
 dealt-all R parity [] h = tt
@@ -40,6 +42,7 @@ dealt-all R parity (x ∷ ws) h = go (eqb (length ws % 2) parity) (dealt-all R p
     go true k = all-append R (dealt parity ws) (x ∷ []) k (h .0, tt)
     go false k = k
 
+-- none more often
 pub dealt-count : (i parity : ℕ) (ws : List ℕ) → count i (dealt parity ws) ≤ count i ws
 unfolding dealt count
 dealt-count i parity [] = omega arith
@@ -134,6 +137,7 @@ unfoldable pub picks : Rings → List ℕ → ℕ → ℕ → List ℕ
 picks l s parity zero = []
 picks l s parity (suc k) = picks l s parity k ++ (word s (l .col + 2 * (parity + 2 * k) + 1) ∷ [])
 
+-- reading them gives those dealt
 pub picks-dealt :
     (l : Rings) (s : List ℕ) (parity n : ℕ) → parity < 2 →
     picks l s parity ((n + 1 - parity) / 2) ≡ dealt parity (column l false s n)

@@ -34,6 +34,7 @@ abbrev pub Falling : List ℕ → Type 0
 Falling [] = Unit {0}
 Falling (x ∷ xs) = All (λ (y : ℕ). y < x) xs × Falling xs
 
+-- a member that passes, and one that doesn't
 pub keep-yes : (q : ℕ → Bool) (x : ℕ) (xs : List ℕ) → q x ≡ true → keep q (x ∷ xs) ≡ x ∷ keep q xs
 unfolding keep
 keep-yes q x xs e = rw e
@@ -42,6 +43,7 @@ pub keep-no : (q : ℕ → Bool) (x : ℕ) (xs : List ℕ) → q x ≡ false →
 unfolding keep
 keep-no q x xs e = rw e
 
+-- two lists, two tests, what all are, and falling lists
 pub keep-append : (q : ℕ → Bool) (xs ys : List ℕ) → keep q (xs ++ ys) ≡ keep q xs ++ keep q ys
 unfolding keep
 keep-append q [] ys = refl
@@ -84,6 +86,7 @@ keep-falling q (x ∷ xs) h = go (q x) (keep-all (λ y. y < x) q xs (h .0)) (kee
     go true a k = (a, k)
     go false a k = k
 
+-- the numbers below k are below k, fall, and are k
 pub descend-below : (k : ℕ) → All (λ (y : ℕ). y < k) (descend k)
 unfolding descend
 descend-below k = go k k (omega arith)
@@ -102,6 +105,7 @@ unfolding descend
 descend-length zero = refl
 descend-length (suc k) = ap suc (descend-length k)
 
+-- no more than before
 pub keep-length : (q : ℕ → Bool) (xs : List ℕ) → length (keep q xs) ≤ length xs
 unfolding keep
 keep-length q [] = omega arith
@@ -118,6 +122,7 @@ without-none i [] h = refl
 without-none i (x ∷ xs) h =
     rw (ne-eqb i x (λ e. omega arith)) (ap (λ (l : List ℕ). x ∷ l) (without-none i xs (h .1)))
 
+-- what is left out first, or later
 pub without-first : (i : ℕ) (xs : List ℕ) → without i (i ∷ xs) ≡ without i xs
 without-first i xs = keep-no (λ k. not (eqb i k)) i xs (rw (eq-eqb i i refl))
 
@@ -131,6 +136,7 @@ module _ (P : ℕ → Pair) where
   abbrev pub places-by : (Pair → ℕ) → ℕ → List ℕ → List ℕ
   places-by end v xs = keep (λ i. eqb v (end (P i))) xs
 
+  -- those where v is first end, those where it is second end, and the one behind the other
   abbrev pub firsts : ℕ → List ℕ → List ℕ
   firsts v xs = places-by (λ p. p .first) v xs
 
@@ -181,9 +187,11 @@ module _ (P : ℕ → Pair) where
       first-pair v (map P xs) ≡ taken (P i) (map P (without i xs))
   first-taken v i xs ys f e = first-is v xs f ∙ ap (as-taken xs) e
 
+  -- and where the row is empty there is none
   pub first-none : (v : ℕ) (xs : List ℕ) → Falling xs → row v xs ≡ [] → first-pair v (map P xs) ≡ none
   first-none v xs f e = first-is v xs f ∙ ap (as-taken xs) e
 
+  -- taking it out leaves one place fewer
   pub without-shorter :
       (v i : ℕ) (xs ys : List ℕ) → Falling xs → row v xs ≡ i ∷ ys → length xs ≡ suc (length (without i xs))
   without-shorter v i xs ys f e =

@@ -52,6 +52,7 @@ module _ {l : Rings} {m k u h n : ℕ} (pairs : ℕ) {s₀ s ws : List ℕ} (g :
         (j : ℕ) → j < t .count →
         (i : ℕ) × (i < m) × (word (t .words) (h + 2 + 2 * j) ≡ word s₀ (l .g + 2 + 2 * i))
 
+  -- at the beginning
   pub nothing-yet : So-far (record { words = s; count = 0 }) []
   unfolding entries
   nothing-yet = record { only = only-refl h (2 * k) s; is-held = refl; numbers = λ j c. absurd (omega arith) }
@@ -62,6 +63,7 @@ module _ {l : Rings} {m k u h n : ℕ} (pairs : ℕ) {s₀ s ws : List ℕ} (g :
       let p : (i : ℕ) × (i < m) × (word (t .words) (h + 2 + 2 * j) ≡ word s₀ (l .g + 2 + 2 * i)) = f .numbers j b in
       rw (p .2) (g .table (p .0) (p .1))
 
+  -- as many as are counted
   pub so-far-count : (t : Counted) (x : Graph) → So-far t x → t .count ≡ length x
   so-far-count t x f = sym (entries-length (t .words) (l .ends) pairs h 0 (t .count)) ∙ ap length (f .is-held)
 
@@ -71,6 +73,7 @@ module _ {l : Rings} {m k u h n : ℕ} (pairs : ℕ) {s₀ s ws : List ℕ} (g :
 
   -- ── an entry at the next place ──
 
+  -- the words after entry i is written with c copies
   abbrev pub put-next : Counted → ℕ → ℕ → List ℕ
   put-next t i c = pushM h (t .words) (t .count) (word s₀ (l .g + 2 + 2 * i)) c
 
@@ -115,6 +118,7 @@ module _ {l : Rings} {m k u h n : ℕ} (pairs : ℕ) {s₀ s ws : List ℕ} (g :
             (r .0, r .1, next-old t x i c f j d .number ∙ r .2);
       }
 
+  -- an entry that is counted
   pub pushed :
       (t : Counted) (x : Graph) (i c : ℕ) → So-far t x → i < m → c < 4294967296 → t .count + 2 ≤ k →
       So-far (record { words = put-next t i c; count = t .count + 1 }) (x ++ (held A i c ∷ []))

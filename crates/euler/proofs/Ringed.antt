@@ -32,6 +32,7 @@ module _ {l : Rings} {N m k : ℕ} {s₀ : List ℕ} (g : Laid l N m k s₀) whe
     pub rings : (v : ℕ) → v < N → Chain (l .b) s (l .top + v) (R v) (l .top + v)
     pub edges : (v : ℕ) → v < N → All Ed (R v)
 
+  -- nodes that read the same
   pub ringed-same : (R : ℕ → List ℕ) (s t : List ℕ) → Same-nodes g s t → Ringed R s → Ringed R t
   ringed-same R s t q h =
       record {
@@ -187,6 +188,7 @@ module _ {l : Rings} {N m k : ℕ} {s₀ : List ℕ} (g : Laid l N m k s₀) whe
             )
       ]
 
+  -- empty rings for the parties below u
   pub started :
       (u : ℕ) → u ≤ N →
       Keeps (l .b) s₀ (startM l u s₀) × ((v : ℕ) → v < u → Chain (l .b) (startM l u s₀) (l .top + v) [] (l .top + v))

@@ -107,6 +107,7 @@ module _ {l : Rings} {N m k : ℕ} {s₀ : List ℕ} (g : Laid l N m k s₀) whe
             }
       ]
 
+  -- so it is, entry by entry
   pub sifted : (s : List ℕ) → Keeps (l .b) s₀ s → (j : ℕ) → j ≤ m → Sifted j s (siftAllM l j s)
   unfolding siftAllM descend keep
   sifted s kept zero b =

@@ -52,6 +52,7 @@ module _ {s : List ℕ} {u ends g n width : ℕ} (q : Splits s u ends g n width)
 
   -- ── room ──
 
+  -- where everything lies
   pub grounds : Laid l N m k s
   unfolding graph-at
   grounds =
@@ -251,6 +252,7 @@ module _ {s : List ℕ} {u ends g n width : ℕ} (q : Splits s u ends g n width)
         ∙ entries-same ends pairs u 0 (word s₃ (u + 1)) s₃ s₄ (λ j lo hi. first-entry j (omega arith))
         ∙ first-done .graph
 
+    -- the words hold the halves
     pub stored :
         rbmg-split-into-two N (graph-at s ends pairs g)
         ≡ ran (record { first-half = graph-at s₄ ends pairs u; second-half = graph-at s₄ ends pairs h₂ })
@@ -293,6 +295,7 @@ module _ {s : List ℕ} {u ends g n width : ℕ} (q : Splits s u ends g n width)
 
 -- ── for the code's proof ──
 
+-- a pair's number fits beside a party's
 pub width-small : (s : List ℕ) (u ends g n width : ℕ) → Splits s u ends g n width → width + 1 ≤ 2097152
 width-small s u ends g n width q =
     let one : 1 * (width + 1) ≤ n * (width + 1) = mul-le-mul-right (width + 1) (q .some) in

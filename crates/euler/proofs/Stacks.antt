@@ -19,6 +19,7 @@ abbrev pub Sound : ℕ → ℕ → ℕ → List ℕ → Type 0
 Sound N m v [] = v < N
 Sound N m v (x ∷ xs) = (v < N) × (x / 2048 < m) × Sound N m (x % 2048) xs
 
+-- the party at which it stands is one
 pub sound-here : (N m v : ℕ) (xs : List ℕ) → Sound N m v xs → v < N
 sound-here N m v [] h = h
 sound-here N m v (x ∷ xs) h = h .0
@@ -43,6 +44,7 @@ module _ {l : Rings} {N m k : ℕ} {s₀ : List ℕ} (g : Laid l N m k s₀) (fl
 
   -- ── one step of the definition's walk ──
 
+  -- a place taken
   pub step-on :
       (s v i w : ℕ) (xs is ys ws : List ℕ) → bottom v xs ≡ s → Falling is → row Q v is ≡ i ∷ ys → v < 2048 → w < 2048 →
       other-node (Q i) v ≡ w → walk-step s (walking v xs is ws) ≡ walking w ((i * 2048 + v) ∷ xs) (without i is) ws
@@ -54,6 +56,7 @@ module _ {l : Rings} {N m k : ℕ} {s₀ : List ℕ} (g : Laid l N m k s₀) (fl
       let d : (i * 2048 + v) % 2048 ≡ v = omega arith in
       rw (st, t, st, o, a, d)
 
+  -- a step back
   pub step-off :
       (s v x : ℕ) (xs is ws : List ℕ) → Falling is → row Q v is ≡ [] →
       walk-step s (walking v (x ∷ xs) is ws) ≡ walking (x % 2048) xs is ((x / 2048) ∷ ws)

@@ -76,6 +76,7 @@ module _ {l : Rings} {N m k : ℕ} {s₀ : List ℕ} (g : Laid l N m k s₀) (fl
         column = omega (arith, len, h .size, few-places g flag r, g .entries, g .column, g .room);
       }
 
+  -- a step, whichever
   pub live-steps : (s : List ℕ) (w : Walk) (xs ws is : List ℕ) → Live g flag r s w xs ws is → w .next < N → Steps l s w
   live-steps s w xs ws is h b =
       let vb : w .at < N = sound-here N m (w .at) xs (h .sound b) in

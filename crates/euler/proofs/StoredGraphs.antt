@@ -15,9 +15,11 @@ pub record Only (h n : ℕ) (s t : List ℕ) : Type 0 where
   pub under : (i : ℕ) → i < h → word t i ≡ word s i
   pub over : (i : ℕ) → h + n ≤ i → word t i ≡ word s i
 
+-- nothing written
 pub only-refl : (h n : ℕ) (s : List ℕ) → Only h n s s
 only-refl h n s = record { len = refl; under = λ i b. refl; over = λ i b. refl }
 
+-- a word within them written
 pub only-put : (h n : ℕ) (s t : List ℕ) (a x : ℕ) → Only h n s t → h ≤ a → a < h + n → Only h n s (put-word t a x)
 only-put h n s t a x o lo hi =
     record {
@@ -33,6 +35,7 @@ pub record Same-entry (ends h j : ℕ) (s t : List ℕ) : Type 0 where
   pub first : word t (ends + 2 * word s (h + 2 + 2 * j)) ≡ word s (ends + 2 * word s (h + 2 + 2 * j))
   pub second : word t (ends + 2 * word s (h + 2 + 2 * j) + 1) ≡ word s (ends + 2 * word s (h + 2 + 2 * j) + 1)
 
+-- so a graph reads the same
 pub entries-same :
     (ends pairs h i n : ℕ) (s t : List ℕ) → ((j : ℕ) → i ≤ j → j < i + n → Same-entry ends h j s t) →
     entries t ends pairs h i n ≡ entries s ends pairs h i n
@@ -44,6 +47,7 @@ entries-same ends pairs h i (suc n) s t e =
     (ap (λ (g : Graph). entry s ends pairs h i ∷ g)
     (entries-same ends pairs h (i + 1) n s t (λ j lo hi. e j (omega arith) (omega arith))))
 
+-- one entry more, at the end
 pub entries-snoc :
     (s : List ℕ) (ends pairs h i n : ℕ) →
     entries s ends pairs h i (n + 1) ≡ entries s ends pairs h i n ++ (entry s ends pairs h (i + n) ∷ [])

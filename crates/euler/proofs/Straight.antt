@@ -44,6 +44,7 @@ onto-steps s out (suc n) w = ap (iterate n (walk-step s)) (onto-step s out w) �
 
 -- ── all parties, straight through ──
 
+-- the walks from the parties below v, as one
 unfoldable pub straight : ℕ → List Pair → Walking
 straight zero r = begin (reverse r)
 straight (suc v) r = iterate (2 * length (straight v r .left)) (walk-step v) (straight v r)
@@ -53,6 +54,7 @@ unfoldable pub along : List (List Pair) → List Pair
 along [] = []
 along (c ∷ cs) = c ++ along cs
 
+-- one cycle more
 pub along-more : (cs : List (List Pair)) (c : List Pair) → along (cs ++ (c ∷ [])) ≡ along cs ++ c
 unfolding along
 along-more [] c = append-nil c
@@ -88,6 +90,7 @@ trail-even side a b [] e z = omega (arith, ap side e)
 trail-even side a b (p ∷ ps) (c, lead, t) z =
     omega (arith, leads-across side p a c lead (omega arith), trail-even side c b ps t (omega arith))
 
+-- the written pairs of a closed walk are even
 pub closed-even :
     (side : ℕ → ℕ) (s : ℕ) (r : List Pair) (w : Walking) → total (aslant side) r ≡ 0 → Closed s r w →
     length (w .written) % 2 ≡ 0
@@ -138,6 +141,7 @@ module _ (side : ℕ → ℕ) (r : List Pair) (slant : total (aslant side) r ≡
   tour-is : (v : ℕ) (t : Tour) → tour-below v r ≡ ran t → Toured r v t
   tour-is v t e = subst (Ran (Toured r v)) e (tour-below-tours side r slant evens-all v)
 
+  -- before the first party
   pub tour-start : Tour-at 0 r (record { cycles = []; left = reverse r })
   unfolding tour-below
   tour-start = record { runs = refl; toured = tour-is 0 (record { cycles = []; left = reverse r }) refl; even = tt }
@@ -246,6 +250,7 @@ rests-same f a x y j k ex ey rx ry =
 
 -- ── dealing straight through ──
 
+-- every other of two lists, where the first is even
 pub every-other-even :
     (b : Bool) (xs ys : List Pair) → length xs % 2 ≡ 0 → every-other b (xs ++ ys) ≡ every-other b xs ++ every-other b ys
 unfolding every-other

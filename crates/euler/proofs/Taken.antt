@@ -22,9 +22,11 @@ ends v p = names v (p .first) (p .second)
 pub record Leads (p : Pair) (a b : ℕ) : Type 0 where
   pub same : (w : ℕ → ℕ → ℕ) → Symmetric w → w (p .first) (p .second) ≡ w a b
 
+-- the other way
 pub leads-back : {p : Pair} {a b : ℕ} → Leads p a b → Leads p b a
 leads-back {a = a} {b = b} h = record { same = λ w s. h .same w s ∙ s a b }
 
+-- and neither can the number of its ends
 pub leads-ends : {p : Pair} {a b : ℕ} → Leads p a b → (v : ℕ) → ends v p ≡ is v a + is v b
 leads-ends h v = h .same (names v) (λ a b. omega arith)
 

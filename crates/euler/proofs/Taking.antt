@@ -42,6 +42,7 @@ module _ {l : Rings} {N m k : ℕ} {s₀ : List ℕ} (g : Laid l N m k s₀) (fl
   abbrev pub took : List ℕ → Walk → Bool → ℕ → List ℕ
   took s w d i = put-word (out s (w .at) d i) (l .col + 2 * w .height) (i * 2048 + w .at)
 
+  -- the model takes it so
   pub take-form :
       (s : List ℕ) (w : Walk) (d : Bool) (i x : ℕ) → x ≡ edge d i → word s (l .b + 2 * edge d i + 3) ≡ far g flag d i →
       takeM l s w x
@@ -68,6 +69,7 @@ module _ {l : Rings} {N m k : ℕ} {s₀ : List ℕ} (g : Laid l N m k s₀) (fl
       ∙ a .high (l .col + 2 * j) (omega (arith, g .column))) in
       column-more l true (took s w d i) (w .height) ∙ rw (top, under)
 
+  -- taking a half-edge keeps what holds
   pub live-take :
       (s : List ℕ) (w : Walk) (xs ws is : List ℕ) → Live g flag r s w xs ws is → w .next < N → (f : First Q (w .at) is) →
       Moved g flag r (record { words = s; walk = w })

@@ -19,6 +19,7 @@ trail-onto : (a b c : ℕ) (ps qs : List Pair) → Trail a b ps → Trail a c qs
 trail-onto a b c [] qs e k = rw e at k
 trail-onto a b c (p ∷ ps) qs (z, lead, h) k = trail-onto z b c ps (p ∷ qs) h (a, leads-back lead, k)
 
+-- a trail walked backwards
 pub trail-reverse : (a b : ℕ) (ps : List Pair) → Trail a b ps → Trail b a (reverse ps)
 trail-reverse a b ps h = trail-onto a b a ps [] h refl
 
@@ -26,6 +27,7 @@ trail-reverse a b ps h = trail-onto a b a ps [] h refl
 abbrev pub aslant : (ℕ → ℕ) → Pair → ℕ
 aslant side p = (side (p .first) + side (p .second) - 1) + (1 - (side (p .first) + side (p .second)))
 
+-- a pair that is not aslant leads to the other side
 pub leads-across : (side : ℕ → ℕ) (p : Pair) (a b : ℕ) → Leads p a b → aslant side p ≡ 0 → side a + side b ≡ 1
 leads-across side p a b h z = sym (h .same (λ x y. side x + side y) (λ x y. omega arith)) ∙ omega arith
 

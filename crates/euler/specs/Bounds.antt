@@ -43,6 +43,7 @@ abbrev pub Fills-ends : Rings → ℕ → ℕ → List ℕ → Type 0
 Fills-ends l side zero s = Unit {0}
 Fills-ends l side (suc j) s = Rings-end l side s j × Fills-ends l side j (ringEndM l side s j)
 
+-- the rings can be filled, sifting and both sides
 pub record Fills (l : Rings) (m parties : ℕ) (s : List ℕ) : Type 0 where
   pub sifts : Sifts-all l m (startM l parties s)
   pub firsts :

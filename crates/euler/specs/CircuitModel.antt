@@ -34,6 +34,7 @@ singleM h s at e = pushM h s at e 1
 
 -- ── even and odd entries ──
 
+-- no half-edge yet, at any party below v
 unfoldable pub twoStartM : Two → ℕ → List ℕ → List ℕ
 twoStartM l zero s = s
 twoStartM l (suc v) s = put-word (put-word (twoStartM l v s) (l .b + 2 * v) 0) (l .b + 2 * v + 1) 0
@@ -50,6 +51,7 @@ twoSiftM l t i =
       sifted = record { even = n .even + manyM c; odd = n .odd + c % 2 };
     }
 
+-- the first i entries, in order
 unfoldable pub twoSiftAllM : Two → ℕ → List ℕ → Apart-so-far
 twoSiftAllM l zero s = record { words = s; sifted = record { even = 0; odd = 0 } }
 twoSiftAllM l (suc i) s = twoSiftM l (twoSiftAllM l i s) i
@@ -105,6 +107,7 @@ twoFromM l m t v =
     let y = word (t .words) (l .b + 2 * v) in
     pick (eqb y 0) t (twoCircuitM l (y - 1) m (t .words) (t .number) (y - 1))
 
+-- the circuits from the parties below v
 unfoldable pub twoWalkM : Two → ℕ → ℕ → Told → Told
 twoWalkM l m zero t = t
 twoWalkM l m (suc v) t = twoFromM l m (twoWalkM l m v t) v
@@ -115,6 +118,7 @@ twoWalkM l m (suc v) t = twoFromM l m (twoWalkM l m v t) v
 abbrev pub twoFilledM : Two → Apart-so-far → List ℕ
 twoFilledM l t = twoFillM l 1 (t .sifted .odd) (twoFillM l 0 (t .sifted .odd) (t .words))
 
+-- both halves of a graph of degree 2
 unfoldable pub splitTwoM : Two → ℕ → ℕ → List ℕ → List ℕ
 splitTwoM l m parties s =
     let t = twoSiftAllM l m (twoStartM l parties s) in

@@ -13,6 +13,7 @@ pub data Taken : Type 0 where
   taken : Pair → List Pair → Taken
   none : Taken
 
+-- one pair more in front, which is not taken
 abbrev pub past : Pair → Taken → Taken
 past p (taken q ps) = taken q (p ∷ ps)
 past p none = none
@@ -57,6 +58,7 @@ abbrev pub step-back : List Step → List Pair → List Pair → Walking
 step-back [] left written = record { stack = []; left = left; written = written }
 step-back (e ∷ stack) left written = record { stack = stack; left = left; written = e .pair ∷ written }
 
+-- a step: the pair taken is walked; where none is, the walk is stuck
 abbrev pub follow : ℕ → Walking → Taken → Walking
 follow s w none = step-back (w .stack) (w .left) (w .written)
 follow s w (taken p ps) =
@@ -66,6 +68,7 @@ follow s w (taken p ps) =
       written = w .written;
     }
 
+-- one step of the walk from s
 unfoldable pub walk-step : ℕ → Walking → Walking
 walk-step s w = follow s w (first-pair (standing s (w .stack)) (w .left))
 
@@ -93,6 +96,7 @@ unfoldable pub names-party : ℕ → List Pair → Bool
 names-party v [] = false
 names-party v (p ∷ ps) = eqb v (p .first) || eqb v (p .second) || names-party v ps
 
+-- in one of the cycles
 unfoldable pub visited : ℕ → List (List Pair) → Bool
 visited v [] = false
 visited v (c ∷ cs) = names-party v c || visited v cs

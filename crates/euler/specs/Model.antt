@@ -29,6 +29,7 @@ pub record Counted : Type 0 where
 
 -- ── the graph's entries ──
 
+-- the copies of entry i
 abbrev pub copiesM : Rings → List ℕ → ℕ → ℕ
 copiesM l s i = word s (l .g + 3 + 2 * i)
 
@@ -38,13 +39,16 @@ endM l side s i = word s (l .ends + 2 * word s (l .g + 2 + 2 * i) + side)
 
 -- ── filling the rings ──
 
+-- an empty ring for the party v: its own node comes after and before itself
 abbrev pub startRingM : Rings → List ℕ → ℕ → List ℕ
 startRingM l s v = put-word (put-word s (l .b + 2 * (l .top + v)) (l .top + v)) (l .b + 2 * (l .top + v) + 1) (l .top + v)
 
+-- empty rings for the parties below v
 unfoldable pub startM : Rings → ℕ → List ℕ → List ℕ
 startM l zero s = s
 startM l (suc v) s = startRingM l (startM l v s) v
 
+-- the half-edge x becomes the last of the ring of v
 unfoldable pub appendM : Rings → List ℕ → ℕ → ℕ → List ℕ
 appendM l s v x =
     let z = l .top + v in
@@ -64,6 +68,7 @@ siftM l t i =
       count = t .count + copiesM l s i % 2;
     }
 
+-- the first i entries, in order
 unfoldable pub siftAllM : Rings → ℕ → List ℕ → Counted
 siftAllM l zero s = record { words = s; count = 0 }
 siftAllM l (suc i) s = siftM l (siftAllM l i s) i
@@ -85,6 +90,7 @@ unfoldable pub endsM : Rings → ℕ → ℕ → List ℕ → List ℕ
 endsM l side zero s = s
 endsM l side (suc j) s = endsM l side j (ringEndM l side s j)
 
+-- the rings of all parties: first ends, then second ends
 unfoldable pub fillM : Rings → ℕ → ℕ → List ℕ → List ℕ
 fillM l m parties s =
     let t = siftAllM l m (startM l parties s) in
@@ -97,9 +103,11 @@ pub record Stage : Type 0 where
   pub words : List ℕ
   pub walk : Walk
 
+-- x, the first of the ring of the node z, goes out of it
 unfoldable pub popM : Rings → List ℕ → ℕ → ℕ → List ℕ
 popM l s z x = let q = word s (l .b + 2 * x) in put-word (put-word s (l .b + 2 * z) q) (l .b + 2 * q + 1) z
 
+-- x goes out of its ring, wherever it stands
 unfoldable pub unlinkM : Rings → List ℕ → ℕ → List ℕ
 unlinkM l s x =
     let q = word s (l .b + 2 * x) in
@@ -110,6 +118,7 @@ unlinkM l s x =
 abbrev pub mateM : ℕ → ℕ
 mateM x = x / 4 * 4 + (x + 2) % 4
 
+-- x is taken and followed, its mate goes too, and the stack has one place more
 unfoldable pub takeM : Rings → List ℕ → Walk → ℕ → Stage
 takeM l s w x =
     record {
@@ -124,6 +133,7 @@ takeM l s w x =
           };
     }
 
+-- a step back: the place on top of the stack is written down, and its entry marked with the parity
 unfoldable pub backM : Rings → List ℕ → Walk → Stage
 backM l s w =
     let x = word s (l .col + 2 * (w .height - 1)) in
@@ -133,11 +143,13 @@ backM l s w =
       walk = record { next = w .next; at = x % 2048; height = w .height - 1; written = w .written + 1 };
     }
 
+-- stuck: back, or on to the next party
 unfoldable pub stuckM : Rings → List ℕ → Walk → Stage
 stuckM l s w =
     pick (ltb 0 (w .height)) (backM l s w)
     (record { words = s; walk = record { next = w .next + 1; at = w .next + 1; height = 0; written = w .written } })
 
+-- one step; past the last party nothing happens
 unfoldable pub stepM : Rings → ℕ → Stage → Stage
 stepM l parties t =
     let s = t .words in
@@ -146,14 +158,17 @@ stepM l parties t =
     let x = word s (l .b + 2 * z) in
     pick (leb parties (w .next)) t (pick (eqb x z) (stuckM l s w) (takeM l s w x))
 
+-- k steps
 abbrev pub walkM : Rings → ℕ → ℕ → Stage → Stage
 walkM l parties k t = iterate k (stepM l parties) t
 
+-- before the first step
 abbrev pub begun : List ℕ → Stage
 begun s = record { words = s; walk = record { next = 0; at = 0; height = 0; written = 0 } }
 
 -- ── the halves ──
 
+-- 1 where the mark says that the entry is dealt to this half
 abbrev pub moreM : ℕ → ℕ → ℕ
 moreM mark parity = pick (eqb mark (2 + parity)) 1 0
 
@@ -161,6 +176,7 @@ moreM mark parity = pick (eqb mark (2 + parity)) 1 0
 abbrev pub manyM : ℕ → ℕ
 manyM copies = pick (ltb copies 2) 0 1
 
+-- an entry of a half, at its place
 abbrev pub pushM : ℕ → List ℕ → ℕ → ℕ → ℕ → List ℕ
 pushM h s at e copies = put-word (put-word s (h + 2 + 2 * at) e) (h + 3 + 2 * at) copies
 
@@ -175,6 +191,7 @@ entryM l h parity t i =
       count = t .count + manyM c;
     }
 
+-- the first i entries, in order
 unfoldable pub entriesM : Rings → ℕ → ℕ → ℕ → List ℕ → Counted
 entriesM l h parity zero s = record { words = s; count = 0 }
 entriesM l h parity (suc i) s = entryM l h parity (entriesM l h parity i s) i
@@ -189,6 +206,7 @@ singleM l h t j =
       count = t .count + (1 - manyM (copiesM l s i));
     }
 
+-- the first k places of this parity, in the order of writing
 unfoldable pub singlesM : Rings → ℕ → ℕ → ℕ → Counted → Counted
 singlesM l h parity zero t = t
 singlesM l h parity (suc k) t = singleM l h (singlesM l h parity k t) (parity + 2 * k)
@@ -197,6 +215,7 @@ singlesM l h parity (suc k) t = singleM l h (singlesM l h parity k t) (parity + 
 abbrev pub headM : ℕ → List ℕ → ℕ → List ℕ
 headM h s n = put-word (put-word s h h) (h + 1) n
 
+-- one half, whole
 unfoldable pub halfM : Rings → ℕ → ℕ → ℕ → ℕ → List ℕ → List ℕ
 halfM l h parity m written s =
     let t = singlesM l h parity ((written + 1 - parity) / 2) (entriesM l h parity m s) in
@@ -213,6 +232,7 @@ laid u k ends g =
 abbrev pub walked : Rings → ℕ → ℕ → List ℕ → Stage
 walked l m parties s = walkM l parties (2 * m + parties) (begun (fillM l m parties s))
 
+-- both halves of a graph
 unfoldable pub splitM : Rings → ℕ → ℕ → ℕ → ℕ → List ℕ → List ℕ
 splitM l h₁ h₂ m parties s =
     let t = walked l m parties s in

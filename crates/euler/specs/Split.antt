@@ -7,6 +7,7 @@ use Rattle.words.specs.Basics.{pick, Run, ran, and-then}
 use Rattle.multigraph.specs.Multigraph.{Pair, Graph, add-edge, with-copies}
 use Rattle.euler.specs.Euler.{euler-cycles}
 
+-- both halves of a graph
 pub record Halves : Type 0 where
   pub first-half : Graph
   pub second-half : Graph
@@ -32,6 +33,7 @@ every-other false (x ∷ xs) = every-other true xs
 abbrev pub evens : List Pair → List Pair
 evens c = every-other true c
 
+-- and at places 1, 3, ..
 abbrev pub odds : List Pair → List Pair
 odds c = every-other false c
 
