@@ -1,5 +1,5 @@
--- Half-edges by number: the half-edge 2·e stands at the first end of the pair number e, and 2·e + 1 at its second end. In a
--- list of pairs in which every party has two ends or none, these form circuits. Assumes nothing.
+-- At degree 2, half-edges by number: the half-edge 2·e stands at the first end of the pair number e, and 2·e + 1 at its
+-- second end. In a list of pairs in which every party has two ends or none, these form circuits. Assumes nothing.
 use Prim.Native.Nat.{ℕ, _+_, _*_, _-_, _/_, _%_, _≤_, _<_}
 use mathlib.Core.Path.{_≡_, refl, sym, _∙_, ap}
 use mathlib.Core.Bool.{Bool, true, false}

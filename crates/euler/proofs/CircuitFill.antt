@@ -1,4 +1,5 @@
--- Sifting and filling on words: both halves get the pairs of 2 copies, and every party is told its half-edges. Assumes nothing.
+-- At degree 2, sifting and filling on words: both halves get the pairs of 2 copies, and every party is told its half-edges.
+-- Assumes nothing.
 use Prim.Native.Nat.{ℕ, zero, suc, _+_, _*_, _%_, _≤_, _<_}
 use mathlib.Core.Path.{_≡_, refl, sym, _∙_, ap, subst}
 use mathlib.Core.Bool.{Bool}

@@ -1,4 +1,4 @@
--- Pair numbers in words: what a half holds. Assumes nothing.
+-- At degree 2, pair numbers in words: what a half holds. Assumes nothing.
 use Prim.Native.Nat.{ℕ, _+_, _*_, _≤_, _<_}
 use mathlib.Core.Path.{_≡_, sym, _∙_}
 use mathlib.Core.List.{List, [], _∷_}

@@ -1,4 +1,5 @@
--- Lists of half-edges: every other of them, their pairs, and what is put before something reversed. Assumes nothing.
+-- At degree 2, lists of half-edges: every other of them, their pairs, and what is put before something reversed. Assumes
+-- nothing.
 use Prim.Native.Nat.{ℕ, zero, suc, _+_, _*_, _-_, _/_, _%_, _<_}
 use mathlib.Core.Path.{_≡_, refl, sym, _∙_, ap}
 use mathlib.Core.Bool.{Bool, true, false}

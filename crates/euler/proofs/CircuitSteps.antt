@@ -1,5 +1,5 @@
--- A circuit on words: each step deals the pair of its half-edge and goes on by the other half-edge of the party it leads to, and
--- after as many steps as the circuit is long it is back. Assumes nothing.
+-- At degree 2, a circuit on words: each step deals the pair of its half-edge and goes on by the other half-edge of the party
+-- it leads to, and after as many steps as the circuit is long it is back. Assumes nothing.
 use Prim.Native.Nat.{ℕ, zero, suc, _+_, _*_, _-_, _/_, _%_, _≤_, _<_}
 use mathlib.Core.Path.{_≡_, refl, sym, _∙_, ap, subst}
 use mathlib.Core.Bool.{Bool, true, false}

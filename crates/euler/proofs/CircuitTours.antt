@@ -1,5 +1,5 @@
--- The cycles of pairs in which every party has at most two ends are circuits: from each party in number order that has pairs
--- left, the circuit from its last half-edge. Assumes nothing.
+-- At degree 2, the cycles of pairs in which every party has at most two ends are circuits: from each party in number order
+-- that has pairs left, the circuit from its last half-edge. Assumes nothing.
 use Prim.Native.Nat.{ℕ, suc, _+_, _*_, _%_, _<_}
 use mathlib.Core.Path.{_≡_, refl, sym, _∙_, ap, subst}
 use mathlib.Core.Bool.{Bool, true, false}

@@ -1,6 +1,6 @@
--- Circuits. In a list of pairs in which every party has at most two ends, a trail that goes on from a half-edge goes on in one
--- way only: from the party to which it leads by that party's other half-edge. So a closed trail from a party is its circuit.
--- Assumes nothing.
+-- Circuits, at degree 2. In a list of pairs in which every party has at most two ends, a trail that goes on from a half-edge
+-- goes on in one way only: from the party to which it leads by that party's other half-edge. So a closed trail from a party
+-- is its circuit. Assumes nothing.
 use Prim.Native.Nat.{ℕ, zero, suc, _+_, _*_, _-_, _%_, _≤_, _<_}
 use mathlib.Core.Path.{_≡_, refl, sym, _∙_, ap, subst}
 use mathlib.Core.List.{List, [], _∷_, _++_, map, append-assoc}

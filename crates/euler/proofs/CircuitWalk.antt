@@ -1,4 +1,4 @@
--- The circuits from all parties on words, against the definition's tour. Assumes nothing.
+-- At degree 2, the circuits from all parties on words, against the definition's tour. Assumes nothing.
 use Prim.Native.Nat.{ℕ, zero, suc, _+_, _*_, _-_, _/_, _%_, _≤_, _<_}
 use mathlib.Core.Path.{_≡_, refl, sym, _∙_, ap, subst}
 use mathlib.Core.Bool.{Bool, true, false}

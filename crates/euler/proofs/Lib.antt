@@ -1,3 +1,4 @@
+-- the definition's own laws: `euler_cycles`, then `rbmg_split_into_two`
 pub mod Taken
 pub mod Trail
 pub mod Walks
@@ -5,18 +6,26 @@ pub mod Tours
 pub mod EulerLaws
 pub mod Dealing
 pub mod SplitLaws
-pub mod ModelLaws
+-- the definition's walks as one, and its pairs by their places
 pub mod Straight
 pub mod Places
+-- the models' cases, for the code's proofs
+pub mod ModelLaws
+-- the graph in words
+pub mod StoredGraphs
+pub mod HalfLaws
+pub mod Grounds
+-- the rings in words: nodes, where they lie, and how they are filled
 pub mod Chains
 pub mod Nodes
 pub mod Bases
 pub mod Asides
-pub mod Notes
 pub mod Ringed
+pub mod Columns
+pub mod Notes
 pub mod Sifting
 pub mod Filling
-pub mod Columns
+-- the walk on words, against the definition's
 pub mod Following
 pub mod Stacks
 pub mod Live
@@ -24,13 +33,12 @@ pub mod Taking
 pub mod Backing
 pub mod StepRoom
 pub mod Stepping
-pub mod HalfLaws
+-- both halves on words
 pub mod Parities
-pub mod StoredGraphs
 pub mod Pushes
 pub mod HalfWords
-pub mod Grounds
 pub mod SplitWords
+-- the split of a graph of degree 2, circuit by circuit
 pub mod Leading
 pub mod CircuitTrails
 pub mod CircuitTours
@@ -38,10 +46,10 @@ pub mod CircuitEnds
 pub mod CircuitModelLaws
 pub mod CircuitHeld
 pub mod CircuitFill
+pub mod CircuitGraph
 pub mod CircuitSteps
 pub mod CircuitLists
 pub mod CircuitWalk
-pub mod CircuitGraph
 pub mod CircuitGrounds
 pub mod CircuitBegun
 pub mod CircuitSplit

@@ -1,4 +1,5 @@
--- What the functions that read and write without a test ask of the words: that each place they touch is one. Assumes nothing.
+-- What the functions of rings.rt, walking.rt, halves.rt and lib.rt, which read and write without a test, ask of the words: that
+-- each place they touch is one. Assumes nothing.
 use Prim.Native.Nat.{ℕ, zero, suc, _+_, _*_, _-_, _/_, _<_, _≤_}
 use mathlib.Core.Path.{_≡_}
 use mathlib.Core.List.{List}

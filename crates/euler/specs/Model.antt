@@ -1,4 +1,5 @@
--- The functions of the split on the list of words, each with the same steps in the same order. Assumes nothing.
+-- The functions of rings.rt, walking.rt, halves.rt and lib.rt on the list of words, each with the same steps in the same order.
+-- Assumes nothing.
 use Prim.Native.Nat.{ℕ, zero, suc, _+_, _*_, _-_, _/_, _%_, _<_, _≤_}
 use mathlib.Core.List.{List}
 use lib.Dec.{eqb, ltb, leb}

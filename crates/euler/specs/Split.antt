@@ -1,4 +1,5 @@
--- Module 4 of document 01, `rbmg_split_into_two`. Assumes nothing.
+-- Module 4 of document 01, `rbmg_split_into_two`: of each pair half the copies to each half; the odd ones form a rest, whose
+-- cycles are dealt, place by place, to the one half and the other. Assumes nothing.
 use Prim.Native.Nat.{ℕ, _/_, _%_}
 use mathlib.Core.Bool.{Bool, true, false}
 use mathlib.Core.List.{List, [], _∷_}

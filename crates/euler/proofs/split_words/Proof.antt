@@ -1,3 +1,4 @@
+-- `split_words` meets its contract: rings, walk and both halves ask what the split asks, and are the model. Assumes nothing.
 use native.Mathlib.Omega.{arith}
 use Prim.Native.Nat.{_+_, _*_}
 use mathlib.Core.Path.{sym, subst}

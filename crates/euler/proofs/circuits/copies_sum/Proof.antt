@@ -1,3 +1,4 @@
+-- `copies_sum` meets its contract: the sum counts on entry by entry, and more entries than parties give 0. Assumes nothing.
 use native.Mathlib.Omega.{arith}
 use Prim.Native.Nat.{ℕ, _+_, _*_, _-_, _≤_}
 use mathlib.Core.Path.{_≡_, refl, sym, _∙_, ap}

@@ -1,3 +1,4 @@
+-- `split_two` meets its contract: each call asks what the split asks, and all of them together are the model. Assumes nothing.
 use native.Mathlib.Omega.{arith}
 use mathlib.Core.Path.{sym, _∙_, ap, subst}
 use mathlib.Core.List.{List}

@@ -1,3 +1,4 @@
+-- `two_circuit` meets its contract: the loop ends back at its first half-edge, or after `bound` turns; the rest of the circuit is the same from each turn on. Assumes nothing.
 use native.Mathlib.Omega.{arith}
 use Prim.Native.Nat.{suc, _+_, _-_, _≤_, _<_}
 use mathlib.Core.Path.{_≡_, refl, sym, _∙_, subst}

@@ -1,3 +1,4 @@
+-- `two_fill` meets its contract: from the last noted pair down, what is left to note is the same from each turn on. Assumes nothing.
 use native.Mathlib.Omega.{arith}
 use Prim.Native.Nat.{ℕ, _-_, _≤_}
 use mathlib.Core.Path.{_≡_, refl, sym, _∙_, ap, subst}

@@ -1,3 +1,4 @@
+-- `two_from` meets its contract: a party without a mark is passed, and any other has its circuit gone. Assumes nothing.
 use native.Mathlib.Omega.{arith}
 use mathlib.Core.Path.{_∙_}
 use Rattle.euler.proofs.CircuitModelLaws.{two-from-none, two-from-some, two-froms-some}

@@ -1,3 +1,4 @@
+-- `two_note` meets its contract: the pair's end is read from the table, and its party's two words are written. Assumes nothing.
 use native.Mathlib.Omega.{arith}
 use Prim.Native.Nat.{_+_, _*_}
 use mathlib.Core.Path.{_≡_, _∙_, ap}

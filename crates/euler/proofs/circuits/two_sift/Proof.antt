@@ -1,3 +1,4 @@
+-- `two_sift` meets its contract: both halves and the note are written in any case, and the counts go on by the copies. Assumes nothing.
 use native.Mathlib.Omega.{arith}
 use Rattle.euler.proofs.CircuitModelLaws.{two-sift-so}
 use borrow.Author.Needs.{needs}

@@ -1,3 +1,4 @@
+-- `two_sift_all` meets its contract: entry by entry, with neither count above the entry. Assumes nothing.
 use native.Mathlib.Omega.{arith}
 use Prim.Native.Nat.{ℕ, _-_, _≤_}
 use mathlib.Core.Path.{_≡_, refl, sym, _∙_, ap}

@@ -1,3 +1,4 @@
+-- `two_step` meets its contract: the pair is written, the party to which it leads visited, and its other half-edge comes by the sum. Assumes nothing.
 use native.Mathlib.Omega.{arith}
 use Rattle.euler.proofs.CircuitModelLaws.{two-step-so, two-step-party}
 use borrow.Author.Needs.{needs}

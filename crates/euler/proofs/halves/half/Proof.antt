@@ -1,3 +1,4 @@
+-- `half` meets its contract: entries, singles and head are the model. Assumes nothing.
 use native.Mathlib.Omega.{arith}
 use Prim.Native.Nat.{_+_, _-_, _/_}
 use mathlib.Core.Path.{sym, subst}

@@ -1,3 +1,4 @@
+-- `half_entries` meets its contract: entry by entry, with the place never above the entry. Assumes nothing.
 use Rattle.euler.proofs.ModelLaws.{entries-more, entry-count}
 use Rattle.euler.specs.Model.{Counted, entriesM, entryM}
 use lib.ListN.{length}

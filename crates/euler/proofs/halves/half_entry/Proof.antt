@@ -1,3 +1,4 @@
+-- `half_entry` meets its contract: the entry is written in any case, and the place goes on by the copies. Assumes nothing.
 use mathlib.Core.Path.{refl}
 use Rattle.euler.proofs.ModelLaws.{entry-so}
 use borrow.Author.Needs.{needs}

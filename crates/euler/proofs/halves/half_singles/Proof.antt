@@ -1,3 +1,4 @@
+-- `half_singles` meets its contract: every other written place, with the place never above their number. Assumes nothing.
 use Rattle.euler.proofs.ModelLaws.{singles-more, single-count}
 use Rattle.euler.specs.Model.{Counted, singlesM, singleM}
 use lib.ListN.{length}

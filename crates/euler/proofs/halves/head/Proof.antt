@@ -1,3 +1,4 @@
+-- `head` meets its contract: two words. Assumes nothing.
 use Prim.Native.Nat.{ℕ, _+_}
 use mathlib.Core.Path.{_∙_, ap}
 use mathlib.Core.List.{List}

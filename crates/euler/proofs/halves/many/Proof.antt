@@ -1,3 +1,4 @@
+-- `many` meets its contract: two cases. Assumes nothing.
 use borrow.Author.Tests.{lt-ltb, le-ltb}
 use native.Mathlib.Omega.{arith}
 use Rattle.euler.proofs.halves.many.Statement.{statement}

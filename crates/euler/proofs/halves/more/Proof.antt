@@ -1,3 +1,4 @@
+-- `more` meets its contract: two cases. Assumes nothing.
 use Prim.Native.Nat.{_+_}
 use borrow.Author.Tests.{eq-eqb, ne-eqb}
 use native.Mathlib.Omega.{arith}

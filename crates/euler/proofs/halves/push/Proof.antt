@@ -1,3 +1,4 @@
+-- `push` meets its contract: two words. Assumes nothing.
 use borrow.Author.Needs.{needs}
 use Rattle.euler.proofs.halves.push.Statement.{statement}
 use Rattle.euler.proofs.halves.push.Tie as tie

@@ -1,3 +1,4 @@
+-- `append` meets its contract: four words of nodes are written, each of which is a place. Assumes nothing.
 use Prim.Native.Nat.{ℕ, _+_, _*_}
 use mathlib.Core.List.{List}
 use mathlib.Core.Path.{_≡_, _∙_, ap}

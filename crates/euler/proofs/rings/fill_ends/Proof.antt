@@ -1,3 +1,4 @@
+-- `fill_ends` meets its contract: from the last noted entry down, what is left to fill is the same from each turn on. Assumes nothing.
 use native.Mathlib.Omega.{arith}
 use Prim.Native.Nat.{ℕ, _-_, _≤_}
 use mathlib.Core.Path.{_≡_, refl, sym, _∙_, ap, subst}

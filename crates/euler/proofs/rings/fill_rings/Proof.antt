@@ -1,3 +1,4 @@
+-- `fill_rings` meets its contract: each call asks what filling asks, and all of them together are the model. Assumes nothing.
 use native.Mathlib.Omega.{arith}
 use mathlib.Core.Path.{sym, subst}
 use Rattle.euler.specs.Bounds.{Sifts-all, Fills-ends}

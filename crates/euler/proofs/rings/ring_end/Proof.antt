@@ -1,3 +1,4 @@
+-- `ring_end` meets its contract: the entry's end is read from the table, its mate is told, and its half-edge is appended. Assumes nothing.
 use native.Mathlib.Omega.{arith}
 use Rattle.euler.proofs.ModelLaws.{ring-so, ring-asks, ring-reads}
 use borrow.Author.Needs.{needs}

@@ -1,3 +1,4 @@
+-- `sift` meets its contract: mark and note are written, and the count goes on by the parity. Assumes nothing.
 use Rattle.euler.proofs.ModelLaws.{sift-so}
 use mathlib.Core.Path.{refl}
 use borrow.Author.Needs.{needs}

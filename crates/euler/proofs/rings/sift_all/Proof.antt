@@ -1,3 +1,4 @@
+-- `sift_all` meets its contract: entry by entry, with the count never above the entry. Assumes nothing.
 use native.Mathlib.Omega.{arith}
 use Prim.Native.Nat.{_-_, _≤_}
 use mathlib.Core.Path.{_≡_, refl, sym, _∙_, ap}

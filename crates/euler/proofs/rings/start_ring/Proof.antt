@@ -1,3 +1,4 @@
+-- `start_ring` meets its contract: two words. Assumes nothing.
 use borrow.Author.Needs.{needs}
 use Rattle.euler.proofs.rings.start_ring.Statement.{statement}
 use Rattle.euler.proofs.rings.start_ring.Tie as tie

@@ -1,3 +1,4 @@
+-- `euler_cycles` meets its contract: a step more each turn, with the numbers small; past the last party further steps change nothing. Assumes nothing.
 use Rattle.words.specs.Basics.{iterate}
 use Rattle.euler.proofs.ModelLaws.{walk-more, walk-rests, small-step}
 use Rattle.euler.specs.Bounds.{Steps}

@@ -1,3 +1,4 @@
+-- `pop` meets its contract: two words. Assumes nothing.
 use Rattle.euler.specs.Model.{popM}
 use borrow.Author.Needs.{needs}
 use Rattle.euler.proofs.walking.pop.Statement.{statement}

@@ -1,3 +1,4 @@
+-- `step_back` meets its contract: the place is written and marked. Assumes nothing.
 use native.Mathlib.Omega.{arith}
 use Rattle.euler.specs.Model.{backM}
 use borrow.Author.Needs.{needs}

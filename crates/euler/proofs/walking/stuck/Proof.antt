@@ -1,3 +1,4 @@
+-- `stuck` meets its contract: two cases. Assumes nothing.
 use native.Mathlib.Omega.{arith}
 use mathlib.Core.Path.{sym, _∙_}
 use Rattle.euler.proofs.ModelLaws.{stuck-backs, stuck-next}

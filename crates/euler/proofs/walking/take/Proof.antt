@@ -1,3 +1,4 @@
+-- `take` meets its contract: the half-edge and its mate go out of their rings, and the place goes on the stack. Assumes nothing.
 use native.Mathlib.Omega.{arith}
 use Prim.Native.Nat.{ℕ}
 use mathlib.Core.List.{List}

@@ -1,3 +1,4 @@
+-- `unlink` meets its contract: two words. Assumes nothing.
 use Rattle.euler.specs.Model.{unlinkM}
 use borrow.Author.Needs.{needs}
 use Rattle.euler.proofs.walking.unlink.Statement.{statement}

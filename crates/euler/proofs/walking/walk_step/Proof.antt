@@ -1,3 +1,4 @@
+-- `walk_step` meets its contract: three cases: past the last party, stuck, or on. Assumes nothing.
 use native.Mathlib.Omega.{arith}
 use Prim.Native.Nat.{_<_}
 use mathlib.Core.Path.{sym, _∙_, ap, subst}
