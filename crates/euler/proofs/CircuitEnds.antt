@@ -16,14 +16,11 @@ use Rattle.multigraph.specs.Multigraph.{Pair, pair}
 use Rattle.multigraph.specs.Regular.{between, pairs-between}
 use Rattle.multigraph.proofs.Ends.{between-self}
 use Rattle.euler.specs.Euler.{take-by, first-pair}
+use Rattle.euler.specs.CircuitModel.{otherM}
 use Rattle.euler.proofs.Taken.{ends, Leads}
 use Rattle.euler.proofs.Places.{keep, keep-append}
 use Rattle.euler.proofs.Leading.{lead, lead-cons, either-lead, or-lead}
 use Rattle.euler.proofs.CircuitTrails.{Two-ended}
-
--- the pair's other half-edge
-abbrev pub mate : ℕ → ℕ
-mate y = y + 1 - 2 * (y % 2)
 
 -- the first and the second of a list
 abbrev pub one-th : List ℕ → ℕ
@@ -217,19 +214,19 @@ module _ (E flag : ℕ → ℕ) (es : List ℕ) where
 
   -- ── all of it ──
 
-  leads-pair : (y : ℕ) → Leads (pr y) (E y) (E (mate y))
+  leads-pair : (y : ℕ) → Leads (pr y) (E y) (E (otherM y))
   leads-pair y =
       elim (ℕ-discrete (y % 2) 0) [
         | yes e ↦
             let a : 2 * (y / 2) ≡ y = omega arith in
-            let b : 2 * (y / 2) + 1 ≡ mate y = omega arith in
+            let b : 2 * (y / 2) + 1 ≡ otherM y = omega arith in
             record { same = λ w s. ap (λ (z : ℕ). w (E z) (E (2 * (y / 2) + 1))) a ∙ ap (λ (z : ℕ). w (E y) (E z)) b }
         | no n ↦
-            let a : 2 * (y / 2) ≡ mate y = omega arith in
+            let a : 2 * (y / 2) ≡ otherM y = omega arith in
             let b : 2 * (y / 2) + 1 ≡ y = omega arith in
             record {
               same = λ w s.
-                  ap (λ (z : ℕ). w (E z) (E (2 * (y / 2) + 1))) a ∙ ap (λ (z : ℕ). w (E (mate y)) (E z)) b ∙ s (E (mate y)) (E y);
+                  ap (λ (z : ℕ). w (E z) (E (2 * (y / 2) + 1))) a ∙ ap (λ (z : ℕ). w (E (otherM y)) (E z)) b ∙ s (E (otherM y)) (E y);
             }
       ]
 
@@ -296,14 +293,14 @@ module _ (E flag : ℕ → ℕ) (es : List ℕ) where
             ]
 
     -- so the pairs form circuits
-    pub two-ended : Two-ended r mate E pr early late Half
+    pub two-ended : Two-ended r otherM E pr early late Half
     unfolding count
     two-ended =
         record {
           few = t .few;
-          mate-half = λ x i. let e : mate x / 2 ≡ x / 2 = omega arith in rw e i;
+          mate-half = λ x i. let e : otherM x / 2 ≡ x / 2 = omega arith in rw e i;
           mate-mate = λ x i. omega arith;
-          mate-pair = λ x i. let e : mate x / 2 ≡ x / 2 = omega arith in ap pn e;
+          mate-pair = λ x i. let e : otherM x / 2 ≡ x / 2 = omega arith in ap pn e;
           leads = λ x i. leads-pair x;
           one-of = λ x i.
               let c : 0 < is x (early (E x)) + is x (late (E x)) =

@@ -16,12 +16,12 @@ use Rattle.words.specs.Frames.{Keeps}
 use Rattle.words.proofs.Frames.{here, away, length-put, keeps-refl, keeps-then-put}
 use Rattle.euler.specs.declared.circuits.Two.{Two}
 use Rattle.euler.specs.Model.{manyM}
-use Rattle.euler.specs.CircuitModel.{Apart-so-far, singleM, twoStartM, twoSiftM, twoSiftAllM, halfEdgeM, twoNoteM, twoFillM}
+use Rattle.euler.specs.CircuitModel.{Apart-so-far, pushOneM, twoStartM, twoSiftM, twoSiftAllM, halfEdgeM, twoNoteM, twoFillM}
 use Rattle.euler.specs.CircuitBounds.{Two-notes, Two-fills}
 use Rattle.euler.proofs.Places.{keep, keep-yes, keep-no, keep-all, keep-length, descend, descend-below, descend-length}
-use Rattle.euler.proofs.CircuitHeld.{Held, held-same, single-away, held-more}
+use Rattle.euler.proofs.CircuitHeld.{Held, held-same, push-one-away, held-more}
 use Rattle.euler.proofs.Notes.{Noted, noted-same}
-use Rattle.euler.proofs.CircuitModelLaws.{single-length}
+use Rattle.euler.proofs.CircuitModelLaws.{push-one-length}
 
 -- one entry sifted, by what is read
 sift-is :
@@ -29,7 +29,7 @@ sift-is :
     word (t .words) (l .g + 3 + 2 * j) ≡ c → t .sifted .even ≡ p → t .sifted .odd ≡ q →
     twoSiftM l t j
     ≡ record {
-      words = put-word (singleM h (singleM f (t .words) p e) p e) (l .notes + q) e;
+      words = put-word (pushOneM h (pushOneM f (t .words) p e) p e) (l .notes + q) e;
       sifted = record { even = p + manyM c; odd = q + c % 2 };
     }
 unfolding twoSiftM
@@ -146,16 +146,16 @@ module _ {l : Two} {N m k u : ℕ} {s₀ : List ℕ} (g : Ground l N m k u s₀)
       let eq : t .sifted .odd ≡ q = h .odd in
       let pb : p ≤ j = those-length (λ c. leb 2 c) s₀ (l .g) j in
       let qb : q ≤ j = those-length (λ c. eqb (c % 2) 1) s₀ (l .g) j in
-      let f : List ℕ = singleM u s p e in
-      let f₂ : List ℕ = singleM (u + 2 * k) f p e in
+      let f : List ℕ = pushOneM u s p e in
+      let f₂ : List ℕ = pushOneM (u + 2 * k) f p e in
       let w : List ℕ = put-word f₂ (l .notes + q) e in
-      let lf : length f ≡ length s = single-length u s p e in
-      let lf₂ : length f₂ ≡ length f = single-length (u + 2 * k) f p e in
+      let lf : length f ≡ length s = push-one-length u s p e in
+      let lf₂ : length f₂ ≡ length f = push-one-length (u + 2 * k) f p e in
       let lw : length w ≡ length s₀ = length-put f₂ (l .notes + q) e ∙ lf₂ ∙ lf ∙ h .keeps .len in
       let whole : twoSiftM l t j ≡ record { words = w; sifted = record { even = p + manyM (C j); odd = q + C j % 2 } } =
       sift-is l t j u (u + 2 * k) e (C j) p q (g .first) (g .second) en ec ep eq in
       let to-first : (a : ℕ) → a < u + 2 * k → word w a ≡ word f a =
-      λ a lt. away f₂ (l .notes + q) a e (λ x. omega (arith, g .notes)) ∙ single-away (u + 2 * k) f p e a (λ x. omega arith) (λ x. omega arith) in
+      λ a lt. away f₂ (l .notes + q) a e (λ x. omega (arith, g .notes)) ∙ push-one-away (u + 2 * k) f p e a (λ x. omega arith) (λ x. omega arith) in
       let to-second : (a : ℕ) → u + 2 * k ≤ a → a < l .notes → word w a ≡ word f₂ a =
       λ a lo hi. away f₂ (l .notes + q) a e (λ x. omega arith) in
       let held₁ : Held w u (e ∷ evens j) =
@@ -163,14 +163,14 @@ module _ {l : Two} {N m k u : ℕ} {s₀ : List ℕ} (g : Ground l N m k u s₀)
       (held-more s u e (evens j) (omega (arith, h .keeps .len, g .room, g .entries)) (num-small j b) (h .first)) in
       let old₂ : Held f (u + 2 * k) (evens j) =
       held-same s f (u + 2 * k) (evens j)
-      (λ a lo hi. single-away u s p e a (λ x. omega (arith, g .entries)) (λ x. omega (arith, g .entries))) (h .second) in
+      (λ a lo hi. push-one-away u s p e a (λ x. omega (arith, g .entries)) (λ x. omega (arith, g .entries))) (h .second) in
       let held₂ : Held w (u + 2 * k) (e ∷ evens j) =
       held-same f₂ w (u + 2 * k) (e ∷ evens j) (λ a lo hi. to-second a (omega arith) (omega (arith, g .notes, g .entries)))
       (held-more f (u + 2 * k) e (evens j) (omega (arith, lf, h .keeps .len, g .room, g .entries)) (num-small j b) old₂) in
       let far : (a : ℕ) → u + 4 * k ≤ a → word f₂ a ≡ word s a =
       λ a lo.
-      single-away (u + 2 * k) f p e a (λ x. omega (arith, g .entries)) (λ x. omega (arith, g .entries))
-      ∙ single-away u s p e a (λ x. omega (arith, g .entries)) (λ x. omega (arith, g .entries)) in
+      push-one-away (u + 2 * k) f p e a (λ x. omega (arith, g .entries)) (λ x. omega (arith, g .entries))
+      ∙ push-one-away u s p e a (λ x. omega (arith, g .entries)) (λ x. omega (arith, g .entries)) in
       let noted' : Noted (λ i. l .notes + i) w (e ∷ odds j) = (
         here f₂ (l .notes + q) e (omega (arith, lf₂, lf, h .keeps .len, g .notes, g .room, g .entries)) (num-small j b),
         noted-same (λ i. l .notes + i) s w (odds j)
@@ -180,7 +180,7 @@ module _ {l : Two} {N m k u : ℕ} {s₀ : List ℕ} (g : Ground l N m k u s₀)
       record {
         len = lw;
         same = λ a lt.
-            to-first a (omega arith) ∙ single-away u s p e a (λ x. omega arith) (λ x. omega arith) ∙ h .keeps .same a lt;
+            to-first a (omega arith) ∙ push-one-away u s p e a (λ x. omega arith) (λ x. omega arith) ∙ h .keeps .same a lt;
       } in
       let parties' : (a : ℕ) → l .b ≤ a → a < l .notes → word w a ≡ word s₁ a =
       λ a lo hi. to-second a (omega (arith, g .parties)) hi ∙ far a (omega (arith, g .parties)) ∙ h .parties a lo hi in

@@ -7,7 +7,7 @@ use lib.ListN.{length}
 use Rattle.words.specs.Words.{word, put-word}
 use Rattle.words.proofs.Frames.{here, away, length-put}
 use Rattle.euler.specs.Model.{headM}
-use Rattle.euler.specs.CircuitModel.{singleM}
+use Rattle.euler.specs.CircuitModel.{pushOneM}
 use Rattle.euler.proofs.Bases.{away2}
 
 -- the half at h holds one copy each of the pairs es, the last first
@@ -27,23 +27,23 @@ held-same s t h (e ∷ es) f k = (
 )
 
 -- a word that a pair written to a half passes by
-pub single-away :
-    (h : ℕ) (s : List ℕ) (at e a : ℕ) → (a ≡ h + 2 + 2 * at → ⊥) → (a ≡ h + 3 + 2 * at → ⊥) → word (singleM h s at e) a ≡ word s a
-single-away h s at e a p q =
+pub push-one-away :
+    (h : ℕ) (s : List ℕ) (at e a : ℕ) → (a ≡ h + 2 + 2 * at → ⊥) → (a ≡ h + 3 + 2 * at → ⊥) → word (pushOneM h s at e) a ≡ word s a
+push-one-away h s at e a p q =
     away2 s (h + 2 + 2 * at) e (h + 3 + 2 * at) 1 a p q
 
 -- one pair more
 pub held-more :
     (s : List ℕ) (h e : ℕ) (es : List ℕ) → h + 3 + 2 * length es < length s → e < 4294967296 → Held s h es →
-    Held (singleM h s (length es) e) h (e ∷ es)
+    Held (pushOneM h s (length es) e) h (e ∷ es)
 held-more s h e es b f k =
     let t : List ℕ = put-word s (h + 2 + 2 * length es) e in
     let len : length t ≡ length s = length-put s (h + 2 + 2 * length es) e in (
       away t (h + 3 + 2 * length es) (h + 2 + 2 * length es) 1 (λ x. omega arith)
           ∙ here s (h + 2 + 2 * length es) e (omega arith) f,
       here t (h + 3 + 2 * length es) 1 (omega arith) (omega arith),
-      held-same s (singleM h s (length es) e) h es
-          (λ a lo hi. single-away h s (length es) e a (λ x. omega arith) (λ x. omega arith)) k,
+      held-same s (pushOneM h s (length es) e) h es
+          (λ a lo hi. push-one-away h s (length es) e a (λ x. omega arith) (λ x. omega arith)) k,
     )
 
 -- ── a half with its head ──

@@ -15,7 +15,7 @@ use Rattle.words.proofs.Frames.{length-put}
 use Rattle.euler.specs.declared.circuits.Two.{Two}
 use Rattle.euler.specs.declared.circuits.Sifted.{Sifted}
 use Rattle.euler.specs.Model.{manyM, headM}
-use Rattle.euler.specs.CircuitModel.{Told, Apart-so-far, singleM, twoStartM, twoSiftM, twoSiftAllM, twoNoteM, twoFillM, otherM, twoStepM, twoPairM, twoCircuitM, twoFromM, twoWalkM, twoFilledM, splitTwoM, copiesSumM, fewSumM}
+use Rattle.euler.specs.CircuitModel.{Told, Apart-so-far, pushOneM, twoStartM, twoSiftM, twoSiftAllM, twoNoteM, twoFillM, otherM, twoStepM, twoPairM, twoCircuitM, twoFromM, twoWalkM, twoFilledM, splitTwoM, copiesSumM, fewSumM}
 use Rattle.euler.specs.CircuitBounds.{Two-notes, Two-fills, Two-steps, Two-circuits, Two-froms, Two-walks, Two-splits}
 
 -- one party more
@@ -26,15 +26,15 @@ unfolding twoStartM
 two-start-more l v s = rw add-one
 
 -- a pair written to a half leaves the length
-pub single-length : (h : ℕ) (s : List ℕ) (at e : ℕ) → length (singleM h s at e) ≡ length s
-single-length h s at e = length-put (put-word s (h + 2 + 2 * at) e) (h + 3 + 2 * at) 1 ∙ length-put s (h + 2 + 2 * at) e
+pub push-one-length : (h : ℕ) (s : List ℕ) (at e : ℕ) → length (pushOneM h s at e) ≡ length s
+push-one-length h s at e = length-put (put-word s (h + 2 + 2 * at) e) (h + 3 + 2 * at) 1 ∙ length-put s (h + 2 + 2 * at) e
 
 -- ── sifting ──
 
 -- an entry sifted, from what the calls give
 pub two-sift-so :
     (l : Two) (s : List ℕ) (n : Sifted) (i : ℕ) {e c more : ℕ} {t u w : List ℕ} → e ≡ word s (l .g + 2 + 2 * i) →
-    c ≡ word s (l .g + 3 + 2 * i) → t ≡ singleM (l .first) s (n .even) e → u ≡ singleM (l .second) t (n .even) e →
+    c ≡ word s (l .g + 3 + 2 * i) → t ≡ pushOneM (l .first) s (n .even) e → u ≡ pushOneM (l .second) t (n .even) e →
     w ≡ put-word u (l .notes + n .odd) e → more ≡ manyM c →
     _≡_ {A = Apart-so-far}
     (record { words = w; sifted = record { even = n .even + more; odd = n .odd + c % 2 } })
@@ -102,7 +102,7 @@ two-fills-first l side (suc k) s h f = let e : suc k - 1 ≡ k = omega arith in 
 
 -- a step, from what the calls give
 pub two-step-so :
-    (l : Two) (h : ℕ) (s : List ℕ) (at y : ℕ) {v sum : ℕ} {t u : List ℕ} → t ≡ singleM h s at (y / 2) →
+    (l : Two) (h : ℕ) (s : List ℕ) (at y : ℕ) {v sum : ℕ} {t u : List ℕ} → t ≡ pushOneM h s at (y / 2) →
     v ≡ word t (l .ends + 2 * (y / 2) + (1 - y % 2)) → sum ≡ word t (l .b + 2 * v + 1) → u ≡ put-word t (l .b + 2 * v) 0 →
     _≡_ {A = Told}
     (record { words = u; number = (sum + 4294967296 - otherM y) % 4294967296 })
@@ -113,12 +113,12 @@ two-step-so l h s at y {v = v} {t = t} et ev es eu =
 
 -- the words of the party to which it leads are places
 pub two-step-party :
-    {l : Two} {h : ℕ} {s : List ℕ} {at y v : ℕ} {t : List ℕ} → t ≡ singleM h s at (y / 2) →
+    {l : Two} {h : ℕ} {s : List ℕ} {at y v : ℕ} {t : List ℕ} → t ≡ pushOneM h s at (y / 2) →
     v ≡ word t (l .ends + 2 * (y / 2) + (1 - y % 2)) → Two-steps l h s at y → l .b + 2 * v + 1 < length t
 two-step-party {l = l} {h = h} {s = s} {at = at} {y = y} {v = v} {t = t} et ev k =
     let ev' : v ≡ word t (l .ends + otherM y) = ev ∙ ap (λ (x : ℕ). word t x) (omega arith) in
-    let e : v ≡ word (singleM h s at (y / 2)) (l .ends + otherM y) = rw (← et) ev' in
-    rw e (omega (arith, k .party, ap length et, single-length h s at (y / 2)))
+    let e : v ≡ word (pushOneM h s at (y / 2)) (l .ends + otherM y) = rw (← et) ev' in
+    rw e (omega (arith, k .party, ap length et, push-one-length h s at (y / 2)))
 
 -- two steps
 pub two-pair-so :

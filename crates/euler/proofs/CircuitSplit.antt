@@ -19,7 +19,7 @@ use Rattle.euler.specs.Euler.{Tour}
 use Rattle.euler.specs.Split.{add-halves, rest, every-other, add-pairs, rbmg-split-into-two}
 use Rattle.euler.specs.Room.{Splits, Numbers-from, Halves-stored}
 use Rattle.euler.specs.Model.{headM}
-use Rattle.euler.specs.CircuitModel.{Lies, Told, Apart-so-far, twoFillM, twoFilledM, twoWalkM, splitTwoM, copiesSumM, fewSumM, two-laid}
+use Rattle.euler.specs.CircuitModel.{Lies, Told, Apart-so-far, twoFillM, twoFilledM, twoWalkM, splitTwoM, copiesSumM, fewSumM, two-laid, otherM}
 use Rattle.euler.specs.CircuitBounds.{Two-fills, Two-walks, Two-splits}
 use Rattle.euler.proofs.Trail.{aslant}
 use Rattle.euler.proofs.Straight.{along, along-total, split-along}
@@ -196,7 +196,7 @@ module _ {s : List ℕ} {u table graph n width : ℕ} (q : Splits s u table grap
         record {
           tour = record { cycles = []; left = reverse r };
           ordered =
-              Tours.begun r Ends.mate E (Ends.pr E flag es) (Ends.early E flag es) (Ends.late E flag es) (Ends.Half E flag es)
+              Tours.begun r otherM E (Ends.pr E flag es) (Ends.early E flag es) (Ends.late E flag es) (Ends.Half E flag es)
               (Steps.ended ground flag r two) (q .side) slant (two .even) (Ends.first-is E flag es r two);
           firsts = ps;
           seconds = ps;

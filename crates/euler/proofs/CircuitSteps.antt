@@ -17,15 +17,15 @@ use Rattle.words.proofs.Sums.{is-eq, is-ne, all-counted}
 use Rattle.words.proofs.Frames.{here, away, length-put}
 use Rattle.multigraph.specs.Multigraph.{Pair}
 use Rattle.euler.specs.declared.circuits.Two.{Two}
-use Rattle.euler.specs.CircuitModel.{Told, singleM, otherM, twoStepM, twoPairM}
+use Rattle.euler.specs.CircuitModel.{Told, pushOneM, otherM, twoStepM, twoPairM}
 use Rattle.euler.specs.CircuitBounds.{Two-steps}
 use Rattle.euler.proofs.Taken.{ends}
 use Rattle.euler.proofs.CircuitTrails as Trails
 use Rattle.euler.proofs.CircuitEnds as Ends
 use Rattle.euler.proofs.CircuitFill as Fill
-use Rattle.euler.proofs.CircuitHeld.{Held, held-same, held-more, single-away}
+use Rattle.euler.proofs.CircuitHeld.{Held, held-same, held-more, push-one-away}
 use Rattle.euler.proofs.CircuitFill.{Ground}
-use Rattle.euler.proofs.CircuitModelLaws.{single-length}
+use Rattle.euler.proofs.CircuitModelLaws.{push-one-length}
 
 -- twice
 unfoldable pub double : ℕ → ℕ
@@ -56,11 +56,11 @@ module _ {l : Two} {N m k u : ℕ} {s₀ : List ℕ} (g : Ground l N m k u s₀)
 
   -- the party to which a half-edge leads
   abbrev pub leads-to : ℕ → ℕ
-  leads-to y = E (Ends.mate y)
+  leads-to y = E (otherM y)
 
   -- the half-edge that goes on from there
   abbrev pub next : ℕ → ℕ
-  next y = Trails.next r Ends.mate E (Ends.pr E flag es) early late Half y
+  next y = Trails.next r otherM E (Ends.pr E flag es) early late Half y
 
   -- the marks with those of visited parties wiped out
   abbrev pub wiped : ℕ → (ℕ → ℕ) → ℕ → ℕ
@@ -109,7 +109,7 @@ module _ {l : Two} {N m k u : ℕ} {s₀ : List ℕ} (g : Ground l N m k u s₀)
 
   module _ (two : Ends.Twos E flag es r) where
     -- the circuits' law holds of these half-edges
-    pub ended : Trails.Two-ended r Ends.mate E (Ends.pr E flag es) early late Half
+    pub ended : Trails.Two-ended r otherM E (Ends.pr E flag es) early late Half
     ended = Ends.two-ended E flag es r two
 
     -- a half-edge's words are where they should be
@@ -127,7 +127,7 @@ module _ {l : Two} {N m k u : ℕ} {s₀ : List ℕ} (g : Ground l N m k u s₀)
 
     -- the words after the pair of the half-edge y is dealt to the half h and the party to which y leads is visited
     abbrev dealt-to : ℕ → List ℕ → ℕ → ℕ → List ℕ
-    dealt-to h s at y = put-word (singleM h s at (y / 2)) (l .b + 2 * leads-to y) 0
+    dealt-to h s at y = put-word (pushOneM h s at (y / 2)) (l .b + 2 * leads-to y) 0
 
     record Stepped (h : ℕ) (s : List ℕ) (at y : ℕ) : Type 0 where
       fits : Two-steps l h s at y
@@ -136,27 +136,27 @@ module _ {l : Two} {N m k u : ℕ} {s₀ : List ℕ} (g : Ground l N m k u s₀)
       half : Half (next y)
 
     step-words :
-        (h : ℕ) (s : List ℕ) (at y v : ℕ) → word (singleM h s at (y / 2)) (l .ends + otherM y) ≡ v →
-        twoStepM l h s at y .words ≡ put-word (singleM h s at (y / 2)) (l .b + 2 * v) 0
+        (h : ℕ) (s : List ℕ) (at y v : ℕ) → word (pushOneM h s at (y / 2)) (l .ends + otherM y) ≡ v →
+        twoStepM l h s at y .words ≡ put-word (pushOneM h s at (y / 2)) (l .b + 2 * v) 0
     unfolding twoStepM
     step-words h s at y v e = rw e
 
     step-number :
-        (h : ℕ) (s : List ℕ) (at y v sum : ℕ) → word (singleM h s at (y / 2)) (l .ends + otherM y) ≡ v →
-        word (singleM h s at (y / 2)) (l .b + 2 * v + 1) ≡ sum →
+        (h : ℕ) (s : List ℕ) (at y v sum : ℕ) → word (pushOneM h s at (y / 2)) (l .ends + otherM y) ≡ v →
+        word (pushOneM h s at (y / 2)) (l .b + 2 * v + 1) ≡ sum →
         twoStepM l h s at y .number ≡ (sum + 4294967296 - otherM y) % 4294967296
     unfolding twoStepM
     step-number h s at y v sum e f = rw (e, f)
 
-    number-next : (y : ℕ) → Half y → ((early (leads-to y) + late (leads-to y)) % 4294967296 + 4294967296 - Ends.mate y) % 4294967296 ≡ next y
+    number-next : (y : ℕ) → Half y → ((early (leads-to y) + late (leads-to y)) % 4294967296 + 4294967296 - otherM y) % 4294967296 ≡ next y
     unfolding Trails.next
     number-next y i =
         let v : ℕ = leads-to y in
-        let j : Half (Ends.mate y) = ended .mate-half y i in
-        let s : 0 < total (ends v) r = ended .some (Ends.mate y) j in
+        let j : Half (otherM y) = ended .mate-half y i in
+        let s : 0 < total (ends v) r = ended .some (otherM y) j in
         let a : early v < 4294967296 = half-small (early v) (ended .early-half v s .0) in
         let b : late v < 4294967296 = half-small (late v) (ended .late-half v s .0) in
-        other (early v) (late v) (Ends.mate y) a b (ended .one-of (Ends.mate y) j)
+        other (early v) (late v) (otherM y) a b (ended .one-of (otherM y) j)
       where
         other :
             (a b c : ℕ) → a < 4294967296 → b < 4294967296 → (c ≡ a) ⊎ (c ≡ b) →
@@ -168,30 +168,30 @@ module _ {l : Two} {N m k u : ℕ} {s₀ : List ℕ} (g : Ground l N m k u s₀)
         (h : ℕ) (s : List ℕ) (at y a : ℕ) → a < l .b → (a ≡ h + 2 + 2 * at → ⊥) → (a ≡ h + 3 + 2 * at → ⊥) →
         word (dealt-to h s at y) a ≡ word s a
     low-word h s at y a b p q =
-        away (singleM h s at (y / 2)) (l .b + 2 * leads-to y) a 0 (λ z. omega arith) ∙ single-away h s at (y / 2) a p q
+        away (pushOneM h s at (y / 2)) (l .b + 2 * leads-to y) a 0 (λ z. omega arith) ∙ push-one-away h s at (y / 2) a p q
 
     -- a step for the half h, at its place `at`
     module _ (h : ℕ) (ds₁ ds₂ : List ℕ) (M : ℕ → ℕ) (s : List ℕ) (at y : ℕ) (lo : u ≤ h) (hi : h ≤ u + 2 * k) (room : at < m) (q : Going ds₁ ds₂ M s) (i : Half y) where
       abbrev t : List ℕ
-      t = singleM h s at (y / 2)
+      t = pushOneM h s at (y / 2)
 
       -- the parties' words lie above both halves
       high-word : (a : ℕ) → l .b ≤ a → word t a ≡ word s a
       high-word a b =
-          single-away h s at (y / 2) a (λ x. omega (arith, g .parties, g .entries)) (λ x. omega (arith, g .parties, g .entries))
+          push-one-away h s at (y / 2) a (λ x. omega (arith, g .parties, g .entries)) (λ x. omega (arith, g .parties, g .entries))
 
-      led : Fill.Fine g (Ends.mate y)
-      led = fine (Ends.mate y) (ended .mate-half y i)
+      led : Fill.Fine g (otherM y)
+      led = fine (otherM y) (ended .mate-half y i)
 
       stepped : Stepped h s at y
       stepped =
           let v : ℕ = leads-to y in
-          let lt : length t ≡ length s = single-length h s at (y / 2) in
+          let lt : length t ≡ length s = push-one-length h s at (y / 2) in
           let ev : word t (l .ends + otherM y) ≡ v =
-          single-away h s at (y / 2) (l .ends + otherM y) (λ x. omega (arith, led .table)) (λ x. omega (arith, led .table))
+          push-one-away h s at (y / 2) (l .ends + otherM y) (λ x. omega (arith, led .table)) (λ x. omega (arith, led .table))
           ∙ q .keeps .same (l .ends + otherM y) (led .table) in
           let sum : word t (l .b + 2 * v + 1) ≡ (early v + late v) % 4294967296 =
-          high-word (l .b + 2 * v + 1) (omega arith) ∙ q .sums v (led .party) (ended .some (Ends.mate y) (ended .mate-half y i)) in
+          high-word (l .b + 2 * v + 1) (omega arith) ∙ q .sums v (led .party) (ended .some (otherM y) (ended .mate-half y i)) in
           record {
             fits =
                 record {
@@ -201,12 +201,12 @@ module _ {l : Two} {N m k u : ℕ} {s₀ : List ℕ} (g : Ground l N m k u s₀)
                 };
             is-words = step-words h s at y v ev;
             is-next = step-number h s at y v ((early v + late v) % 4294967296) ev sum ∙ number-next y i;
-            half = Trails.next-half r Ends.mate E (Ends.pr E flag es) early late Half ended y i;
+            half = Trails.next-half r otherM E (Ends.pr E flag es) early late Half ended y i;
           }
 
       wiped-marks : (x : ℕ) → x < N → word (dealt-to h s at y) (l .b + 2 * x) ≡ wiped y M x
       wiped-marks x b =
-          let lt : length t ≡ length s = single-length h s at (y / 2) in
+          let lt : length t ≡ length s = push-one-length h s at (y / 2) in
           elim (ℕ-discrete x (leads-to y)) [
             | yes e ↦
                 ap (λ (z : ℕ). word (dealt-to h s at y) (l .b + 2 * z)) e
@@ -227,7 +227,7 @@ module _ {l : Two} {N m k u : ℕ} {s₀ : List ℕ} (g : Ground l N m k u s₀)
           record {
             keeps =
                 record {
-                  len = length-put t (l .b + 2 * leads-to y) 0 ∙ single-length h s at (y / 2) ∙ q .keeps .len;
+                  len = length-put t (l .b + 2 * leads-to y) 0 ∙ push-one-length h s at (y / 2) ∙ q .keeps .len;
                   same = λ a b. low-word h s at y a (omega (arith, g .parties)) (λ z. omega arith) (λ z. omega arith) ∙ q .keeps .same a b;
                 };
             first = first;
@@ -243,8 +243,8 @@ module _ {l : Two} {N m k u : ℕ} {s₀ : List ℕ} (g : Ground l N m k u s₀)
       step-held : (ds : List ℕ) → length ds ≡ at → Held s h ds → Held (dealt-to h s at y) h (y / 2 ∷ ds)
       step-held ds e d =
           subst (λ (n : ℕ). Held (dealt-to h s n y) h (y / 2 ∷ ds)) e
-          (held-same (singleM h s (length ds) (y / 2)) (dealt-to h s (length ds) y) h (y / 2 ∷ ds)
-          (λ a x z. away (singleM h s (length ds) (y / 2)) (l .b + 2 * leads-to y) a 0 (λ w. omega (arith, g .parties, g .entries)))
+          (held-same (pushOneM h s (length ds) (y / 2)) (dealt-to h s (length ds) y) h (y / 2 ∷ ds)
+          (λ a x z. away (pushOneM h s (length ds) (y / 2)) (l .b + 2 * leads-to y) a 0 (λ w. omega (arith, g .parties, g .entries)))
           (held-more s h (y / 2) ds (omega (arith, q .keeps .len, g .room, g .entries)) (omega (arith, half-small y i)) d))
 
     -- two steps

@@ -15,7 +15,7 @@ use Rattle.multigraph.specs.Multigraph.{Pair}
 use Rattle.euler.specs.declared.circuits.Two.{Two}
 use Rattle.euler.specs.Euler.{Tour}
 use Rattle.euler.specs.Split.{every-other}
-use Rattle.euler.specs.CircuitModel.{Told, twoPairM, twoCircuitM, twoFromM, twoWalkM}
+use Rattle.euler.specs.CircuitModel.{Told, twoPairM, twoCircuitM, twoFromM, twoWalkM, otherM}
 use Rattle.euler.specs.CircuitBounds.{Two-circuits, Two-froms, Two-walks}
 use Rattle.euler.proofs.Taken.{ends}
 use Rattle.euler.proofs.Trail.{aslant}
@@ -119,7 +119,7 @@ module _ {l : Two} {N m k u : ℕ} {s₀ : List ℕ} (g : Ground l N m k u s₀)
 
     abbrev Tour-ordered : ℕ → Tour → Type 0
     Tour-ordered v t =
-        Tours.Tour-ordered r Ends.mate E pr early late Half (Steps.ended g flag r two) side slant (two .even)
+        Tours.Tour-ordered r otherM E pr early late Half (Steps.ended g flag r two) side slant (two .even)
         (Ends.first-is E flag es r two) v t
 
     abbrev Num : ℕ → Type 0
@@ -200,22 +200,22 @@ module _ {l : Two} {N m k u : ℕ} {s₀ : List ℕ} (g : Ground l N m k u s₀)
     -- the tour's next party
     abbrev Turned : ℕ → Tour → Type 0
     Turned v t =
-        Tours.Turned r Ends.mate E pr early late Half (Steps.ended g flag r two) side slant (two .even)
+        Tours.Turned r otherM E pr early late Half (Steps.ended g flag r two) side slant (two .even)
         (Ends.first-is E flag es r two) v t
 
     turned : (v : ℕ) (t : Tour) → Tour-ordered v t → Turned v t
     turned v t h =
-        Tours.turned r Ends.mate E pr early late Half (Steps.ended g flag r two) side slant (two .even)
+        Tours.turned r otherM E pr early late Half (Steps.ended g flag r two) side slant (two .even)
         (Ends.first-is E flag es r two) v t h
 
     abbrev Passed : Tour → Tour → Type 0
     Passed t t' =
-        Tours.Passed r Ends.mate E pr early late Half (Steps.ended g flag r two) side slant (two .even)
+        Tours.Passed r otherM E pr early late Half (Steps.ended g flag r two) side slant (two .even)
         (Ends.first-is E flag es r two) t t'
 
     abbrev One-more : ℕ → Tour → Tour → Type 0
     One-more v t t' =
-        Tours.One-more r Ends.mate E pr early late Half (Steps.ended g flag r two) side slant (two .even)
+        Tours.One-more r otherM E pr early late Half (Steps.ended g flag r two) side slant (two .even)
         (Ends.first-is E flag es r two) v t t'
 
     -- what the outer loop needs at the party v

@@ -22,7 +22,7 @@ use Rattle.euler.proofs.Nodes.{Odd, odds, odds-below, odds-falling, odd
 use Rattle.euler.proofs.Bases.{Laid, P, Edge, edge-is, end-below, number-kept, end-kept, side-of}
 use Rattle.euler.proofs.Asides.{Aside, same-lead}
 use Rattle.euler.proofs.Ringed.{Ringed, ringed-same, ringed-more, ringed-appends, started}
-use Rattle.euler.proofs.Sifting.{Sifted, sifted, sifts-on}
+use Rattle.euler.proofs.Sifting.{Sift-done, sift-done, sifts-on}
 use Rattle.euler.proofs.Notes.{Noted, noted-same}
 use Rattle.euler.proofs.Columns.{slot}
 
@@ -262,8 +262,8 @@ module _ {l : Rings} {N m k : ℕ} {s₀ : List ℕ} (g : Laid l N m k s₀) (fl
   begun-is : Rung (λ v. []) begun-words
   begun-is = let r = started g N (omega arith) in record { keeps = r .0; rings = r .1; edges = λ v b. tt }
 
-  noted-is : Sifted g m begun-words noted-words
-  noted-is = sifted g begun-words (begun-is .keeps) m (omega arith)
+  noted-is : Sift-done g m begun-words noted-words
+  noted-is = sift-done g begun-words (begun-is .keeps) m (omega arith)
 
   -- one side of all odd entries
   all-places :

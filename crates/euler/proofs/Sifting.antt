@@ -30,7 +30,7 @@ module _ {l : Rings} {N m k : ℕ} {s₀ : List ℕ} (g : Laid l N m k s₀) whe
   first-odds j = odds C (descend j)
 
   -- after the first j entries, from the words s on
-  pub record Sifted (j : ℕ) (s : List ℕ) (t : Counted) : Type 0 where
+  pub record Sift-done (j : ℕ) (s : List ℕ) (t : Counted) : Type 0 where
     pub same : Same-nodes g s (t .words)
     pub marks : (i : ℕ) → i < j → word (t .words) (l .b + 8 * i + 2) ≡ 0
     pub noted : Noted (slot true l) (t .words) (first-odds j)
@@ -71,10 +71,10 @@ module _ {l : Rings} {N m k : ℕ} {s₀ : List ℕ} (g : Laid l N m k s₀) whe
             h,
       )
 
-  sifted-step :
-      (s : List ℕ) → Keeps (l .b) s₀ s → (j : ℕ) (t : Counted) → j < m → Sifted j s t → Sifted (suc j) s (siftM l t j)
+  sift-step :
+      (s : List ℕ) → Keeps (l .b) s₀ s → (j : ℕ) (t : Counted) → j < m → Sift-done j s t → Sift-done (suc j) s (siftM l t j)
   unfolding siftM descend
-  sifted-step s kept j t b h =
+  sift-step s kept j t b h =
       let w : List ℕ = t .words in
       let jk : j < k = omega (arith, g .entries) in
       let now' : Keeps (l .b) s₀ w = keeps-trans kept (h .same .keeps) in
@@ -108,16 +108,16 @@ module _ {l : Rings} {N m k : ℕ} {s₀ : List ℕ} (g : Laid l N m k s₀) whe
       ]
 
   -- so it is, entry by entry
-  pub sifted : (s : List ℕ) → Keeps (l .b) s₀ s → (j : ℕ) → j ≤ m → Sifted j s (siftAllM l j s)
+  pub sift-done : (s : List ℕ) → Keeps (l .b) s₀ s → (j : ℕ) → j ≤ m → Sift-done j s (siftAllM l j s)
   unfolding siftAllM descend keep
-  sifted s kept zero b =
+  sift-done s kept zero b =
       record {
         same = record { keeps = keeps-refl (l .b) s; afters = λ y n. refl; priors = λ y n. refl };
         marks = λ i c. absurd (omega arith);
         noted = tt;
         counted = refl;
       }
-  sifted s kept (suc j) b = sifted-step s kept j (siftAllM l j s) (omega arith) (sifted s kept j (omega arith))
+  sift-done s kept (suc j) b = sift-step s kept j (siftAllM l j s) (omega arith) (sift-done s kept j (omega arith))
 
   -- every place that the sifting touches is one
   pub sifts-on : (s : List ℕ) → length s ≡ length s₀ → Sifts-all l m s

@@ -7,7 +7,7 @@ use lib.ListN.{length}
 use Rattle.words.specs.Words.{word}
 use Rattle.euler.specs.declared.circuits.Two.{Two}
 use Rattle.euler.specs.declared.circuits.Sifted.{Sifted}
-use Rattle.euler.specs.CircuitModel.{Told, singleM, halfEdgeM, twoNoteM, twoStartM, twoSiftAllM, twoFillM, twoFilledM, otherM, twoStepM, twoPairM, twoWalkM}
+use Rattle.euler.specs.CircuitModel.{Told, pushOneM, halfEdgeM, twoNoteM, twoStartM, twoSiftAllM, twoFillM, twoFilledM, otherM, twoStepM, twoPairM, twoWalkM}
 
 -- entry i can be sifted
 pub record Two-sifts (l : Two) (s : List ℕ) (n : Sifted) (i : ℕ) : Type 0 where
@@ -38,7 +38,7 @@ Two-fills l side (suc j) s = Two-notes l side s j × Two-fills l side j (twoNote
 pub record Two-steps (l : Two) (h : ℕ) (s : List ℕ) (at y : ℕ) : Type 0 where
   pub place : h + 3 + 2 * at < length s
   pub end : l .ends + otherM y < length s
-  pub party : l .b + 2 * word (singleM h s at (y / 2)) (l .ends + otherM y) + 1 < length s
+  pub party : l .b + 2 * word (pushOneM h s at (y / 2)) (l .ends + otherM y) + 1 < length s
 
 -- n times two steps, or fewer
 abbrev pub Two-circuits : Two → ℕ → ℕ → List ℕ → ℕ → ℕ → Type 0

@@ -29,8 +29,8 @@ pub record Apart-so-far : Type 0 where
   pub sifted : Sifted
 
 -- one copy of the pair e at the place `at` of the half h
-abbrev pub singleM : ℕ → List ℕ → ℕ → ℕ → List ℕ
-singleM h s at e = pushM h s at e 1
+abbrev pub pushOneM : ℕ → List ℕ → ℕ → ℕ → List ℕ
+pushOneM h s at e = pushM h s at e 1
 
 -- ── even and odd entries ──
 
@@ -47,7 +47,7 @@ twoSiftM l t i =
     let e = word s (l .g + 2 + 2 * i) in
     let c = word s (l .g + 3 + 2 * i) in
     record {
-      words = put-word (singleM (l .second) (singleM (l .first) s (n .even) e) (n .even) e) (l .notes + n .odd) e;
+      words = put-word (pushOneM (l .second) (pushOneM (l .first) s (n .even) e) (n .even) e) (l .notes + n .odd) e;
       sifted = record { even = n .even + manyM c; odd = n .odd + c % 2 };
     }
 
@@ -83,7 +83,7 @@ otherM y = y + 1 - 2 * (y % 2)
 -- The pair of the half-edge y goes to the half h; the party to which it leads is visited, and its other half-edge is next.
 unfoldable pub twoStepM : Two → ℕ → List ℕ → ℕ → ℕ → Told
 twoStepM l h s at y =
-    let t = singleM h s at (y / 2) in
+    let t = pushOneM h s at (y / 2) in
     let z = l .b + 2 * word t (l .ends + otherM y) in
     record {
       words = put-word t z 0;

@@ -18,7 +18,7 @@ use multigraph::end_of;
 use words::set_word;
 use words::word_at;
 
-// Where the words of a split of a graph of degree two lie: the graph, the table of ends, both halves, two words for each party, and the odd
+// Where the words of such a split lie: the graph, the table of ends, both halves, two words for each party, and the odd
 // pairs' numbers. The half-edge 2·e stands at the first end of the pair number e, and 2·e + 1 at its second end, which stand
 // in the table at ends + 2·e and ends + 2·e + 1. A party's words, at b + 2·v: its last half-edge plus 1, or 0 where it has none
 // or was visited; and the sum of its half-edges, cut to 32 bits, so that of its two the one gives the other.
