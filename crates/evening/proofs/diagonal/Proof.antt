@@ -46,10 +46,10 @@ use Rattle.evening.proofs.Bases.Laws as Bases-T′
 use Rattle.mark.proofs.take.Symbol as take-def
 use Rattle.mark.proofs.take.Symbol.{name as #mark·take}
 use Rattle.mark.proofs.take.Met as take-thm
-use Rattle.evening.proofs.diagonal_at as diagonal-at
-use Rattle.evening.proofs.diagonal_at.Symbol as diagonal-at-def
-use Rattle.evening.proofs.diagonal_at.Symbol.{name as #evening·diagonal-at}
-use Rattle.evening.proofs.diagonal_at.Met as diagonal-at-thm
+use Rattle.evening.proofs.diagonal_places.diagonal_at as diagonal-at
+use Rattle.evening.proofs.diagonal_places.diagonal_at.Symbol as diagonal-at-def
+use Rattle.evening.proofs.diagonal_places.diagonal_at.Symbol.{name as #evening·diagonal-places·diagonal-at}
+use Rattle.evening.proofs.diagonal_places.diagonal_at.Met as diagonal-at-thm
 use Rattle.mark.proofs.give_back.Symbol as give-back-def
 use Rattle.mark.proofs.give_back.Symbol.{name as #mark·give-back}
 use Rattle.mark.proofs.give_back.Met as give-back-thm
@@ -73,7 +73,7 @@ module _ {M : Type 1} (𝓤 : URA M) (H : Heap 𝓤) (A : Atoms 𝓤) (W : Given
   abbrev l : Lent
   l = lent-of 0 κs qs s m
 
-  module _ (C : Calls 𝓤 H) (Λ : Loops 𝓤 H) (fm : FmC 𝓤 H (W .laws) C) (known-take : Triple 𝓤 (C #mark·take) (Take 𝓤 H A mem run)) (known-diagonal-at : Triple 𝓤 (C #evening·diagonal-at) (DiagonalAtC 𝓤 H A mem run)) (known-give-back : Triple 𝓤 (C #mark·give-back) (GiveBack 𝓤 H A mem run)) where
+  module _ (C : Calls 𝓤 H) (Λ : Loops 𝓤 H) (fm : FmC 𝓤 H (W .laws) C) (known-take : Triple 𝓤 (C #mark·take) (Take 𝓤 H A mem run)) (known-diagonal-at : Triple 𝓤 (C #evening·diagonal-places·diagonal-at) (DiagonalAtC 𝓤 H A mem run)) (known-give-back : Triple 𝓤 (C #mark·give-back) (GiveBack 𝓤 H A mem run)) where
     walk : ent 𝓤 (⋆ 𝓤 H A (‵ (mark-own l (m .now)) ∷ ‵ (flft (κs .1 .0) (qs .1 .0)) ∷ ‵ (scratch-own l (s .now)) ∷ ‵ (flft (κs .0) (qs .0)) ∷ raw (toks 𝓤 A 0 (κs .1 .1) (qs .1 .1)) ∷ ‵ (owns (usize ∷ Bases-T.the-row ∷ usize ∷ []) (n, (at, (diag, tt))) (vint w64 n ∷ [], (Bases-T′.lowered at ∷ [], (vint w64 diag ∷ [], tt)))) ∷ []))
         (WpFn 𝓤 H C Λ code.function (scratch-val l ∷ mark-val l ∷ vint w64 n ∷ Bases-T′.lowered at ∷ vint w64 diag ∷ []) (Post 𝓤 H A W 0 unit ps (yes, (yes, (yes, tt))) (diagonal.clauses 𝓤 H A mem run) (at-entry 𝓤 H A W 0 unit ps (yes, (yes, (yes, tt))) (diagonal.clauses 𝓤 H A mem run) κs qs s m (n, (at, (diag, tt))) (vint w64 n ∷ [], (Bases-T′.lowered at ∷ [], (vint w64 diag ∷ [], tt))) tt)))
     walk =
@@ -104,7 +104,7 @@ module _ {M : Type 1} (𝓤 : URA M) (H : Heap 𝓤) (A : Atoms 𝓤) (W : Given
         by ! (leaves 𝓤 H A W 0 unit ps (yes, (yes, (yes, tt))) (diagonal.clauses 𝓤 H A mem run) κs qs s m (n, (at, (diag, tt))) (vint w64 n ∷ [], (Bases-T′.lowered at ∷ [], (vint w64 diag ∷ [], tt))) tt vunit tt ys2 (given-back (m .now .taken) (taken-more (n + n) (m .now))) (tt, (tt, (tt, tt))) le2 (nothing-makes 𝓤 H A W tt _ refl) (shown 𝓤 (p2, refl))))))))))))))))))
 
 diagonal-meets : {M : Type 1} (𝓤 : URA M) (H : Heap 𝓤) (A : Atoms 𝓤) → Given 𝓤 H A → (mem : Memory → SProp 𝓤) (run : Routine → Fun 𝓤) (𝓣 : Tables 𝓤 H)
-    → Triple 𝓤 (𝓣 .C #mark·take) (Take 𝓤 H A mem run) → Triple 𝓤 (𝓣 .C #evening·diagonal-at) (DiagonalAtC 𝓤 H A mem run) → Triple 𝓤 (𝓣 .C #mark·give-back) (GiveBack 𝓤 H A mem run)
+    → Triple 𝓤 (𝓣 .C #mark·take) (Take 𝓤 H A mem run) → Triple 𝓤 (𝓣 .C #evening·diagonal-places·diagonal-at) (DiagonalAtC 𝓤 H A mem run) → Triple 𝓤 (𝓣 .C #mark·give-back) (GiveBack 𝓤 H A mem run)
     → Triple 𝓤 (WpFn 𝓤 H (𝓣 .C) (𝓣 .Λ) code.function) (tripleOf 𝓤 H A diagonal.signature (diagonal.spec 𝓤 H A mem run))
 diagonal-meets 𝓤 H A W mem run 𝓣 known-take known-diagonal-at known-give-back =
     meets 𝓤 H A W 0 unit ps (yes, (yes, (yes, tt))) (diagonal.clauses 𝓤 H A mem run) (λ κs. (uint-vals w64, (LL.vals Bases-T.the-type Bases-T′.the-laws, (uint-vals w64, tt)))) (λ κs. (uint-tells w64, (LL.tells Bases-T.the-type Bases-T′.the-laws, (uint-tells w64, tt)))) ((λ κs x f. refl), ((λ κs x f. refl), ((λ κs x f. refl), tt))) 𝓣 code.function
@@ -117,5 +117,5 @@ diagonal-spec 𝓤 H 𝓜 𝓖 𝓡 =
     (tables 𝓤 H 𝓜 𝓡 code.env .C) (tables 𝓤 H 𝓜 𝓡 code.env .Λ) #evening·diagonal code.function (code.unfolded 𝓤 H 𝓜 𝓡)
     (diagonal-meets 𝓤 H (𝓖 .A) (givenOf 𝓤 H 𝓜 𝓖) (𝓜 .mem) (𝓡 .run) (tablesOf 𝓤 H 𝓜 (tables 𝓤 H 𝓜 𝓡 code.env))
     (cited 𝓤 H (Take 𝓤 H (𝓖 .A) (𝓜 .mem) (𝓡 .run)) 𝓜 𝓡 code.env #mark·take take-def.routine code.calls-mark·take (take-thm.met 𝓤 H 𝓜 𝓖 𝓡))
-    (cited 𝓤 H (DiagonalAtC 𝓤 H (𝓖 .A) (𝓜 .mem) (𝓡 .run)) 𝓜 𝓡 code.env #evening·diagonal-at diagonal-at-def.routine code.calls-evening·diagonal-at (diagonal-at-thm.met 𝓤 H 𝓜 𝓖 𝓡))
+    (cited 𝓤 H (DiagonalAtC 𝓤 H (𝓖 .A) (𝓜 .mem) (𝓡 .run)) 𝓜 𝓡 code.env #evening·diagonal-places·diagonal-at diagonal-at-def.routine code.calls-evening·diagonal-places·diagonal-at (diagonal-at-thm.met 𝓤 H 𝓜 𝓖 𝓡))
     (cited 𝓤 H (GiveBack 𝓤 H (𝓖 .A) (𝓜 .mem) (𝓡 .run)) 𝓜 𝓡 code.env #mark·give-back give-back-def.routine code.calls-mark·give-back (give-back-thm.met 𝓤 H 𝓜 𝓖 𝓡)))

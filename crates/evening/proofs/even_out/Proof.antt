@@ -47,10 +47,10 @@ use Rattle.evening.proofs.Bases.Laws as Bases-T′
 use Rattle.mark.proofs.take.Symbol as take-def
 use Rattle.mark.proofs.take.Symbol.{name as #mark·take}
 use Rattle.mark.proofs.take.Met as take-thm
-use Rattle.evening.proofs.even_at as even-at
-use Rattle.evening.proofs.even_at.Symbol as even-at-def
-use Rattle.evening.proofs.even_at.Symbol.{name as #evening·even-at}
-use Rattle.evening.proofs.even_at.Met as even-at-thm
+use Rattle.evening.proofs.filling.even_at as even-at
+use Rattle.evening.proofs.filling.even_at.Symbol as even-at-def
+use Rattle.evening.proofs.filling.even_at.Symbol.{name as #evening·filling·even-at}
+use Rattle.evening.proofs.filling.even_at.Met as even-at-thm
 use Rattle.mark.proofs.give_back.Symbol as give-back-def
 use Rattle.mark.proofs.give_back.Symbol.{name as #mark·give-back}
 use Rattle.mark.proofs.give_back.Met as give-back-thm
@@ -80,7 +80,7 @@ module _ {M : Type 1} (𝓤 : URA M) (H : Heap 𝓤) (A : Atoms 𝓤) (W : Given
   abbrev qₗ : Share
   qₗ = qs .1 .1 .0
 
-  module _ (C : Calls 𝓤 H) (Λ : Loops 𝓤 H) (fm : FmC 𝓤 H (W .laws) C) (known-take : Triple 𝓤 (C #mark·take) (Take 𝓤 H A mem run)) (known-even-at : Triple 𝓤 (C #evening·even-at) (EvenAtC 𝓤 H A mem run)) (known-give-back : Triple 𝓤 (C #mark·give-back) (GiveBack 𝓤 H A mem run)) where
+  module _ (C : Calls 𝓤 H) (Λ : Loops 𝓤 H) (fm : FmC 𝓤 H (W .laws) C) (known-take : Triple 𝓤 (C #mark·take) (Take 𝓤 H A mem run)) (known-even-at : Triple 𝓤 (C #evening·filling·even-at) (EvenAtC 𝓤 H A mem run)) (known-give-back : Triple 𝓤 (C #mark·give-back) (GiveBack 𝓤 H A mem run)) where
     walk : ent 𝓤 (⋆ 𝓤 H A (‵ (mark-own l (m .now)) ∷ ‵ (flft (κs .1 .0) (qs .1 .0)) ∷ ‵ (scratch-own l (s .now)) ∷ ‵ (flft (κs .0) (qs .0)) ∷ raw (toks 𝓤 A 1 (κs .1 .1) (qs .1 .1)) ∷ ‵ (owns (ShrSlice (named 2) κₗ u16 ∷ usize ∷ usize ∷ Bases-T.the-row ∷ []) (list, (d, (n, (at, tt)))) (slice-vals list, (vint w64 d ∷ [], (vint w64 n ∷ [], (Bases-T′.lowered at ∷ [], tt))))) ∷ []))
         (WpFn 𝓤 H C Λ code.function (scratch-val l ∷ mark-val l ∷ sliceVal (list .ptr) (length (list .now)) ∷ vint w64 d ∷ vint w64 n ∷ Bases-T′.lowered at ∷ []) (Post 𝓤 H A W 1 unit ps (yes, (yes, (yes, (yes, tt)))) (even-out.clauses 𝓤 H A mem run) (at-entry 𝓤 H A W 1 unit ps (yes, (yes, (yes, (yes, tt)))) (even-out.clauses 𝓤 H A mem run) κs qs s m (list, (d, (n, (at, tt)))) (slice-vals list, (vint w64 d ∷ [], (vint w64 n ∷ [], (Bases-T′.lowered at ∷ [], tt)))) tt)))
     walk =
@@ -118,7 +118,7 @@ module _ {M : Type 1} (𝓤 : URA M) (H : Heap 𝓤) (A : Atoms 𝓤) (W : Given
         by ! (leaves 𝓤 H A W 1 unit ps (yes, (yes, (yes, (yes, tt)))) (even-out.clauses 𝓤 H A mem run) κs qs s m (list, (d, (n, (at, tt)))) (slice-vals list, (vint w64 d ∷ [], (vint w64 n ∷ [], (Bases-T′.lowered at ∷ [], tt)))) tt vunit tt ys2 (given-back (m .now .taken) (taken-more ((n + n) + (d * (n + n))) (m .now))) (tt, (tt, (tt, (tt, tt)))) le2 (nothing-makes 𝓤 H A W tt _ refl) (shown 𝓤 (p2, refl))))))))))))))))))))))
 
 even-out-meets : {M : Type 1} (𝓤 : URA M) (H : Heap 𝓤) (A : Atoms 𝓤) → Given 𝓤 H A → (mem : Memory → SProp 𝓤) (run : Routine → Fun 𝓤) (𝓣 : Tables 𝓤 H)
-    → Triple 𝓤 (𝓣 .C #mark·take) (Take 𝓤 H A mem run) → Triple 𝓤 (𝓣 .C #evening·even-at) (EvenAtC 𝓤 H A mem run) → Triple 𝓤 (𝓣 .C #mark·give-back) (GiveBack 𝓤 H A mem run)
+    → Triple 𝓤 (𝓣 .C #mark·take) (Take 𝓤 H A mem run) → Triple 𝓤 (𝓣 .C #evening·filling·even-at) (EvenAtC 𝓤 H A mem run) → Triple 𝓤 (𝓣 .C #mark·give-back) (GiveBack 𝓤 H A mem run)
     → Triple 𝓤 (WpFn 𝓤 H (𝓣 .C) (𝓣 .Λ) code.function) (tripleOf 𝓤 H A even-out.signature (even-out.spec 𝓤 H A mem run))
 even-out-meets 𝓤 H A W mem run 𝓣 known-take known-even-at known-give-back =
     meets 𝓤 H A W 1 unit ps (yes, (yes, (yes, (yes, tt)))) (even-out.clauses 𝓤 H A mem run) (λ κs. (slice-vals, (uint-vals w64, (uint-vals w64, (LL.vals Bases-T.the-type Bases-T′.the-laws, tt))))) (λ κs. (shr-slice-tells (named 2) (κs .1 .1 .0) u16, (uint-tells w64, (uint-tells w64, (LL.tells Bases-T.the-type Bases-T′.the-laws, tt))))) ((λ κs x f. refl), ((λ κs x f. refl), ((λ κs x f. refl), ((λ κs x f. refl), tt)))) 𝓣 code.function
@@ -131,5 +131,5 @@ even-out-spec 𝓤 H 𝓜 𝓖 𝓡 =
     (tables 𝓤 H 𝓜 𝓡 code.env .C) (tables 𝓤 H 𝓜 𝓡 code.env .Λ) #evening·even-out code.function (code.unfolded 𝓤 H 𝓜 𝓡)
     (even-out-meets 𝓤 H (𝓖 .A) (givenOf 𝓤 H 𝓜 𝓖) (𝓜 .mem) (𝓡 .run) (tablesOf 𝓤 H 𝓜 (tables 𝓤 H 𝓜 𝓡 code.env))
     (cited 𝓤 H (Take 𝓤 H (𝓖 .A) (𝓜 .mem) (𝓡 .run)) 𝓜 𝓡 code.env #mark·take take-def.routine code.calls-mark·take (take-thm.met 𝓤 H 𝓜 𝓖 𝓡))
-    (cited 𝓤 H (EvenAtC 𝓤 H (𝓖 .A) (𝓜 .mem) (𝓡 .run)) 𝓜 𝓡 code.env #evening·even-at even-at-def.routine code.calls-evening·even-at (even-at-thm.met 𝓤 H 𝓜 𝓖 𝓡))
+    (cited 𝓤 H (EvenAtC 𝓤 H (𝓖 .A) (𝓜 .mem) (𝓡 .run)) 𝓜 𝓡 code.env #evening·filling·even-at even-at-def.routine code.calls-evening·filling·even-at (even-at-thm.met 𝓤 H 𝓜 𝓖 𝓡))
     (cited 𝓤 H (GiveBack 𝓤 H (𝓖 .A) (𝓜 .mem) (𝓡 .run)) 𝓜 𝓡 code.env #mark·give-back give-back-def.routine code.calls-mark·give-back (give-back-thm.met 𝓤 H 𝓜 𝓖 𝓡)))

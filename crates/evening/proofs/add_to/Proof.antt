@@ -1,9 +1,0 @@
-use borrow.Author.Needs.{needs}
-use Rattle.evening.proofs.add_to.Statement.{statement}
-use Rattle.evening.proofs.add_to.Tie as tie
-
-returns : tie.Need-returns
-returns c = cc
-
-pub add-to-spec : {M : Type 1} → statement M
-add-to-spec = tie.close (tie.spec (λ c κs. search needs) (λ c. search needs) (λ c κs. search needs) (λ c. search needs) returns)

@@ -1,0 +1,61 @@
+use mathlib.Core.Path.{_≡_, refl, sym, _∙_, ap}
+use Prim.Native.Nat.{ℕ, _+_, _*_, _-_, _<_, _≤_, max}
+use native.Mathlib.Omega.{arith}
+use lib.ListN.{length}
+use Rattle.words.specs.Words.{word, put-word}
+use mathlib.Core.List.{List}
+use Rattle.evening.specs.Steps.{Diag-ready, Looked}
+use borrow.Author.Needs.{needs}
+use Rattle.evening.proofs.diagonal_places.look_at_pairs.Statement.{statement}
+use Rattle.evening.proofs.diagonal_places.look_at_pairs.Tie as tie
+use Rattle.evening.proofs.LookLaws.{looked-none, looks, looked-more}
+
+abbrev Inv-loop : tie.InvT-loop
+Inv-loop s₀ at diag b n m e₀ s e =
+    (e ≤ m) × (length s ≡ length s₀) × (Diag-ready n (at .left) (at .right) (at .ends) diag b m s₀ → Looked n (at .left) (at .right) (at .ends) diag m e s₀ s)
+
+abbrev μ-loop : tie.MeasureT-loop
+μ-loop s₀ at diag b n m e₀ s e = m - e
+
+loop-holds : tie.Need-loop-holds Inv-loop μ-loop
+loop-holds c =
+    let a = c .before .args in
+    (omega arith, refl, λ h. looked-none (a .n) (a .at .left) (a .at .right) (a .at .ends) (a .diag) (a .b) (a .m) (a .s .now) h)
+
+look-at-requires : tie.Need-look-at-requires Inv-loop μ-loop
+look-at-requires c κs =
+    let a = c .before .before .before .before .args in
+    let h = c .before .before .before .before .pre in
+    let lp = c .before .before .loop in
+    let low : a .at .ends + 2 * (a .m + a .n) < 4294967296 = omega (arith, h .after-ends, h .low) in (
+      (omega (arith, h .after-left, h .after-diag), omega (arith, h .after-right, h .after-diag), omega arith),
+      (
+        (omega (arith, h .after-diag), omega (arith, h .low), omega arith),
+        looks (a .n) (a .at .left) (a .at .right) (a .at .ends) (a .diag) (a .b) (a .m) (a .s .now) h (lp .e) (lp .s) (omega arith) (lp .inv .1),
+      ),
+    )
+
+loop-again : tie.Need-loop-again Inv-loop μ-loop
+loop-again c =
+    let a = c .before .before .before .before .before .before .before .args in
+    let lp = c .before .before .before .before .before .loop in
+    (search needs, search needs, λ h. looked-more (a .n) (a .at .left) (a .at .right) (a .at .ends) (a .diag) (a .b) (a .m) (a .s .now) h (lp .e) (lp .s) (c .before .before .look-at .last .0) (omega arith) (lp .inv .2 h) (c .before .before .look-at .ensures))
+
+returns : tie.Need-returns Inv-loop μ-loop
+returns c =
+    let q : c .before .loop .e ≡ c .before .before .before .args .m = omega arith in
+    rw q at (c .before .loop .inv .2 (c .before .before .before .pre))
+
+pub look-at-pairs-spec : {M : Type 1} → statement M
+look-at-pairs-spec =
+    tie.close
+    (tie.spec
+    Inv-loop
+    μ-loop
+    loop-holds
+    look-at-requires
+    (λ c. search needs)
+    (λ c. search needs)
+    loop-again
+    (λ c. search needs)
+    returns)

@@ -1,0 +1,30 @@
+use mathlib.Core.Path.{refl}
+use native.Mathlib.Omega.{arith}
+use mathlib.Core.Logic.{inl, inr, ⊎-elim}
+use Rattle.multigraph.specs.Regular.{Same-ends}
+use Rattle.evening.specs.Steps.{Says, Joins}
+use borrow.Author.Needs.{needs}
+use Rattle.evening.proofs.ends.earlier.Statement.{statement}
+use Rattle.evening.proofs.ends.earlier.Tie as tie
+
+returns : tie.Need-returns
+returns c = inr (λ e. omega (arith, e .0, c .if1 .taken), refl)
+
+returns-2 : tie.Need-returns-2
+returns-2 c =
+    let a = c .before .before .before .before .before .args in
+    let joined : Says (c .same-ends .result) (Joins (a .list .now) (a .j) (a .v) (a .w)) = rw (c .before .before .half-word-at .ensures .0, c .before .half-word-at2 .ensures .0) at (c .same-ends .ensures) in
+    ⊎-elim (λ x. inl ((omega arith, x .0), x .1)) (λ x. inr (λ y. x .0 (y .1), x .1)) joined
+
+pub earlier-spec : {M : Type 1} → statement M
+earlier-spec =
+    tie.close
+    (tie.spec
+    returns
+    (λ c. search needs)
+    (λ c κs. search needs)
+    (λ c. search needs)
+    (λ c. search needs)
+    (λ c κs. search needs)
+    (λ c κs. search needs)
+    returns-2)

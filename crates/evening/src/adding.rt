@@ -1,0 +1,49 @@
+// Adding copies to a graph in which the entry at place i has number i, so that a pair's number is its place.
+ghost use mathlib.Core.Path.{_≡_};
+ghost use Prim.Native.Nat.{_+_, _*_, _<_};
+ghost use lib.ListN.{length};
+ghost use Rattle.words.specs.Words.{word, «put-word»};
+ghost use Rattle.evening.specs.Steps.{pushed, «Has-place», «Adds-pair»};
+use words::set_word;
+use words::word_at;
+
+// Adds to the word at `at`.
+fn add_to(s: &mut [u32], at: usize, more: usize)
+    requires { ⌜ more < 4294967296 ⌝ }
+    requires { ⌜ at < length (now s) ⌝ }
+    ensures { λ r. ⌜ now (s .exit) ≡ put-word (now (s .entry)) at (word (now (s .entry)) at + more) ⌝ }
+{
+    let c = word_at(s, at);
+    set_word(s, at, c + more);
+}
+
+// A new pair, the last one of the graph at `g`, which has `m`.
+fn push_pair(s: &mut [u32], ends: usize, g: usize, m: usize, l: usize, r: usize, copies: usize)
+    requires { ⌜ ends < 4294967296 ⌝ }
+    requires { ⌜ g < 4294967296 ⌝ }
+    requires { ⌜ m < 4294967296 ⌝ }
+    requires { ⌜ (ends + 2 * m + 1 < length (now s)) × (g + 3 + 2 * m < length (now s)) ⌝ }
+    ensures { λ x. ⌜ now (s .exit) ≡ pushed ends g m l r copies (now (s .entry)) ⌝ }
+{
+    set_word(s, ends + 2 * m, l);
+    set_word(s, ends + 2 * m + 1, r);
+    set_word(s, g + 2 + 2 * m, m);
+    set_word(s, g + 3 + 2 * m, copies);
+    set_word(s, g + 1, m + 1);
+}
+
+// `add_edge` where the pair's number is known: pair `e` gets the copies, or is new if it is the next number.
+pub(crate) fn add_pair(s: &mut [u32], ends: usize, g: usize, e: usize, l: usize, r: usize, copies: usize)
+    requires { ⌜ ends < 4294967296 ⌝ }
+    requires { ⌜ g < 4294967296 ⌝ }
+    requires { ⌜ copies < 4294967296 ⌝ }
+    requires { ⌜ Has-place ends g (now s) ⌝ }
+    ensures { λ x. ⌜ Adds-pair ends g e l r copies (now (s .entry)) (now (s .exit)) ⌝ }
+{
+    let m = word_at(s, g + 1);
+    if e < m {
+        add_to(s, g + 3 + 2 * e, copies);
+        return;
+    }
+    push_pair(s, ends, g, m, l, r, copies);
+}

@@ -1,0 +1,77 @@
+// The pairs of the list, one appointment after the other.
+ghost use mathlib.Core.Path.{_≡_};
+ghost use Prim.Native.Nat.{_+_, _/_, _<_};
+ghost use lib.ListN.{length};
+ghost use Rattle.words.specs.Words.{«put-word»};
+ghost use Rattle.evening.specs.Contract.{«Can-pair», «Pairs-made»};
+ghost use Rattle.evening.specs.Steps.{«pair-of», Building, Built};
+use crate::Bases;
+use crate::adding::add_pair;
+use crate::representatives::rep_rows;
+use crate::rows::fill_rows;
+use words::half_word_at;
+use words::put;
+use words::set_word;
+use words::word_at;
+
+// The number of appointment `i`'s pair, for which its representative stands at `apair`: that of an earlier appointment, or the
+// next number.
+fn pair_of(s: &[u32], g: usize, apair: usize, i: usize) -> usize
+    requires { ⌜ (g < 4294967296) × (apair < 4294967296) × (i < 4294967296) ⌝ }
+    requires { ⌜ (apair + i < length (now s)) × (g + 1 < length (now s)) ⌝ }
+    ensures { λ r. ⌜ r ≡ pair-of g apair i (now (s .entry)) ⌝ }
+{
+    let j = word_at(s, apair + i);
+    if j < i {
+        return word_at(s, apair + j);
+    }
+    word_at(s, g + 1)
+}
+
+// One copy for appointment `i`.
+fn add_appointment(s: &mut [u32], list: &[u16], ends: usize, apair: usize, g: usize, i: usize)
+    requires { ⌜ Building (now list) ends apair g i (now s) ⌝ }
+    requires { do ⌜ i < (← ⟦list.len()⟧) / 2 ⌝ }
+    ensures { λ r. ⌜ Built (now (list .entry)) ends apair g (i + 1) (now (s .entry)) (now (s .exit)) ⌝ }
+{
+    let e = pair_of(s, g, apair, i);
+    let x = half_word_at(list, 2 * i);
+    let y = half_word_at(list, 2 * i + 1);
+    add_pair(s, ends, g, e, x, y, 1);
+    set_word(s, apair + i, e);
+}
+
+// One copy for each appointment, in list order.
+fn add_appointments(s: &mut [u32], list: &[u16], ends: usize, apair: usize, g: usize)
+    requires { ⌜ Building (now list) ends apair g 0 (now s) ⌝ }
+    ensures { λ r. do ⌜ Built (now (list .entry)) ends apair g ((← ⟦list.len()⟧ .entry) / 2) (now (s .entry)) (now (s .exit)) ⌝ }
+{
+    let a = list.len() / 2;
+    let mut i = 0;
+    while i < a {
+        add_appointment(s, list, ends, apair, g, i);
+        i += 1;
+    }
+}
+
+// A graph without pairs.
+fn no_pairs(s: &mut [u32], g: usize)
+    requires { ⌜ g < 4294967296 ⌝ }
+    ensures { λ r. ⌜ now (s .exit) ≡ put-word (put-word (now (s .entry)) g g) (g + 1) 0 ⌝ }
+{
+    put(s, g, g);
+    put(s, g + 1, 0);
+}
+
+// The same as `pairs_from_list`, where the words from `u` on are free.
+pub(crate) fn pairs_at(s: &mut [u32], u: usize, list: &[u16], p: usize, d: usize, at: Bases)
+    requires { ⌜ Can-pair (now list) p d (at .ends) (at .apair) (at .g) u (now s) ⌝ }
+    ensures { λ r. ⌜ Pairs-made (now (list .entry)) (at .ends) (at .apair) (at .g) u (now (s .entry)) u (now (s .exit)) ⌝ }
+{
+    let rows = u + p;
+    let map = rows + d * p;
+    fill_rows(s, list, p, d, u, rows);
+    rep_rows(s, list, p, d, u, rows, map, at.apair);
+    no_pairs(s, at.g);
+    add_appointments(s, list, at.ends, at.apair, at.g);
+}

@@ -1,0 +1,85 @@
+// Representatives. Appointments with the same ends are found in linear time: the rows are gone through one after the other, and
+// a map from parties to appointments has, for each other end met in the row, the first appointment with it. The map is never
+// cleared: what stands in it is looked at.
+ghost use mathlib.Core.Path.{_≡_};
+ghost use Prim.Native.Nat.{_<_};
+ghost use Rattle.evening.specs.Steps.{mate, Finds, «Rep-found», «Reps-fit», «Row-done», «Reps-done»};
+use crate::ends::earlier;
+use words::half_word_at;
+use words::set_word;
+use words::word_at;
+
+// The half-edge at the other end.
+fn other_half(h: usize) -> usize
+    requires { ⌜ h < 4294967296 ⌝ }
+    ensures { λ r. ⌜ r ≡ mate h ⌝ }
+{
+    2 * (h / 2) + (1 - h % 2)
+}
+
+// The representative of the appointment of half-edge `h`.
+fn find_rep(s: &mut [u32], list: &[u16], map: usize, apair: usize, h: usize)
+    requires { ⌜ (map < 4294967296) × (apair < 4294967296) × (h < 4294967296) ⌝ }
+    requires { ⌜ Finds (now list) map apair h (now s) ⌝ }
+    ensures { λ r. ⌜ Rep-found (now (list .entry)) map apair h (now (s .entry)) (now (s .exit)) ⌝ }
+{
+    let i = h / 2;
+    let v = half_word_at(list, h);
+    let f = other_half(h);
+    let w = half_word_at(list, f);
+    let j = word_at(s, map + w);
+    let found = earlier(list, j, i, v, w);
+    if found == 1 {
+        set_word(s, apair + i, j);
+        return;
+    }
+    set_word(s, apair + i, i);
+    set_word(s, map + w, i);
+}
+
+// The representatives of the appointments of party `v`.
+fn rep_row(
+    s: &mut [u32],
+    list: &[u16],
+    p: usize,
+    d: usize,
+    b: usize,
+    rows: usize,
+    map: usize,
+    apair: usize,
+    v: usize,
+)
+    requires { ⌜ Reps-fit (now list) p d b rows map apair (now s) ⌝ }
+    requires { ⌜ v < p ⌝ }
+    ensures { λ r. ⌜ Row-done (now (list .entry)) p map apair v (now (s .entry)) (now (s .exit)) ⌝ }
+{
+    let n = word_at(s, b + v);
+    let from = rows + d * v;
+    let mut t = 0;
+    while t < n {
+        let h = word_at(s, from + t);
+        find_rep(s, list, map, apair, h);
+        t += 1;
+    }
+}
+
+// The representatives of all appointments.
+pub(crate) fn rep_rows(
+    s: &mut [u32],
+    list: &[u16],
+    p: usize,
+    d: usize,
+    b: usize,
+    rows: usize,
+    map: usize,
+    apair: usize,
+)
+    requires { ⌜ Reps-fit (now list) p d b rows map apair (now s) ⌝ }
+    ensures { λ r. ⌜ Reps-done (now (list .entry)) p map apair p (now (s .entry)) (now (s .exit)) ⌝ }
+{
+    let mut v = 0;
+    while v < p {
+        rep_row(s, list, p, d, b, rows, map, apair, v);
+        v += 1;
+    }
+}
