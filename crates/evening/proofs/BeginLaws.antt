@@ -8,7 +8,7 @@ use lib.ListN.{length}
 use Rattle.words.specs.Words.{word, put-word}
 use Rattle.words.proofs.Frames.{here, away, length-put}
 use Rattle.words.proofs.Ranges.{three-refl, three-trans, three-within}
-use Rattle.evening.specs.Steps.{begun, Begins, Diag-fit, Begun, Diag-ready}
+use Rattle.evening.specs.DiagonalPlaces.{begun, Begins, Diag-fit, Begun, Diag-ready}
 
 -- the words after one place
 record One-begun (ends diag b m i l r : ℕ) (s t : List ℕ) : Type 0 where

@@ -18,7 +18,9 @@ use Rattle.multigraph.specs.Multigraph.{add-edge}
 use Rattle.multigraph.specs.Places.{size}
 use Rattle.multigraph.proofs.Ends.{same-ends-sym, same-ends-trans}
 use Rattle.evening.specs.Contract.{first-of, second-of, Has-ends}
-use Rattle.evening.specs.Steps.{Has-place, Pair-fits, Pair-added, Rep, pair-of, Building, Built}
+use Rattle.evening.specs.Adding.{Has-place, Pair-fits, Pair-added}
+use Rattle.evening.specs.Representatives.{Rep}
+use Rattle.evening.specs.FromList.{pair-of, Building, Built}
 use Rattle.evening.proofs.PlainLaws.{Graph-kept, graph-kept, has-ends-kept, plain-kept, graph-kept-by}
 use Rattle.evening.proofs.Listed.{add-appointments-more, copies-few}
 

@@ -8,7 +8,7 @@ use native.Mathlib.Omega.{arith}
 use Rattle.words.specs.Words.{word}
 use Rattle.multigraph.specs.Places.{size}
 use Rattle.evening.specs.Contract.{Has-ends, Can-diagonal, Diagonal-set}
-use Rattle.evening.specs.Steps.{Diag-fit, Begun, Looked}
+use Rattle.evening.specs.DiagonalPlaces.{Diag-fit, Begun, Looked}
 use Rattle.two_color.proofs.Regions.{region-all, region-once}
 use Rattle.evening.proofs.BeginLaws.{left-same, right-same}
 

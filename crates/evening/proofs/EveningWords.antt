@@ -16,7 +16,9 @@ use Rattle.multigraph.specs.Multigraph.{Graph}
 use Rattle.multigraph.specs.Places.{size}
 use Rattle.evening.specs.Evening.{Evening, evening, even-out-step, evened, even-out}
 use Rattle.evening.specs.Contract.{Can-even, Evened-out}
-use Rattle.evening.specs.Steps.{plain-graph, Has-place, Rows-fit, Rows-filled, Step-taken, all-passed, left-full, none-right, right-full, both-short}
+use Rattle.evening.specs.Adding.{plain-graph, Has-place}
+use Rattle.evening.specs.Rows.{Rows-fit, Rows-filled}
+use Rattle.evening.specs.Filling.{Step-taken, all-passed, left-full, none-right, right-full, both-short}
 use Rattle.two_color.proofs.Regions.{region-length}
 use Rattle.evening.proofs.EvenOut.{Evened, even-out-law}
 use Rattle.evening.proofs.PlainLaws.{plain-is}

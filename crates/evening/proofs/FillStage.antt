@@ -18,7 +18,10 @@ use Rattle.multigraph.specs.Places.{size, number}
 use Rattle.multigraph.proofs.Ends.{same-ends-sym, same-ends-trans}
 use Rattle.evening.specs.Evening.{Evening, evening, even-out-step}
 use Rattle.evening.specs.Contract.{first-of, second-of, Has-ends, Can-even}
-use Rattle.evening.specs.Steps.{plain-graph, Pair-fits, Pair-added, row, Rows-filled, Joins, shortfall, Filled}
+use Rattle.evening.specs.Adding.{plain-graph, Pair-fits, Pair-added}
+use Rattle.evening.specs.Rows.{row, Rows-filled}
+use Rattle.evening.specs.Ends.{Joins}
+use Rattle.evening.specs.Filling.{shortfall, Filled}
 use Rattle.evening.proofs.EvenSteps.{added-left, added-right, added-else, next-fill}
 use Rattle.evening.proofs.PlainLaws.{Graph-kept, graph-kept, has-ends-kept, plain-kept, graph-kept-by}
 use Rattle.evening.proofs.RepsLaws.{half-of}

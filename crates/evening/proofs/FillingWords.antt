@@ -9,7 +9,9 @@ use lib.ListN.{length}
 use Rattle.words.specs.Words.{word, put-word}
 use Rattle.words.proofs.Frames.{here, away, length-put}
 use Rattle.multigraph.specs.Places.{size}
-use Rattle.evening.specs.Steps.{Says, Joins, Adds-pair, Pair-found, shortfall, Filled}
+use Rattle.evening.specs.Adding.{Adds-pair}
+use Rattle.evening.specs.Ends.{Says, Joins}
+use Rattle.evening.specs.Filling.{Pair-found, shortfall, Filled}
 
 pub says-yes : (r : ℕ) (P : Type 0) → Says r P → r ≡ 1 → P
 says-yes r P h e = ⊎-elim (λ x. x .0) (λ x. absurd (omega (arith, x .1))) h

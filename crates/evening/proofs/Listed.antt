@@ -20,7 +20,7 @@ use Rattle.multigraph.proofs.Weights.{part-of-weight}
 use Rattle.multigraph.proofs.Spans.{all-span}
 use Rattle.evening.specs.Evening.{add-appointments}
 use Rattle.evening.specs.Contract.{first-of, second-of}
-use Rattle.evening.specs.Steps.{plain-pair, plain-graph}
+use Rattle.evening.specs.Adding.{plain-pair, plain-graph}
 use Rattle.evening.proofs.Pairs.{weigh-appts, weigh-list}
 
 pub appt-at :

@@ -10,7 +10,8 @@ use Rattle.words.specs.Words.{word, put-word}
 use Rattle.words.proofs.Frames.{here, away, length-put}
 use Rattle.multigraph.specs.Regular.{Same-ends}
 use Rattle.evening.specs.Contract.{Has-ends}
-use Rattle.evening.specs.Steps.{Says, place-of, On-diagonal, Looks, Looked-at, Diag-ready, Looked}
+use Rattle.evening.specs.Ends.{Says}
+use Rattle.evening.specs.DiagonalPlaces.{place-of, On-diagonal, Looks, Looked-at, Diag-ready, Looked}
 
 -- what one look does, by what it has read
 module _ (n left right ends diag b e : ℕ) (s : List ℕ) (x y i : ℕ) (ex : x ≡ word s (ends + 2 * e)) (ey : y ≡ word s (ends + 2 * e + 1))

@@ -9,7 +9,7 @@ use Rattle.two_color.specs.Contract.{region}
 use Rattle.two_color.proofs.Regions.{region-length, region-more, region-same}
 use Rattle.evening.specs.Evening.{new-parties, padded}
 use Rattle.evening.specs.Contract.{Can-pad, Sides-padded}
-use Rattle.evening.specs.Steps.{Can-pad-side, Padding}
+use Rattle.evening.specs.Sides.{Can-pad-side, Padding}
 
 -- ── one side ──
 

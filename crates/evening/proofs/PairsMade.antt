@@ -17,7 +17,9 @@ use Rattle.multigraph.specs.Places.{size}
 use Rattle.multigraph.specs.Steps.{span}
 use Rattle.evening.specs.Evening.{add-appointments}
 use Rattle.evening.specs.Contract.{Can-pair, Pairs-made}
-use Rattle.evening.specs.Steps.{Rows-fit, Rows-filled, Reps-fit, Reps-done, Building, Built}
+use Rattle.evening.specs.Rows.{Rows-fit, Rows-filled}
+use Rattle.evening.specs.Representatives.{Reps-fit, Reps-done}
+use Rattle.evening.specs.FromList.{Building, Built}
 use Rattle.evening.proofs.PlainLaws.{plain-is}
 use Rattle.evening.proofs.RepsLaws.{rep-of}
 use Rattle.evening.proofs.Listed.{listed-half}

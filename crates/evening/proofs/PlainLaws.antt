@@ -18,7 +18,7 @@ use Rattle.multigraph.specs.Steps.{span}
 use Rattle.multigraph.proofs.Ends.{true-joins, same-ends-sym, same-ends-trans}
 use Rattle.multigraph.proofs.Spans.{graph-span, span-same, span-snoc, not-joins, add-last, add-there}
 use Rattle.evening.specs.Contract.{Has-ends, Plain}
-use Rattle.evening.specs.Steps.{plain-pair, plain-graph, pushed, Pair-fits, Pair-added}
+use Rattle.evening.specs.Adding.{plain-pair, plain-graph, pushed, Pair-fits, Pair-added}
 
 -- as `graph-at`, where no number is a flagged one
 pub plain-is :

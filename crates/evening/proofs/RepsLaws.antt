@@ -15,7 +15,9 @@ use Rattle.words.proofs.Below.{row-inside}
 use Rattle.multigraph.specs.Regular.{Same-ends}
 use Rattle.multigraph.proofs.Ends.{same-ends-sym, same-ends-trans}
 use Rattle.evening.specs.Contract.{first-of, second-of}
-use Rattle.evening.specs.Steps.{row, Says, mate, Same, Rep, Earlier, candidate, Finds, Rep-found, Reps-fit, Row-done, Reps-done}
+use Rattle.evening.specs.Rows.{row}
+use Rattle.evening.specs.Ends.{Says, Earlier}
+use Rattle.evening.specs.Representatives.{mate, Same, Rep, candidate, Finds, Rep-found, Reps-fit, Row-done, Reps-done}
 
 -- ── the two ends ──
 

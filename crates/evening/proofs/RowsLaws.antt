@@ -11,7 +11,7 @@ use Rattle.words.proofs.Sums.{is-same, is-ne, count-take-le}
 use Rattle.words.proofs.Frames.{here, away, length-put, keeps-refl, keeps-trans}
 use Rattle.words.proofs.Below.{rows-apart, row-inside}
 use Rattle.appointments.proofs.Flat.{count-more}
-use Rattle.evening.specs.Steps.{row, Cleared, Pushes, Rows-fit, Rows-filled}
+use Rattle.evening.specs.Rows.{row, Cleared, Pushes, Rows-fit, Rows-filled}
 
 -- ── clearing ──
 

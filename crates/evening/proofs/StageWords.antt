@@ -22,7 +22,8 @@ use Rattle.multigraph.proofs.Sizes.{pairs-le, copies-le}
 use Rattle.multigraph.proofs.Spans.{span-length, all-span}
 use Rattle.evening.specs.Evening.{Evening, evening, add-appointments, even-out-step}
 use Rattle.evening.specs.Contract.{Plain, Can-even}
-use Rattle.evening.specs.Steps.{plain-pair, plain-graph, row, Rows-filled}
+use Rattle.evening.specs.Adding.{plain-pair, plain-graph}
+use Rattle.evening.specs.Rows.{row, Rows-filled}
 use Rattle.two_color.proofs.Regions.{region-length, region-rest}
 use Rattle.evening.proofs.Pairs.{degree-load, sound-list}
 use Rattle.evening.proofs.EvenSteps.{Evens, next-done, next-left, next-none, next-right}

@@ -1,5 +1,12 @@
 pub mod Evening
 pub mod Contract
-pub mod Steps
+pub mod Sides
+pub mod Adding
+pub mod Rows
+pub mod Ends
+pub mod Representatives
+pub mod FromList
+pub mod Filling
+pub mod DiagonalPlaces
 pub mod Computing
 pub mod Examples

@@ -3,7 +3,7 @@ ghost use mathlib.Core.Path.{_≡_};
 ghost use Prim.Native.Nat.{_+_, _*_, _<_};
 ghost use lib.ListN.{length};
 ghost use Rattle.words.specs.Words.{word, «put-word»};
-ghost use Rattle.evening.specs.Steps.{pushed, «Has-place», «Adds-pair»};
+ghost use Rattle.evening.specs.Adding.{pushed, «Has-place», «Adds-pair»};
 use words::set_word;
 use words::word_at;
 

@@ -3,7 +3,7 @@ ghost use mathlib.Core.Path.{_≡_};
 ghost use Prim.Native.Nat.{_+_, _<_};
 ghost use Rattle.words.specs.Words.{word};
 ghost use Rattle.evening.specs.Contract.{«Can-diagonal», «Diagonal-set»};
-ghost use Rattle.evening.specs.Steps.{begun, Begins, «Diag-fit», Begun, Looks, «Looked-at», «Diag-ready», Looked};
+ghost use Rattle.evening.specs.DiagonalPlaces.{begun, Begins, «Diag-fit», Begun, Looks, «Looked-at», «Diag-ready», Looked};
 use crate::Bases;
 use crate::ends::same_ends;
 use words::get;

@@ -2,7 +2,7 @@
 ghost use Prim.Native.Nat.{_+_, _*_, _<_};
 ghost use lib.ListN.{length};
 ghost use Rattle.multigraph.specs.Regular.{«Same-ends»};
-ghost use Rattle.evening.specs.Steps.{Says, Earlier, Joins};
+ghost use Rattle.evening.specs.Ends.{Says, Earlier, Joins};
 use words::get16;
 use words::half_word_at;
 

@@ -2,7 +2,8 @@
 ghost use mathlib.Core.Path.{_≡_};
 ghost use Prim.Native.Nat.{_+_, _-_, _<_, min};
 ghost use Rattle.evening.specs.Contract.{«Can-even», «Evened-out»};
-ghost use Rattle.evening.specs.Steps.{«Has-place», «Pair-found», Filled, «Step-taken»};
+ghost use Rattle.evening.specs.Adding.{«Has-place»};
+ghost use Rattle.evening.specs.Filling.{«Pair-found», Filled, «Step-taken»};
 use crate::Bases;
 use crate::adding::add_pair;
 use crate::ends::joins;

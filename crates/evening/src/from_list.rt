@@ -4,7 +4,7 @@ ghost use Prim.Native.Nat.{_+_, _/_, _<_};
 ghost use lib.ListN.{length};
 ghost use Rattle.words.specs.Words.{«put-word»};
 ghost use Rattle.evening.specs.Contract.{«Can-pair», «Pairs-made»};
-ghost use Rattle.evening.specs.Steps.{«pair-of», Building, Built};
+ghost use Rattle.evening.specs.FromList.{«pair-of», Building, Built};
 use crate::Bases;
 use crate::adding::add_pair;
 use crate::representatives::rep_rows;

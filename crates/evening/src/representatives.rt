@@ -3,7 +3,7 @@
 // cleared: what stands in it is looked at.
 ghost use mathlib.Core.Path.{_≡_};
 ghost use Prim.Native.Nat.{_<_};
-ghost use Rattle.evening.specs.Steps.{mate, Finds, «Rep-found», «Reps-fit», «Row-done», «Reps-done»};
+ghost use Rattle.evening.specs.Representatives.{mate, Finds, «Rep-found», «Reps-fit», «Row-done», «Reps-done»};
 use crate::ends::earlier;
 use words::half_word_at;
 use words::set_word;

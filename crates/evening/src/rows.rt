@@ -4,7 +4,7 @@ ghost use mathlib.Core.Path.{_≡_};
 ghost use Prim.Native.Nat.{_+_, _*_, _<_, _≤_};
 ghost use lib.ListN.{length};
 ghost use Rattle.words.specs.Words.{word, «put-word»};
-ghost use Rattle.evening.specs.Steps.{Cleared, Pushes, «Rows-fit», «Rows-filled»};
+ghost use Rattle.evening.specs.Rows.{Cleared, Pushes, «Rows-fit», «Rows-filled»};
 use words::half_word_at;
 use words::set_word;
 use words::word_at;

@@ -1,7 +1,7 @@
 // New parties on the shorter side.
 ghost use mathlib.Core.Path.{_≡_};
 ghost use Prim.Native.Nat.{max};
-ghost use Rattle.evening.specs.Steps.{«Can-pad-side», Padding};
+ghost use Rattle.evening.specs.Sides.{«Can-pad-side», Padding};
 use words::put;
 
 // The larger of two numbers.

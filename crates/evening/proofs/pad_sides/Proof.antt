@@ -2,7 +2,7 @@ use mathlib.Core.Path.{_≡_, refl, sym, _∙_, ap}
 use Prim.Native.Nat.{ℕ, _+_, _*_, _-_, _<_, _≤_, max}
 use native.Mathlib.Omega.{arith}
 use lib.ListN.{length}
-use Rattle.evening.specs.Steps.{Can-pad-side, Padding}
+use Rattle.evening.specs.Sides.{Can-pad-side, Padding}
 use Rattle.evening.proofs.PaddingWords.{sides-padded}
 use borrow.Author.Needs.{needs}
 use Rattle.evening.proofs.pad_sides.Statement.{statement}

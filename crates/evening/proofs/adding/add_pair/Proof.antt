@@ -4,7 +4,7 @@ use native.Mathlib.Omega.{arith}
 use lib.ListN.{length}
 use Rattle.words.specs.Words.{word, put-word}
 use Rattle.multigraph.specs.Places.{size}
-use Rattle.evening.specs.Steps.{pushed, Pair-fits, Pair-added}
+use Rattle.evening.specs.Adding.{pushed, Pair-fits, Pair-added}
 use Rattle.evening.proofs.PlainLaws.{bumped, pushed-words, Pushed, added-there, added-new}
 use borrow.Author.Needs.{needs}
 use Rattle.evening.proofs.adding.add_pair.Statement.{statement}

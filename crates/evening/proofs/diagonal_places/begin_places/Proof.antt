@@ -4,7 +4,7 @@ use native.Mathlib.Omega.{arith}
 use lib.ListN.{length}
 use Rattle.words.specs.Words.{word, put-word}
 use mathlib.Core.List.{List}
-use Rattle.evening.specs.Steps.{Diag-fit, Begun}
+use Rattle.evening.specs.DiagonalPlaces.{Diag-fit, Begun}
 use borrow.Author.Needs.{needs}
 use Rattle.evening.proofs.diagonal_places.begin_places.Statement.{statement}
 use Rattle.evening.proofs.diagonal_places.begin_places.Tie as tie

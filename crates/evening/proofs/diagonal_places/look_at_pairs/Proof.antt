@@ -4,7 +4,7 @@ use native.Mathlib.Omega.{arith}
 use lib.ListN.{length}
 use Rattle.words.specs.Words.{word, put-word}
 use mathlib.Core.List.{List}
-use Rattle.evening.specs.Steps.{Diag-ready, Looked}
+use Rattle.evening.specs.DiagonalPlaces.{Diag-ready, Looked}
 use borrow.Author.Needs.{needs}
 use Rattle.evening.proofs.diagonal_places.look_at_pairs.Statement.{statement}
 use Rattle.evening.proofs.diagonal_places.look_at_pairs.Tie as tie

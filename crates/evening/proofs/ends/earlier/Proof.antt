@@ -2,7 +2,7 @@ use mathlib.Core.Path.{refl}
 use native.Mathlib.Omega.{arith}
 use mathlib.Core.Logic.{inl, inr, ⊎-elim}
 use Rattle.multigraph.specs.Regular.{Same-ends}
-use Rattle.evening.specs.Steps.{Says, Joins}
+use Rattle.evening.specs.Ends.{Says, Joins}
 use borrow.Author.Needs.{needs}
 use Rattle.evening.proofs.ends.earlier.Statement.{statement}
 use Rattle.evening.proofs.ends.earlier.Tie as tie

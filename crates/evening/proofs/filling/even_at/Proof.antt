@@ -5,7 +5,7 @@ use lib.ListN.{length}
 use Rattle.words.specs.Words.{word, put-word}
 use mathlib.Core.List.{List}
 use Rattle.evening.specs.Contract.{Can-even}
-use Rattle.evening.specs.Steps.{Rows-filled}
+use Rattle.evening.specs.Rows.{Rows-filled}
 use Rattle.evening.proofs.EveningWords.{rows-fit-even, At, at-none, at-place, at-more, evened-out}
 use borrow.Author.Needs.{needs}
 use Rattle.evening.proofs.filling.even_at.Statement.{statement}

@@ -4,7 +4,7 @@ use native.Mathlib.Omega.{arith}
 use lib.ListN.{length}
 use Rattle.words.specs.Words.{word, put-word}
 use native.Mathlib.Nat.{mul-le-mul}
-use Rattle.evening.specs.Steps.{Step-taken, all-passed, left-full, none-right, right-full, both-short, Filled}
+use Rattle.evening.specs.Filling.{Step-taken, all-passed, left-full, none-right, right-full, both-short, Filled}
 use borrow.Author.Needs.{needs}
 use Rattle.evening.proofs.filling.even_step.Statement.{statement}
 use Rattle.evening.proofs.filling.even_step.Tie as tie

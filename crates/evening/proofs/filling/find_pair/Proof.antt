@@ -4,7 +4,8 @@ use native.Mathlib.Omega.{arith}
 use lib.ListN.{length}
 use Rattle.words.specs.Words.{word, put-word}
 use Prim.Native.Nat.{_/_}
-use Rattle.evening.specs.Steps.{Joins, Pair-found}
+use Rattle.evening.specs.Ends.{Joins}
+use Rattle.evening.specs.Filling.{Pair-found}
 use Rattle.evening.proofs.FillingWords.{Missed, missed-none, missed-more, found-here, found-none}
 use borrow.Author.Needs.{needs}
 use Rattle.evening.proofs.filling.find_pair.Statement.{statement}

@@ -4,7 +4,8 @@ use native.Mathlib.Omega.{arith}
 use lib.ListN.{length}
 use Rattle.words.specs.Words.{word, put-word}
 use Rattle.evening.specs.Contract.{first-of, second-of}
-use Rattle.evening.specs.Steps.{pair-of, Pair-fits, Pair-added}
+use Rattle.evening.specs.Adding.{Pair-fits, Pair-added}
+use Rattle.evening.specs.FromList.{pair-of}
 use Rattle.evening.proofs.BuildingLaws.{has-place, fits, built}
 use borrow.Author.Needs.{needs}
 use Rattle.evening.proofs.from_list.add_appointment.Statement.{statement}

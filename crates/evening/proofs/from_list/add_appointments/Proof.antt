@@ -5,7 +5,7 @@ use lib.ListN.{length}
 use Rattle.words.specs.Words.{word, put-word}
 use mathlib.Core.List.{List}
 use Prim.Native.Nat.{_/_}
-use Rattle.evening.specs.Steps.{Building, Built}
+use Rattle.evening.specs.FromList.{Building, Built}
 use Rattle.evening.proofs.BuildingLaws.{built-none, built-more}
 use borrow.Author.Needs.{needs}
 use Rattle.evening.proofs.from_list.add_appointments.Statement.{statement}

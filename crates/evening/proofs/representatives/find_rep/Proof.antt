@@ -5,7 +5,7 @@ use lib.ListN.{length}
 use Rattle.words.specs.Words.{word, put-word}
 use mathlib.Core.List.{List}
 use Prim.Native.Nat.{_/_}
-use Rattle.evening.specs.Steps.{mate, Finds}
+use Rattle.evening.specs.Representatives.{mate, Finds}
 use Rattle.words.proofs.Frames.{length-put}
 use Rattle.evening.proofs.RepsLaws.{rep-old, rep-new}
 use borrow.Author.Needs.{needs}

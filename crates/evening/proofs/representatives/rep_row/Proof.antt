@@ -6,7 +6,8 @@ use Rattle.words.specs.Words.{word, put-word}
 use mathlib.Core.List.{List}
 use Prim.Native.Nat.{_/_}
 use native.Mathlib.Nat.{mul-le-mul-left}
-use Rattle.evening.specs.Steps.{row, Reps-fit, Row-done}
+use Rattle.evening.specs.Rows.{row}
+use Rattle.evening.specs.Representatives.{Reps-fit, Row-done}
 use Rattle.evening.proofs.RepsLaws.{Going, going-none, going-more, row-kept, row-inside-words, finds, row-done}
 use borrow.Author.Needs.{needs}
 use Rattle.evening.proofs.representatives.rep_row.Statement.{statement}

@@ -4,7 +4,7 @@ use native.Mathlib.Omega.{arith}
 use lib.ListN.{length}
 use Rattle.words.specs.Words.{word, put-word}
 use mathlib.Core.List.{List}
-use Rattle.evening.specs.Steps.{Reps-fit, Row-done, Reps-done}
+use Rattle.evening.specs.Representatives.{Reps-fit, Row-done, Reps-done}
 use Rattle.evening.proofs.RepsLaws.{reps-none, reps-more, reps-fit-kept}
 use borrow.Author.Needs.{needs}
 use Rattle.evening.proofs.representatives.rep_rows.Statement.{statement}

@@ -3,7 +3,7 @@ use Prim.Native.Nat.{ℕ, _+_, _*_, _-_, _<_, _≤_, max}
 use native.Mathlib.Omega.{arith}
 use lib.ListN.{length}
 use Rattle.words.specs.Words.{word, put-word}
-use Rattle.evening.specs.Steps.{Cleared}
+use Rattle.evening.specs.Rows.{Cleared}
 use Rattle.evening.proofs.RowsLaws.{cleared-none, cleared-more}
 use borrow.Author.Needs.{needs}
 use Rattle.evening.proofs.rows.clear_words.Statement.{statement}

@@ -5,7 +5,7 @@ use native.Mathlib.Nat.{mul-le-mul-left}
 use lib.ListN.{length}
 use Rattle.words.specs.Words.{word, put-word}
 use mathlib.Core.List.{List}
-use Rattle.evening.specs.Steps.{Rows-fit, Rows-filled}
+use Rattle.evening.specs.Rows.{Rows-fit, Rows-filled}
 use Rattle.evening.proofs.RowsLaws.{filled-none, filled-more, pushes}
 use borrow.Author.Needs.{needs}
 use Rattle.evening.proofs.rows.fill_rows.Statement.{statement}
