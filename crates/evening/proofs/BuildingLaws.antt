@@ -23,6 +23,7 @@ use Rattle.evening.specs.Representatives.{Rep}
 use Rattle.evening.specs.FromList.{pair-of, Building, Built}
 use Rattle.evening.proofs.PlainLaws.{Graph-kept, graph-kept, has-ends-kept, plain-kept, graph-kept-by}
 use Rattle.evening.proofs.Listed.{add-appointments-more, copies-few}
+use Rattle.evening.specs.declared.Bases.{Bases}
 
 -- ── one appointment more ──
 
@@ -37,7 +38,7 @@ module _ (g apair i : ℕ) (s : List ℕ) (j r : ℕ) (is-j : j ≡ word s (apai
       let b : i ≤ word s (apair + i) = omega arith in
       rw (le-ltb (word s (apair + i)) i b) e
 
-module _ (list : List ℕ) (ends apair g k : ℕ) (s : List ℕ) (h : Building list ends apair g k s) (inside : k < length list / 2) where
+module _ (list : List ℕ) (at : Bases) (k : ℕ) (s : List ℕ) (h : Building list at k s) (inside : k < length list / 2) where
   abbrev x : ℕ
   x = first-of list k
 
@@ -45,41 +46,41 @@ module _ (list : List ℕ) (ends apair g k : ℕ) (s : List ℕ) (h : Building l
   y = second-of list k
 
   abbrev e : ℕ
-  e = pair-of g apair k s
+  e = pair-of (at .g) (at .apair) k s
 
-  rep : Rep list k (word s (apair + k))
+  rep : Rep list k (word s (at .apair + k))
   rep = h .reps k (omega arith) inside
 
   -- the pair of an earlier appointment with the same ends
-  old-number : word s (apair + k) < k → (e < size s g) × Has-ends s ends e x y
+  old-number : word s (at .apair + k) < k → (e < size s (at .g)) × Has-ends s (at .ends) e x y
   old-number a =
-      rw (lt-ltb (word s (apair + k)) k a) (
-        h .number-of (word s (apair + k)) a,
-        same-ends-trans (same-ends-sym (rep .same)) (h .ends-of (word s (apair + k)) a),
+      rw (lt-ltb (word s (at .apair + k)) k a) (
+        h .number-of (word s (at .apair + k)) a,
+        same-ends-trans (same-ends-sym (rep .same)) (h .ends-of (word s (at .apair + k)) a),
       )
 
   -- or no pair has these ends
-  new-number : k ≤ word s (apair + k) → (e ≡ size s g) × ((f : ℕ) → f < size s g → Has-ends s ends f x y → ⊥)
-  new-number a = (rw (le-ltb (word s (apair + k)) k a), none)
+  new-number : k ≤ word s (at .apair + k) → (e ≡ size s (at .g)) × ((f : ℕ) → f < size s (at .g) → Has-ends s (at .ends) f x y → ⊥)
+  new-number a = (rw (le-ltb (word s (at .apair + k)) k a), none)
     where
-      none : (f : ℕ) → f < size s g → Has-ends s ends f x y → ⊥
+      none : (f : ℕ) → f < size s (at .g) → Has-ends s (at .ends) f x y → ⊥
       none f b z =
           let i = h .every f b in
-          let own : Has-ends s ends f (first-of list (i .0)) (second-of list (i .0)) = rw (i .2) at (h .ends-of (i .0) (i .1)) in
+          let own : Has-ends s (at .ends) f (first-of list (i .0)) (second-of list (i .0)) = rw (i .2) at (h .ends-of (i .0) (i .1)) in
           rep .first (omega (arith, rep .le)) (i .0) (i .1) (same-ends-trans own (same-ends-sym z))
 
-  e-cases : ((e < size s g) × Has-ends s ends e x y) ⊎ ((e ≡ size s g) × ((f : ℕ) → f < size s g → Has-ends s ends f x y → ⊥))
-  e-cases = elim (decLt (word s (apair + k)) k) [ yes a ↦ inl (old-number a) | no a ↦ inr (new-number (omega arith)) ]
+  e-cases : ((e < size s (at .g)) × Has-ends s (at .ends) e x y) ⊎ ((e ≡ size s (at .g)) × ((f : ℕ) → f < size s (at .g) → Has-ends s (at .ends) f x y → ⊥))
+  e-cases = elim (decLt (word s (at .apair + k)) k) [ yes a ↦ inl (old-number a) | no a ↦ inr (new-number (omega arith)) ]
 
   -- the next pair has a place
-  pub has-place : Has-place ends g s
+  pub has-place : Has-place (at .ends) (at .g) s
   has-place =
       record {
         row = omega (arith, h .few, h .after-ends, h .after-apair, h .inside);
         entry = omega (arith, h .few, h .inside);
       }
 
-  pub fits : x < 4294967296 → y < 4294967296 → Pair-fits ends g e x y 1 s
+  pub fits : x < 4294967296 → y < 4294967296 → Pair-fits (at .ends) (at .g) e x y 1 s
   fits sx sy =
       record {
         plain = h .plain;
@@ -94,58 +95,58 @@ module _ (list : List ℕ) (ends apair g k : ℕ) (s : List ℕ) (h : Building l
         light =
             λ f a.
             omega
-            (arith, copies-few ends g s (take k (appts list)) (h .graph) f a, length-take k (appts list), appts-count list, h .short);
+            (arith, copies-few (at .ends) (at .g) s (take k (appts list)) (h .graph) f a, length-take k (appts list), appts-count list, h .short);
         few = omega arith;
       }
 
-  module _ (t u : List ℕ) (add : Pair-added ends g e x y 1 s t) (put : u ≡ put-word t (apair + k) e) where
+  module _ (t u : List ℕ) (add : Pair-added (at .ends) (at .g) e x y 1 s t) (put : u ≡ put-word t (at .apair + k) e) where
     e-small : e < 4294967296
     e-small = omega (arith, add .its-number, add .by-one, h .few, h .small)
 
-    u-here : word u (apair + k) ≡ e
-    u-here = rw put (here t (apair + k) e (omega (arith, add .changes .len, h .inside, h .after-apair)) e-small)
+    u-here : word u (at .apair + k) ≡ e
+    u-here = rw put (here t (at .apair + k) e (omega (arith, add .changes .len, h .inside, h .after-apair)) e-small)
 
-    u-away : (i : ℕ) → (i ≡ apair + k → ⊥) → word u i ≡ word t i
-    u-away i z = rw put (away t (apair + k) i e z)
+    u-away : (i : ℕ) → (i ≡ at .apair + k → ⊥) → word u i ≡ word t i
+    u-away i z = rw put (away t (at .apair + k) i e z)
 
-    t-few : size t g ≤ k + 1
+    t-few : size t (at .g) ≤ k + 1
     t-few = omega (arith, add .by-one, h .few)
 
     -- the pairs of the earlier appointments stay
-    old-pair : (i : ℕ) → (i ≡ k → ⊥) → i < length list / 2 → word u (apair + i) ≡ word s (apair + i)
+    old-pair : (i : ℕ) → (i ≡ k → ⊥) → i < length list / 2 → word u (at .apair + i) ≡ word s (at .apair + i)
     old-pair i z b =
-        u-away (apair + i) (λ q. z (omega arith))
-        ∙ add .changes .between (apair + i) (omega (arith, h .few, h .after-ends)) (omega (arith, h .after-apair))
+        u-away (at .apair + i) (λ q. z (omega arith))
+        ∙ add .changes .between (at .apair + i) (omega (arith, h .few, h .after-ends)) (omega (arith, h .after-apair))
 
-    kept-t : Graph-kept ends g t u
+    kept-t : Graph-kept (at .ends) (at .g) t u
     kept-t =
-        graph-kept-by ends g (k + 1) t u t-few (omega (arith, h .after-ends, h .after-apair))
+        graph-kept-by (at .ends) (at .g) (k + 1) t u t-few (omega (arith, h .after-ends, h .after-apair))
         (λ i a b. u-away i (λ q. omega (arith, h .after-ends))) (λ i a b. u-away i (λ q. omega (arith, h .after-apair)))
 
-    old-ends : (f l r : ℕ) → f < size s g → Has-ends s ends f l r → Has-ends u ends f l r
+    old-ends : (f l r : ℕ) → f < size s (at .g) → Has-ends s (at .ends) f l r → Has-ends u (at .ends) f l r
     old-ends f l r a z =
-        has-ends-kept ends g t u kept-t f l r (omega (arith, add .grown))
-        (rw (add .changes .under (ends + 2 * f) (omega arith), add .changes .under (ends + 2 * f + 1) (omega arith)) z)
+        has-ends-kept (at .ends) (at .g) t u kept-t f l r (omega (arith, add .grown))
+        (rw (add .changes .under (at .ends + 2 * f) (omega arith), add .changes .under (at .ends + 2 * f + 1) (omega arith)) z)
 
-    number-of' : (i : ℕ) → i < k + 1 → word u (apair + i) < size u g
+    number-of' : (i : ℕ) → i < k + 1 → word u (at .apair + i) < size u (at .g)
     number-of' i a =
         elim (ℕ-discrete i k) [
           | yes z ↦ rw z (omega (arith, u-here, add .its-number, kept-t .count))
           | no z ↦ omega (arith, old-pair i z (omega arith), h .number-of i (omega arith), add .grown, kept-t .count)
         ]
 
-    ends-of' : (i : ℕ) → i < k + 1 → Has-ends u ends (word u (apair + i)) (first-of list i) (second-of list i)
+    ends-of' : (i : ℕ) → i < k + 1 → Has-ends u (at .ends) (word u (at .apair + i)) (first-of list i) (second-of list i)
     ends-of' i a =
         elim (ℕ-discrete i k) [
-          | yes z ↦ rw (z, u-here) (has-ends-kept ends g t u kept-t e x y (add .its-number) (add .its-ends))
+          | yes z ↦ rw (z, u-here) (has-ends-kept (at .ends) (at .g) t u kept-t e x y (add .its-number) (add .its-ends))
           | no z ↦
               rw (old-pair i z (omega arith))
-              (old-ends (word s (apair + i)) (first-of list i) (second-of list i) (h .number-of i (omega arith)) (h .ends-of i (omega arith)))
+              (old-ends (word s (at .apair + i)) (first-of list i) (second-of list i) (h .number-of i (omega arith)) (h .ends-of i (omega arith)))
         ]
 
-    every' : (f : ℕ) → f < size u g → (i : ℕ) × (i < k + 1) × (word u (apair + i) ≡ f)
+    every' : (f : ℕ) → f < size u (at .g) → (i : ℕ) × (i < k + 1) × (word u (at .apair + i) ≡ f)
     every' f a =
-        elim (decLt f (size s g)) [
+        elim (decLt f (size s (at .g))) [
           | yes z ↦
               let i = h .every f z in
               (i .0, omega (arith, i .1), old-pair (i .0) (λ q. omega (arith, i .1)) (omega (arith, i .1)) ∙ i .2)
@@ -157,11 +158,11 @@ module _ (list : List ℕ) (ends apair g k : ℕ) (s : List ℕ) (h : Building l
               (k, omega arith, u-here ∙ e-is)
         ]
 
-    building' : Building list ends apair g (k + 1) u
+    building' : Building list at (k + 1) u
     building' =
         record {
-          graph = graph-kept ends g t u kept-t ∙ add .graph ∙ ap (λ l. add-edge l x y 1 0) (h .graph) ∙ sym (add-appointments-more list k inside);
-          plain = plain-kept ends g t u kept-t (add .plain);
+          graph = graph-kept (at .ends) (at .g) t u kept-t ∙ add .graph ∙ ap (λ l. add-edge l x y 1 0) (h .graph) ∙ sym (add-appointments-more list k inside);
+          plain = plain-kept (at .ends) (at .g) t u kept-t (add .plain);
           few = omega (arith, kept-t .count, t-few);
           number-of = number-of';
           ends-of = ends-of';
@@ -169,33 +170,33 @@ module _ (list : List ℕ) (ends apair g k : ℕ) (s : List ℕ) (h : Building l
           reps = λ i a b. rw (old-pair i (λ q. omega arith) b) (h .reps i (omega arith) b);
           after-ends = h .after-ends;
           after-apair = h .after-apair;
-          inside = omega (arith, h .inside, add .changes .len, ap length put, length-put t (apair + k) e);
+          inside = omega (arith, h .inside, add .changes .len, ap length put, length-put t (at .apair + k) e);
           small = h .small;
           short = h .short;
         }
 
-    changed : (mark : ℕ) → Changes-three ends (2 * (length list / 2)) apair (length list / 2) g (2 + 2 * (length list / 2)) mark s u
+    changed : (mark : ℕ) → Changes-three (at .ends) (2 * (length list / 2)) (at .apair) (length list / 2) (at .g) (2 + 2 * (length list / 2)) mark s u
     changed mark =
         three-trans
-        (three-outer ends (2 * (length list / 2)) apair (length list / 2) g (2 + 2 * (length list / 2)) mark (omega arith)
+        (three-outer (at .ends) (2 * (length list / 2)) (at .apair) (length list / 2) (at .g) (2 + 2 * (length list / 2)) mark (omega arith)
         (omega (arith, h .few)) (h .after-ends) (h .after-apair) (omega arith) (omega (arith, h .few)) (add .changes))
-        (three-within ends (2 * (length list / 2)) apair (length list / 2) g (2 + 2 * (length list / 2)) mark t u (h .after-ends)
-        (h .after-apair) (ap length put ∙ length-put t (apair + k) e) (λ i m a b c. u-away i (λ q. b (omega arith) (omega arith))))
+        (three-within (at .ends) (2 * (length list / 2)) (at .apair) (length list / 2) (at .g) (2 + 2 * (length list / 2)) mark t u (h .after-ends)
+        (h .after-apair) (ap length put ∙ length-put t (at .apair + k) e) (λ i m a b c. u-away i (λ q. b (omega arith) (omega arith))))
 
-    pub built : Built list ends apair g (k + 1) s u
+    pub built : Built list at (k + 1) s u
     built = record { building = building'; changes = changed }
 
 -- ── all appointments ──
 
-pub built-none : (list : List ℕ) (ends apair g : ℕ) (s : List ℕ) → Building list ends apair g 0 s → Built list ends apair g 0 s s
-built-none list ends apair g s h =
+pub built-none : (list : List ℕ) (at : Bases) (s : List ℕ) → Building list at 0 s → Built list at 0 s s
+built-none list at s h =
     record {
       building = h;
-      changes = λ mark. three-refl ends (2 * (length list / 2)) apair (length list / 2) g (2 + 2 * (length list / 2)) mark s;
+      changes = λ mark. three-refl (at .ends) (2 * (length list / 2)) (at .apair) (length list / 2) (at .g) (2 + 2 * (length list / 2)) mark s;
     }
 
 pub built-more :
-    (list : List ℕ) (ends apair g k : ℕ) (s t u : List ℕ) → Built list ends apair g k s t → Built list ends apair g (k + 1) t u →
-    Built list ends apair g (k + 1) s u
-built-more list ends apair g k s t u x y =
+    (list : List ℕ) (at : Bases) (k : ℕ) (s t u : List ℕ) → Built list at k s t → Built list at (k + 1) t u →
+    Built list at (k + 1) s u
+built-more list at k s t u x y =
     record { building = y .building; changes = λ mark. three-trans (x .changes mark) (y .changes mark) }

@@ -15,9 +15,9 @@ use Rattle.two_color.specs.Contract.{region}
 use Rattle.multigraph.specs.Multigraph.{Graph}
 use Rattle.multigraph.specs.Places.{size}
 use Rattle.evening.specs.Evening.{Evening, evening, even-out-step, evened, even-out}
-use Rattle.evening.specs.Contract.{Can-even, Evened-out}
+use Rattle.evening.specs.Contract.{Evened-out}
 use Rattle.evening.specs.Adding.{plain-graph, Has-place}
-use Rattle.evening.specs.Rows.{Rows-fit, Rows-filled}
+use Rattle.evening.specs.Rows.{rows-from, Rows-fit, Rows-filled}
 use Rattle.evening.specs.Filling.{Step-taken, all-passed, left-full, none-right, right-full, both-short}
 use Rattle.two_color.proofs.Regions.{region-length}
 use Rattle.evening.proofs.EvenOut.{Evened, even-out-law}
@@ -25,26 +25,28 @@ use Rattle.evening.proofs.PlainLaws.{plain-is}
 use Rattle.evening.proofs.StageWords.{start-sound, start-most, Stage, stage-none, known, stage-done, stage-left, stage-none-right, stage-right}
 use Rattle.evening.proofs.FillStage.{stage-fill}
 use Rattle.evening.proofs.Listed.{listed-half}
+use Rattle.evening.specs.declared.Bases.{Bases}
+use Rattle.evening.specs.Filling.{Evens-at, Fill-small}
 
 -- ── one step ──
 
 -- what every step over words does is a step of the definition
 stage-more :
-    (list : List ℕ) (d n left right ends apair g u : ℕ) (first : List ℕ) (h : Can-even list d n left right ends apair g u first)
-    (s₁ : List ℕ) (x : Rows-filled list (n + n) d u (u + (n + n)) (length list) first s₁) (E : Evening) (i j : ℕ) (s : List ℕ)
-    (st : Stage list d n left right ends apair g u first h s₁ x E i j s) (t : List ℕ) (i' j' : ℕ) →
-    Step-taken list d n left right ends apair g u s t i j i' j' →
-    Stage list d n left right ends apair g u first h s₁ x (even-out-step d E) i' j' t
-stage-more list d n left right ends apair g u first h s₁ x E i j s st t i' j' (all-passed a es ei ej) =
-    rw (es, ei, ej) (stage-done list d n left right ends apair g u first h s₁ x E i j s st a)
-stage-more list d n left right ends apair g u first h s₁ x E i j s st t i' j' (left-full a e es ei ej) =
-    rw (es, ei, ej) (stage-left list d n left right ends apair g u first h s₁ x E i j s st a e)
-stage-more list d n left right ends apair g u first h s₁ x E i j s st t i' j' (none-right a e b es ei ej) =
-    rw (es, ei, ej) (stage-none-right list d n left right ends apair g u first h s₁ x E i j s st a e b)
-stage-more list d n left right ends apair g u first h s₁ x E i j s st t i' j' (right-full a e b f es ei ej) =
-    rw (es, ei, ej) (stage-right list d n left right ends apair g u first h s₁ x E i j s st a e b f)
-stage-more list d n left right ends apair g u first h s₁ x E i j s st t i' j' (both-short a e b f F ei ej) =
-    rw (ei, ej) (stage-fill list d n left right ends apair g u first h s₁ x E i j s st a e b f t F)
+    (list : List ℕ) (d n : ℕ) (at : Bases) (u : ℕ) (first : List ℕ) (h : Evens-at list d n at u first)
+    (s₁ : List ℕ) (x : Rows-filled list (rows-from (n + n) d u) (length list) first s₁) (E : Evening) (i j : ℕ) (s : List ℕ)
+    (st : Stage list d n at u first h s₁ x E i j s) (t : List ℕ) (i' j' : ℕ) →
+    Step-taken list at (rows-from (n + n) d u) n s t i j i' j' →
+    Stage list d n at u first h s₁ x (even-out-step d E) i' j' t
+stage-more list d n at u first h s₁ x E i j s st t i' j' (all-passed a es ei ej) =
+    rw (es, ei, ej) (stage-done list d n at u first h s₁ x E i j s st a)
+stage-more list d n at u first h s₁ x E i j s st t i' j' (left-full a e es ei ej) =
+    rw (es, ei, ej) (stage-left list d n at u first h s₁ x E i j s st a e)
+stage-more list d n at u first h s₁ x E i j s st t i' j' (none-right a e b es ei ej) =
+    rw (es, ei, ej) (stage-none-right list d n at u first h s₁ x E i j s st a e b)
+stage-more list d n at u first h s₁ x E i j s st t i' j' (right-full a e b f es ei ej) =
+    rw (es, ei, ej) (stage-right list d n at u first h s₁ x E i j s st a e b f)
+stage-more list d n at u first h s₁ x E i j s st t i' j' (both-short a e b f F ei ej) =
+    rw (ei, ej) (stage-fill list d n at u first h s₁ x E i j s st a e b f t F)
 
 -- ── all steps ──
 
@@ -52,9 +54,8 @@ evened-ran : (P : Graph → Type 0) (E : Evening) (left : List ℕ) → Ran P (e
 evened-ran P E [] h = refl
 evened-ran P E (l ∷ left) h = absurd h
 
-module _ (list : List ℕ) (d n left right ends apair g u : ℕ) (first : List ℕ)
-    (h : Can-even list d n left right ends apair g u first) where
-  pub rows-fit-even : Rows-fit list (n + n) d u (u + (n + n)) first
+module _ (list : List ℕ) (d n : ℕ) (at : Bases) (u : ℕ) (first : List ℕ) (h : Evens-at list d n at u first) where
+  pub rows-fit-even : Rows-fit list (rows-from (n + n) d u) first
   rows-fit-even =
       record {
         ends =
@@ -67,69 +68,84 @@ module _ (list : List ℕ) (d n left right ends apair g u : ℕ) (first : List �
         short = h .short;
       }
 
+  -- all places are below the mark
+  pub fill-small : Fill-small at (rows-from (n + n) d u)
+  fill-small =
+      let table : at .ends < 4294967296 = omega (arith, h .after-ends, h .after-apair, h .after-graph, h .low) in
+      record {
+        left = omega (arith, h .after-left);
+        right = omega (arith, h .after-right);
+        ends = table;
+        apair = omega (arith, h .after-apair, h .after-graph, h .low);
+        graph = omega (arith, h .after-graph, h .low);
+        counts = omega (arith, h .low);
+        rows = omega (arith, h .low);
+        degree = h .few;
+      }
+
   -- the state after k steps
   abbrev pub after : ℕ → Evening
   after k =
-      iterate k (even-out-step d) (evening (plain-graph first ends g) (region first left n) (region first right n))
+      iterate k (even-out-step d) (evening (plain-graph first (at .ends) (at .g)) (region first (at .left) n) (region first (at .right) n))
 
   after-more : (k : ℕ) → after (k + 1) ≡ even-out-step d (after k)
   after-more k =
       rw add-one
-      (iterate-suc-out k (even-out-step d) (evening (plain-graph first ends g) (region first left n) (region first right n)))
+      (iterate-suc-out k (even-out-step d) (evening (plain-graph first (at .ends) (at .g)) (region first (at .left) n) (region first (at .right) n)))
 
   -- the steps suffice
-  enough : even-out d (plain-graph first ends g) (region first left n) (region first right n) ≡ ran (after (2 * (n + n)) .graph)
+  enough : even-out d (plain-graph first (at .ends) (at .g)) (region first (at .left) n) (region first (at .right) n) ≡ ran (after (2 * (n + n)) .graph)
   unfolding even-out
   enough =
-      let ran-law : Ran (Evened (n + n) (h .side) d (plain-graph first ends g)) (even-out d (plain-graph first ends g) (region first left n) (region first right n)) =
-      even-out-law (n + n) (h .side) d (plain-graph first ends g) (region first left n) (region first right n) (h .partition)
-      (start-sound list d n left right ends apair g u first h) (start-most list d n left right ends apair g u first h) in
-      let e : after (2 * (length (region first left n) + length (region first right n))) ≡ after (2 * (n + n)) =
-      rw (region-length first left n, region-length first right n) in
-      evened-ran (Evened (n + n) (h .side) d (plain-graph first ends g))
-      (after (2 * (length (region first left n) + length (region first right n))))
-      (after (2 * (length (region first left n) + length (region first right n))) .left) ran-law
+      let ran-law : Ran (Evened (n + n) (h .side) d (plain-graph first (at .ends) (at .g))) (even-out d (plain-graph first (at .ends) (at .g)) (region first (at .left) n) (region first (at .right) n)) =
+      even-out-law (n + n) (h .side) d (plain-graph first (at .ends) (at .g)) (region first (at .left) n) (region first (at .right) n) (h .partition)
+      (start-sound list d n at u first h) (start-most list d n at u first h) in
+      let e : after (2 * (length (region first (at .left) n) + length (region first (at .right) n))) ≡ after (2 * (n + n)) =
+      rw (region-length first (at .left) n, region-length first (at .right) n) in
+      evened-ran (Evened (n + n) (h .side) d (plain-graph first (at .ends) (at .g)))
+      (after (2 * (length (region first (at .left) n) + length (region first (at .right) n))))
+      (after (2 * (length (region first (at .left) n) + length (region first (at .right) n))) .left) ran-law
       ∙ ap (λ (E : Evening). ran (E .graph)) e
 
-  module _ (s₁ : List ℕ) (x : Rows-filled list (n + n) d u (u + (n + n)) (length list) first s₁) where
+  module _ (s₁ : List ℕ) (x : Rows-filled list (rows-from (n + n) d u) (length list) first s₁) where
     abbrev pub At : ℕ → ℕ → ℕ → List ℕ → Type 0
-    At k i j s = Stage list d n left right ends apair g u first h s₁ x (after k) i j s
+    At k i j s = Stage list d n at u first h s₁ x (after k) i j s
 
     pub at-none : At 0 0 0 s₁
     unfolding iterate
-    at-none = stage-none list d n left right ends apair g u first h s₁ x
+    at-none = stage-none list d n at u first h s₁ x
 
     -- the next pair has a place
-    pub at-place : (k i j : ℕ) (s : List ℕ) → At k i j s → 0 < n → Has-place ends g s
+    pub at-place : (k i j : ℕ) (s : List ℕ) → At k i j s → 0 < n → Has-place (at .ends) (at .g) s
     at-place k i j s st some =
-        let K = known list d n left right ends apair g u first h s₁ x (after k) i j s st in
+        let K = known list d n at u first h s₁ x (after k) i j s st in
         record {
           row = omega (arith, K .few, K .low, K .len, h .after-graph, h .room);
           entry = omega (arith, K .few, K .len, h .after-graph, h .room);
         }
 
     pub at-more :
-        (k i j i' j' : ℕ) (s t : List ℕ) → At k i j s → Step-taken list d n left right ends apair g u s t i j i' j' →
+        (k i j i' j' : ℕ) (s t : List ℕ) → At k i j s → Step-taken list at (rows-from (n + n) d u) n s t i j i' j' →
         At (k + 1) i' j' t
     at-more k i j i' j' s t st step =
-        rw (after-more k) (stage-more list d n left right ends apair g u first h s₁ x (after k) i j s st t i' j' step)
+        rw (after-more k) (stage-more list d n at u first h s₁ x (after k) i j s st t i' j' step)
 
-    pub evened-out : (i j : ℕ) (t : List ℕ) → At (2 * (n + n)) i j t → Evened-out list d n left right ends apair g u first u t
+    pub evened-out : (i j : ℕ) (t : List ℕ) → At (2 * (n + n)) i j t → Evened-out list d n (at .left) (at .right) (at .ends) (at .apair) (at .g) u first u t
     evened-out i j t st =
         record {
           graph =
               λ pairs few.
-              rw (plain-is ends pairs g first (h .paired .plain) (omega (arith, st .grown)), plain-is ends pairs g t (st .plain) few, st .graph)
+              rw (plain-is (at .ends) pairs (at .g) first (h .paired .plain) (omega (arith, st .grown)), plain-is (at .ends) pairs (at .g) t (st .plain) few, st .graph)
               enough;
           plain = st .plain;
           grown = st .grown;
-          few = known list d n left right ends apair g u first h s₁ x (after (2 * (n + n))) i j t st .few;
-          copies = known list d n left right ends apair g u first h s₁ x (after (2 * (n + n))) i j t st .copies;
+          few = known list d n at u first h s₁ x (after (2 * (n + n))) i j t st .few;
+          copies = known list d n at u first h s₁ x (after (2 * (n + n))) i j t st .copies;
           number-of = λ k a. omega (arith, word-same k a, h .paired .number-of k a, st .grown);
           ends-of =
               λ k a.
-              let below : word first (apair + k) < size first g = h .paired .number-of k a in
-              rw (word-same k a, st .firsts (word first (apair + k)) below, st .seconds (word first (apair + k)) below)
+              let below : word first (at .apair + k) < size first (at .g) = h .paired .number-of k a in
+              rw (word-same k a, st .firsts (word first (at .apair + k)) below, st .seconds (word first (at .apair + k)) below)
               (h .paired .ends-of k a);
           mark = refl;
           changes =
@@ -142,5 +158,5 @@ module _ (list : List ℕ) (d n left right ends apair g u : ℕ) (first : List �
               };
         }
       where
-        word-same : (k : ℕ) → k < length list / 2 → word t (apair + k) ≡ word first (apair + k)
-        word-same = known list d n left right ends apair g u first h s₁ x (after (2 * (n + n))) i j t st .pair-of
+        word-same : (k : ℕ) → k < length list / 2 → word t (at .apair + k) ≡ word first (at .apair + k)
+        word-same = known list d n at u first h s₁ x (after (2 * (n + n))) i j t st .pair-of

@@ -17,9 +17,9 @@ use Rattle.multigraph.specs.Regular.{degree}
 use Rattle.multigraph.specs.Places.{size, number}
 use Rattle.multigraph.proofs.Ends.{same-ends-sym, same-ends-trans}
 use Rattle.evening.specs.Evening.{Evening, evening, even-out-step}
-use Rattle.evening.specs.Contract.{first-of, second-of, Has-ends, Can-even}
+use Rattle.evening.specs.Contract.{first-of, second-of, Has-ends}
 use Rattle.evening.specs.Adding.{plain-graph, Pair-fits, Pair-added}
-use Rattle.evening.specs.Rows.{row, Rows-filled}
+use Rattle.evening.specs.Rows.{rows-from, row, Rows-filled}
 use Rattle.evening.specs.Ends.{Joins}
 use Rattle.evening.specs.Filling.{shortfall, Filled}
 use Rattle.evening.proofs.EvenSteps.{added-left, added-right, added-else, next-fill}
@@ -27,33 +27,34 @@ use Rattle.evening.proofs.PlainLaws.{Graph-kept, graph-kept, has-ends-k
 use Rattle.evening.proofs.RepsLaws.{half-of}
 use Rattle.evening.proofs.FillingWords.{Raised, raised}
 use Rattle.evening.proofs.StageWords.{Stage, Known, known}
+use Rattle.evening.specs.declared.Bases.{Bases}
+use Rattle.evening.specs.Filling.{Evens-at}
 
-module _ (list : List ℕ) (d n left right ends apair g u : ℕ) (first : List ℕ)
-    (h : Can-even list d n left right ends apair g u first) (s₁ : List ℕ)
-    (x : Rows-filled list (n + n) d u (u + (n + n)) (length list) first s₁) (E : Evening) (i j : ℕ) (s : List ℕ)
-    (st : Stage list d n left right ends apair g u first h s₁ x E i j s) (a : i < n)
-    (ne-l : word s (u + word s (left + i)) ≡ d → ⊥) (b : j < n) (ne-r : word s (u + word s (right + j)) ≡ d → ⊥) (t : List ℕ)
-    (F : Filled list d ends apair g u (u + (n + n) + d * word s (left + i)) (word s (left + i)) (word s (right + j)) s t) where
+module _ (list : List ℕ) (d n : ℕ) (at : Bases) (u : ℕ) (first : List ℕ) (h : Evens-at list d n at u first) (s₁ : List ℕ)
+    (x : Rows-filled list (rows-from (n + n) d u) (length list) first s₁) (E : Evening) (i j : ℕ) (s : List ℕ)
+    (st : Stage list d n at u first h s₁ x E i j s) (a : i < n)
+    (ne-l : word s (u + word s (at .left + i)) ≡ d → ⊥) (b : j < n) (ne-r : word s (u + word s (at .right + j)) ≡ d → ⊥) (t : List ℕ)
+    (F : Filled list at (rows-from (n + n) d u) (word s (at .left + i)) (word s (at .right + j)) s t) where
   abbrev lefts : List ℕ
-  lefts = region first left n
+  lefts = region first (at .left) n
 
   abbrev rights : List ℕ
-  rights = region first right n
+  rights = region first (at .right) n
 
   abbrev l : ℕ
-  l = word s (left + i)
+  l = word s (at .left + i)
 
   abbrev r : ℕ
-  r = word s (right + j)
+  r = word s (at .right + j)
 
   abbrev more : ℕ
-  more = shortfall d u l r s
+  more = shortfall (rows-from (n + n) d u) l r s
 
   abbrev G : Graph
   G = E .graph
 
-  K : Known list d n left right ends apair g u first h s₁ x E i j s st
-  K = known list d n left right ends apair g u first h s₁ x E i j s st
+  K : Known list d n at u first h s₁ x E i j s st
+  K = known list d n at u first h s₁ x E i j s st
 
   l-below : l < n + n
   l-below = K .left-side a .0
@@ -82,41 +83,41 @@ module _ (list : List ℕ) (d n left right ends apair g u : ℕ) (first : List �
       ]
 
   -- and its pair has them
-  pair-there : (k : ℕ) → Joins list k l r → (word s (apair + k) < size s g) × Has-ends s ends (word s (apair + k)) l r
+  pair-there : (k : ℕ) → Joins list k l r → (word s (at .apair + k) < size s (at .g)) × Has-ends s (at .ends) (word s (at .apair + k)) l r
   pair-there k q =
       let inside : k < length list / 2 = joined-inside k q in
-      let below : word first (apair + k) < size first g = h .paired .number-of k inside in
-      let own : Has-ends first ends (word first (apair + k)) l r = same-ends-trans q (h .paired .ends-of k inside) in
+      let below : word first (at .apair + k) < size first (at .g) = h .paired .number-of k inside in
+      let own : Has-ends first (at .ends) (word first (at .apair + k)) l r = same-ends-trans q (h .paired .ends-of k inside) in
       rw (K .pair-of k inside)
-      (omega (arith, st .grown), rw (st .firsts (word first (apair + k)) below, st .seconds (word first (apair + k)) below) own)
+      (omega (arith, st .grown), rw (st .firsts (word first (at .apair + k)) below, st .seconds (word first (at .apair + k)) below) own)
 
   -- a pair of the list with these ends has an appointment among the half-edges of l
   old-joined :
-      (e : ℕ) → e < size first g → Has-ends s ends e l r →
+      (e : ℕ) → e < size first (at .g) → Has-ends s (at .ends) e l r →
       (k : ℕ) × (k < d) × Joins list (word s (u + (n + n) + d * l + k) / 2) l r
   old-joined e below q =
-      let own : Has-ends first ends e l r = rw (st .firsts e below, st .seconds e below) at q in
+      let own : Has-ends first (at .ends) e l r = rw (st .firsts e below, st .seconds e below) at q in
       let k = h .paired .every e below in
-      let its : Has-ends first ends e (first-of list (k .0)) (second-of list (k .0)) = rw (k .2) at (h .paired .ends-of (k .0) (k .1)) in
+      let its : Has-ends first (at .ends) e (first-of list (k .0)) (second-of list (k .0)) = rw (k .2) at (h .paired .ends-of (k .0) (k .1)) in
       let joins : Joins list (k .0) l r = same-ends-trans own (same-ends-sym its) in
       let f = half-of list (k .0) l r joins in
       let f-below : f .0 < length list = omega (arith, f .1 .of, k .1, h .even) in
-      let at = x .filled .there (f .0) f-below in
-      let at-below : at .0 < word s₁ (u + l) = rw (f .1 .own) at (at .1) in
-      let at-is : row s₁ (u + (n + n)) d l (at .0) ≡ f .0 = rw (f .1 .own) at (at .2) in
-      let is : word s (u + (n + n) + d * l + at .0) ≡ f .0 = K .row-of l (at .0) ∙ at-is in
-      (at .0, omega (arith, at-below, K .row-end l l-below), rw (is, f .1 .of) joins)
+      let place = x .filled .there (f .0) f-below in
+      let below-end : place .0 < word s₁ (u + l) = rw (f .1 .own) at (place .1) in
+      let place-is : row s₁ (rows-from (n + n) d u) l (place .0) ≡ f .0 = rw (f .1 .own) at (place .2) in
+      let is : word s (u + (n + n) + d * l + place .0) ≡ f .0 = K .row-of l (place .0) ∙ place-is in
+      (place .0, omega (arith, below-end, K .row-end l l-below), rw (is, f .1 .of) joins)
 
   -- a pair that was added since has a full end
-  not-new : (e : ℕ) → size first g ≤ e → e < size s g → Has-ends s ends e l r → ⊥
+  not-new : (e : ℕ) → size first (at .g) ≤ e → e < size s (at .g) → Has-ends s (at .ends) e l r → ⊥
   not-new e low below q =
       ⊎-elim
       (λ y. ⊎-elim (λ z. ne-l (rw (z .0) at y)) (λ z. ne-r (rw (z .0) at y)) q)
       (λ y. ⊎-elim (λ z. ne-r (rw (z .1) at y)) (λ z. ne-l (rw (z .1) at y)) q) (st .new-full e low below)
 
   number-cases :
-      ((F .number < size s g) × Has-ends s ends (F .number) l r)
-      ⊎ ((F .number ≡ size s g) × ((e : ℕ) → e < size s g → Has-ends s ends e l r → ⊥))
+      ((F .number < size s (at .g)) × Has-ends s (at .ends) (F .number) l r)
+      ⊎ ((F .number ≡ size s (at .g)) × ((e : ℕ) → e < size s (at .g) → Has-ends s (at .ends) e l r → ⊥))
   number-cases =
       ⊎-elim
       (λ y. inl (rw (y .3) (pair-there (word s (u + (n + n) + d * l + y .0) / 2) (y .2))))
@@ -124,17 +125,17 @@ module _ (list : List ℕ) (d n left right ends apair g u : ℕ) (first : List �
       inr (
         y .1,
         λ e below q.
-            elim (decLt e (size first g)) [
+            elim (decLt e (size first (at .g))) [
               | yes old ↦ let k = old-joined e old q in y .0 (k .0) (k .1) (k .2)
               | no new ↦ not-new e (omega arith) below q
             ],
       ))
       (F .found)
 
-  room : size s g + 1 ≤ n * d + n
+  room : size s (at .g) + 1 ≤ n * d + n
   room = omega (arith, K .few)
 
-  fits : Pair-fits ends g (F .number) l r more s
+  fits : Pair-fits (at .ends) (at .g) (F .number) l r more s
   fits =
       record {
         plain = st .plain;
@@ -150,7 +151,7 @@ module _ (list : List ℕ) (d n left right ends apair g u : ℕ) (first : List �
         few = omega (arith, h .few);
       }
 
-  A : Pair-added ends g (F .number) l r more s (F .added)
+  A : Pair-added (at .ends) (at .g) (F .number) l r more s (F .added)
   A = F .adds fits
 
   R : Raised u l r more s (F .added) t
@@ -164,9 +165,9 @@ module _ (list : List ℕ) (d n left right ends apair g u : ℕ) (first : List �
   added-high : (k : ℕ) → u ≤ k → word (F .added) k ≡ word s k
   added-high k y = A .changes .over k (omega (arith, room, h .after-graph))
 
-  kept-t : Graph-kept ends g (F .added) t
+  kept-t : Graph-kept (at .ends) (at .g) (F .added) t
   kept-t =
-      graph-kept-by ends g (n * d + n) (F .added) t (omega (arith, room, A .by-one)) (K .low)
+      graph-kept-by (at .ends) (at .g) (n * d + n) (F .added) t (omega (arith, room, A .by-one)) (K .low)
       (λ k y z. t-low k (omega (arith, K .low, h .after-graph))) (λ k y z. t-low k (omega (arith, h .after-graph)))
 
   abbrev bigger : Graph
@@ -183,8 +184,8 @@ module _ (list : List ℕ) (d n left right ends apair g u : ℕ) (first : List �
   graph-is : even-out-step d E .graph ≡ bigger
   graph-is = ap (λ (z : Evening). z .graph) step-is
 
-  graph' : plain-graph t ends g ≡ bigger
-  graph' = graph-kept ends g (F .added) t kept-t ∙ A .graph ∙ rw (st .graph, more-is)
+  graph' : plain-graph t (at .ends) (at .g) ≡ bigger
+  graph' = graph-kept (at .ends) (at .g) (F .added) t kept-t ∙ A .graph ∙ rw (st .graph, more-is)
 
   degrees' : (v : ℕ) → v < n + n → word t (u + v) ≡ degree v bigger
   degrees' v y =
@@ -219,56 +220,56 @@ module _ (list : List ℕ) (d n left right ends apair g u : ℕ) (first : List �
         | no y ↦ inl (omega (arith, R .left, l-short, r-short))
       ]
 
-  added-first : (e : ℕ) → e < size s g → word t (ends + 2 * e) ≡ word s (ends + 2 * e)
+  added-first : (e : ℕ) → e < size s (at .g) → word t (at .ends + 2 * e) ≡ word s (at .ends + 2 * e)
   added-first e y =
-      t-low (ends + 2 * e) (omega (arith, room, K .low, h .after-graph)) ∙ A .changes .under (ends + 2 * e) (omega arith)
+      t-low (at .ends + 2 * e) (omega (arith, room, K .low, h .after-graph)) ∙ A .changes .under (at .ends + 2 * e) (omega arith)
 
-  added-second : (e : ℕ) → e < size s g → word t (ends + 2 * e + 1) ≡ word s (ends + 2 * e + 1)
+  added-second : (e : ℕ) → e < size s (at .g) → word t (at .ends + 2 * e + 1) ≡ word s (at .ends + 2 * e + 1)
   added-second e y =
-      t-low (ends + 2 * e + 1) (omega (arith, room, K .low, h .after-graph))
-      ∙ A .changes .under (ends + 2 * e + 1) (omega arith)
+      t-low (at .ends + 2 * e + 1) (omega (arith, room, K .low, h .after-graph))
+      ∙ A .changes .under (at .ends + 2 * e + 1) (omega arith)
 
   last-full :
-      (e : ℕ) → Has-ends t ends e l r →
-      (word t (u + word t (ends + 2 * e)) ≡ d) ⊎ (word t (u + word t (ends + 2 * e + 1)) ≡ d)
+      (e : ℕ) → Has-ends t (at .ends) e l r →
+      (word t (u + word t (at .ends + 2 * e)) ≡ d) ⊎ (word t (u + word t (at .ends + 2 * e + 1)) ≡ d)
   last-full e q =
       ⊎-elim
       (λ z. rw (z .0, z .1) one-full)
       (λ z. rw (z .0, z .1) (⊎-elim (λ y. inr y) (λ y. inl y) one-full)) q
 
   new-full' :
-      (e : ℕ) → size first g ≤ e → e < size t g →
-      (word t (u + word t (ends + 2 * e)) ≡ d) ⊎ (word t (u + word t (ends + 2 * e + 1)) ≡ d)
+      (e : ℕ) → size first (at .g) ≤ e → e < size t (at .g) →
+      (word t (u + word t (at .ends + 2 * e)) ≡ d) ⊎ (word t (u + word t (at .ends + 2 * e + 1)) ≡ d)
   new-full' e low below =
-      elim (decLt e (size s g)) [
+      elim (decLt e (size s (at .g))) [
         | yes y ↦
             rw (added-first e y, added-second e y)
-            (⊎-elim (λ z. inl (full-stays (word s (ends + 2 * e)) z)) (λ z. inr (full-stays (word s (ends + 2 * e + 1)) z))
+            (⊎-elim (λ z. inl (full-stays (word s (at .ends + 2 * e)) z)) (λ z. inr (full-stays (word s (at .ends + 2 * e + 1)) z))
             (st .new-full e low y))
         | no y ↦
             let its : F .number ≡ e =
             ⊎-elim
             (λ z. absurd (omega (arith, A .same-size (z .0), kept-t .count)))
             (λ z. omega (arith, z .0, A .by-one, kept-t .count)) number-cases in
-            last-full e (rw its at (has-ends-kept ends g (F .added) t kept-t (F .number) l r (A .its-number) (A .its-ends)))
+            last-full e (rw its at (has-ends-kept (at .ends) (at .g) (F .added) t kept-t (F .number) l r (A .its-number) (A .its-ends)))
       ]
 
-  changes' : (mark : ℕ) → Changes-three ends (2 * (n * d + n)) g (2 + 2 * (n * d + n)) u (n + n) mark s t
+  changes' : (mark : ℕ) → Changes-three (at .ends) (2 * (n * d + n)) (at .g) (2 + 2 * (n * d + n)) u (n + n) mark s t
   changes' mark =
       three-trans
-      (three-low ends (2 * (n * d + n)) g (2 + 2 * (n * d + n)) u (n + n) mark (omega arith) (omega (arith, room)) (K .low) (omega arith)
+      (three-low (at .ends) (2 * (n * d + n)) (at .g) (2 + 2 * (n * d + n)) u (n + n) mark (omega arith) (omega (arith, room)) (K .low) (omega arith)
       (omega (arith, room)) (omega (arith, h .after-graph)) (A .changes))
-      (three-within ends (2 * (n * d + n)) g (2 + 2 * (n * d + n)) u (n + n) mark (F .added) t (K .low) (omega (arith, h .after-graph))
+      (three-within (at .ends) (2 * (n * d + n)) (at .g) (2 + 2 * (n * d + n)) u (n + n) mark (F .added) t (K .low) (omega (arith, h .after-graph))
       (R .len)
       (λ k m y z w. R .elsewhere k (λ q. w (omega arith) (omega (arith, l-below))) (λ q. w (omega arith) (omega (arith, r-below)))))
 
-  pub stage-fill : Stage list d n left right ends apair g u first h s₁ x (even-out-step d E) i j t
+  pub stage-fill : Stage list d n at u first h s₁ x (even-out-step d E) i j t
   stage-fill =
       record {
         left-rest = ap (λ (z : Evening). z .left) step-is ∙ sym (K .lefts-are a) ∙ st .left-rest;
         right-rest = ap (λ (z : Evening). z .right) step-is ∙ sym (K .rights-are b) ∙ st .right-rest;
         graph = graph' ∙ sym graph-is;
-        plain = plain-kept ends g (F .added) t kept-t (A .plain);
+        plain = plain-kept (at .ends) (at .g) (F .added) t kept-t (A .plain);
         degrees = λ v y. degrees' v y ∙ ap (degree v) (sym graph-is);
         evens = K .evens;
         grown = omega (arith, st .grown, A .grown, kept-t .count);

@@ -1,17 +1,21 @@
 -- What the steps of evening out do, by what they have read, and two counters raised. Assumes nothing.
-use Prim.Native.Nat.{ℕ, _+_, _-_, _/_, _<_, min}
+use Prim.Native.Nat.{ℕ, _+_, _*_, _-_, _/_, _<_, _≤_, min}
 use mathlib.Core.Path.{_≡_, refl, sym, _∙_}
 use mathlib.Core.List.{List}
 use mathlib.Core.Logic.{inl, inr, ⊎-elim}
 use native.Mathlib.Omega.{arith}
 use native.Mathlib.Decide.{ℕ-discrete}
+use native.Mathlib.Nat.{mul-le-mul}
 use lib.ListN.{length}
 use Rattle.words.specs.Words.{word, put-word}
 use Rattle.words.proofs.Frames.{here, away, length-put}
 use Rattle.multigraph.specs.Places.{size}
 use Rattle.evening.specs.Adding.{Adds-pair}
 use Rattle.evening.specs.Ends.{Says, Joins}
-use Rattle.evening.specs.Filling.{Pair-found, shortfall, Filled}
+use Rattle.evening.specs.Filling.{Fill-small, Pair-found, shortfall, Filled}
+use Rattle.evening.specs.Rows.{row, counter}
+use Rattle.evening.specs.declared.Bases.{Bases}
+use Rattle.evening.specs.declared.rows.RowBases.{RowBases}
 
 pub says-yes : (r : ℕ) (P : Type 0) → Says r P → r ≡ 1 → P
 says-yes r P h e = ⊎-elim (λ x. x .0) (λ x. absurd (omega (arith, x .1))) h
@@ -19,16 +23,16 @@ says-yes r P h e = ⊎-elim (λ x. x .0) (λ x. absurd (omega (arith, x .1))) h
 pub says-no : (r : ℕ) (P : Type 0) → Says r P → (r ≡ 1 → ⊥) → P → ⊥
 says-no r P h e = ⊎-elim (λ x y. e (x .1)) (λ x. x .0) h
 
-module _ (list : List ℕ) (apair from k l r none : ℕ) (s : List ℕ) where
-  -- none of the first t half-edges is one of an appointment with these ends
+module _ (list : List ℕ) (at : Bases) (rs : RowBases) (l r : ℕ) (s : List ℕ) where
+  -- none of the first t half-edges in the row of l is one of an appointment with these ends
   abbrev pub Missed : ℕ → Type 0
-  Missed t = (x : ℕ) → x < t → Joins list (word s (from + x) / 2) l r → ⊥
+  Missed t = (x : ℕ) → x < t → Joins list (row s rs l x / 2) l r → ⊥
 
   pub missed-none : Missed 0
   missed-none x a j = omega arith
 
   pub missed-more :
-      (t h q : ℕ) → Missed t → h ≡ word s (from + t) → Says q (Joins list (h / 2) l r) → (q ≡ 1 → ⊥) → Missed (t + 1)
+      (t h q : ℕ) → Missed t → h ≡ row s rs l t → Says q (Joins list (h / 2) l r) → (q ≡ 1 → ⊥) → Missed (t + 1)
   missed-more t h q m e says other x a j =
       elim (ℕ-discrete x t) [
         | yes z ↦
@@ -38,28 +42,35 @@ module _ (list : List ℕ) (apair from k l r none : ℕ) (s : List ℕ) where
       ]
 
   pub found-here :
-      (t h q e : ℕ) → t < k → h ≡ word s (from + t) → Says q (Joins list (h / 2) l r) → q ≡ 1 → e ≡ word s (apair + h / 2) →
-      Pair-found list apair from k l r none s e
+      (t h q e : ℕ) → t < rs .d → h ≡ row s rs l t → Says q (Joins list (h / 2) l r) → q ≡ 1 → e ≡ word s (at .apair + h / 2) →
+      Pair-found list at rs l r s e
   found-here t h q e a is says agrees its =
       inl (t, a, rw is at (says-yes q (Joins list (h / 2) l r) says agrees), rw is at its)
 
-  pub found-none : (t : ℕ) → t ≡ k → Missed t → Pair-found list apair from k l r none s none
-  found-none t e m = inr (rw e at m, refl)
+  pub found-none : (t e : ℕ) → t ≡ rs .d → Missed t → e ≡ size s (at .g) → Pair-found list at rs l r s e
+  found-none t e is m last = inr (rw is at m, last)
 
-pub filled-by :
-    (list : List ℕ) (d ends apair g b from l r : ℕ) (s t u v : List ℕ) (dl dr more m e : ℕ) → dl ≡ word s (b + l) →
-    dr ≡ word s (b + r) → more ≡ min (d - dl) (d - dr) → m ≡ size s g → Pair-found list apair from d l r m s e →
-    Adds-pair ends g e l r more s u → v ≡ put-word u (b + l) (dl + more) → t ≡ put-word v (b + r) (dr + more) →
-    Filled list d ends apair g b from l r s t
-filled-by list d ends apair g b from l r s t u v dl dr more m e el er em es found adds ev et =
-    let is : more ≡ shortfall d b l r s = rw (el, er) at em in
-    record {
-      number = e;
-      added = u;
-      found = rw es at found;
-      adds = rw is at adds;
-      degrees = rw (ev, el, er, is) at et;
-    }
+  pub filled-by :
+      (t u v : List ℕ) (dl dr more e : ℕ) → dl ≡ counter s rs l → dr ≡ counter s rs r → more ≡ min (rs .d - dl) (rs .d - dr) →
+      Pair-found list at rs l r s e → Adds-pair (at .ends) (at .g) e l r more s u → v ≡ put-word u (rs .counts + l) (dl + more) →
+      t ≡ put-word v (rs .counts + r) (dr + more) → Filled list at rs l r s t
+  filled-by t u v dl dr more e el er em found adds ev et =
+      let is : more ≡ shortfall rs l r s = rw (el, er) at em in
+      record {
+        number = e;
+        added = u;
+        found = found;
+        adds = rw is at adds;
+        degrees = rw (ev, el, er, is) at et;
+      }
+
+-- no place of a row lies past the numbers
+pub row-small :
+    (at : Bases) (rs : RowBases) (v : ℕ) → Fill-small at rs → v < 4294967296 → rs .rows + rs .d * v + rs .d < 18446744073709551616
+row-small at rs v h a =
+    let x : rs .d ≤ 2147483648 = omega (arith, h .degree) in
+    let y : v ≤ 4294967296 = omega arith in
+    omega (arith, mul-le-mul x y, h .rows)
 
 -- ── two counters raised ──
 

@@ -17,21 +17,23 @@ use Rattle.multigraph.specs.Places.{size}
 use Rattle.multigraph.specs.Steps.{span}
 use Rattle.evening.specs.Evening.{add-appointments}
 use Rattle.evening.specs.Contract.{Can-pair, Pairs-made}
-use Rattle.evening.specs.Rows.{Rows-fit, Rows-filled}
+use Rattle.evening.specs.Rows.{rows-from, Rows-fit, Rows-filled}
 use Rattle.evening.specs.Representatives.{Reps-fit, Reps-done}
 use Rattle.evening.specs.FromList.{Building, Built}
 use Rattle.evening.proofs.PlainLaws.{plain-is}
 use Rattle.evening.proofs.RepsLaws.{rep-of}
 use Rattle.evening.proofs.Listed.{listed-half}
+use Rattle.evening.specs.declared.Bases.{Bases}
 
-module _ (list : List ℕ) (p d ends apair g u : ℕ) (s : List ℕ) (h : Can-pair list p d ends apair g u s) where
+module _ (list : List ℕ) (p d : ℕ) (at : Bases) (u : ℕ) (s : List ℕ)
+    (h : Can-pair list p d (at .ends) (at .apair) (at .g) u s) where
   halves : (f : ℕ) → f < length list → word list f < p
   halves = listed-half list p (h .even) (h .listed)
 
   counts : (v : ℕ) → v < p → count v list ≤ d
   counts v a = omega (arith, h .loads v a, load-count v list (h .even))
 
-  pub rows-fit : Rows-fit list p d u (u + p) s
+  pub rows-fit : Rows-fit list (rows-from p d u) s
   rows-fit =
       record {
         ends = halves;
@@ -42,7 +44,7 @@ module _ (list : List ℕ) (p d ends apair g u : ℕ) (s : List ℕ) (h : Can-pa
         short = h .short;
       }
 
-  pub reps-fit : (t : List ℕ) → Rows-filled list p d u (u + p) (length list) s t → Reps-fit list p d u (u + p) (u + p + d * p) apair t
+  pub reps-fit : (t : List ℕ) → Rows-filled list (rows-from p d u) (length list) s t → Reps-fit list (rows-from p d u) (u + p + d * p) (at .apair) t
   reps-fit t x =
       record {
         in-rows = x .filled;
@@ -57,33 +59,33 @@ module _ (list : List ℕ) (p d ends apair g u : ℕ) (s : List ℕ) (h : Can-pa
         small = omega (arith, h .low);
       }
 
-  module _ (t r o : List ℕ) (x : Rows-filled list p d u (u + p) (length list) s t) (y : Reps-done list p (u + p + d * p) apair p t r)
-      (z : o ≡ put-word (put-word r g g) (g + 1) 0) where
+  module _ (t r o : List ℕ) (x : Rows-filled list (rows-from p d u) (length list) s t) (y : Reps-done list p (u + p + d * p) (at .apair) p t r)
+      (z : o ≡ put-word (put-word r (at .g) (at .g)) (at .g + 1) 0) where
     mid : List ℕ
-    mid = put-word r g g
+    mid = put-word r (at .g) (at .g)
 
     o-len : length o ≡ length s
     unfolding mid
-    o-len = ap length z ∙ length-put mid (g + 1) 0 ∙ length-put r g g ∙ y .changes .len ∙ x .keeps .len
+    o-len = ap length z ∙ length-put mid (at .g + 1) 0 ∙ length-put r (at .g) (at .g) ∙ y .changes .len ∙ x .keeps .len
 
-    o-away : (i : ℕ) → (i ≡ g → ⊥) → (i ≡ g + 1 → ⊥) → word o i ≡ word r i
+    o-away : (i : ℕ) → (i ≡ at .g → ⊥) → (i ≡ at .g + 1 → ⊥) → word o i ≡ word r i
     unfolding mid
-    o-away i a b = rw z (away mid (g + 1) i 0 b ∙ away r g i g a)
+    o-away i a b = rw z (away mid (at .g + 1) i 0 b ∙ away r (at .g) i (at .g) a)
 
-    o-header : word o g ≡ g
+    o-header : word o (at .g) ≡ at .g
     unfolding mid
     o-header =
         rw z
-        (away mid (g + 1) g 0 (λ q. omega arith)
-        ∙ here r g g (omega (arith, h .after-graph, h .room, y .changes .len, x .keeps .len)) (omega (arith, h .after-graph, h .low)))
+        (away mid (at .g + 1) (at .g) 0 (λ q. omega arith)
+        ∙ here r (at .g) (at .g) (omega (arith, h .after-graph, h .room, y .changes .len, x .keeps .len)) (omega (arith, h .after-graph, h .low)))
 
-    o-size : size o g ≡ 0
+    o-size : size o (at .g) ≡ 0
     unfolding mid
     o-size =
         rw z
-        (here mid (g + 1) 0 (omega (arith, h .after-graph, h .room, y .changes .len, x .keeps .len, length-put r g g)) (omega arith))
+        (here mid (at .g + 1) 0 (omega (arith, h .after-graph, h .room, y .changes .len, x .keeps .len, length-put r (at .g) (at .g))) (omega arith))
 
-    pub started : Building list ends apair g 0 o
+    pub started : Building list at 0 o
     unfolding span add-appointments
     started =
         record {
@@ -100,8 +102,8 @@ module _ (list : List ℕ) (p d ends apair g u : ℕ) (s : List ℕ) (h : Can-pa
           every = λ e a. absurd (omega (arith, o-size));
           reps =
               λ i a b.
-              rw (o-away (apair + i) (λ q. omega (arith, h .after-apair)) (λ q. omega (arith, h .after-apair)))
-              (rep-of list p d u (u + p) (u + p + d * p) apair t (reps-fit t x) r y i b);
+              rw (o-away (at .apair + i) (λ q. omega (arith, h .after-apair)) (λ q. omega (arith, h .after-apair)))
+              (rep-of list (rows-from p d u) (u + p + d * p) (at .apair) t (reps-fit t x) r y i b);
           after-ends = h .after-ends;
           after-apair = h .after-apair;
           inside = omega (arith, o-len, h .after-graph, h .room);
@@ -110,22 +112,22 @@ module _ (list : List ℕ) (p d ends apair g u : ℕ) (s : List ℕ) (h : Can-pa
         }
 
     -- up to here
-    prepared : Changes-three ends (2 * (length list / 2)) apair (length list / 2) g (2 + 2 * (length list / 2)) u s o
+    prepared : Changes-three (at .ends) (2 * (length list / 2)) (at .apair) (length list / 2) (at .g) (2 + 2 * (length list / 2)) u s o
     prepared =
-        three-trans (three-keeps ends (2 * (length list / 2)) apair (length list / 2) g (2 + 2 * (length list / 2)) (x .keeps))
+        three-trans (three-keeps (at .ends) (2 * (length list / 2)) (at .apair) (length list / 2) (at .g) (2 + 2 * (length list / 2)) (x .keeps))
         (three-trans
-        (three-middle ends (2 * (length list / 2)) g (2 + 2 * (length list / 2)) (h .after-ends) (h .after-apair)
+        (three-middle (at .ends) (2 * (length list / 2)) (at .g) (2 + 2 * (length list / 2)) (h .after-ends) (h .after-apair)
         (changes-stays u (omega arith) (y .changes)))
-        (three-within ends (2 * (length list / 2)) apair (length list / 2) g (2 + 2 * (length list / 2)) u r o (h .after-ends) (h .after-apair)
+        (three-within (at .ends) (2 * (length list / 2)) (at .apair) (length list / 2) (at .g) (2 + 2 * (length list / 2)) u r o (h .after-ends) (h .after-apair)
         (o-len ∙ sym (y .changes .len ∙ x .keeps .len))
         (λ i m a b c. o-away i (λ q. c (omega arith) (omega arith)) (λ q. c (omega arith) (omega arith)))))
 
-    pub pairs-made : (e : List ℕ) → Built list ends apair g (length list / 2) o e → Pairs-made list ends apair g u s u e
+    pub pairs-made : (e : List ℕ) → Built list at (length list / 2) o e → Pairs-made list (at .ends) (at .apair) (at .g) u s u e
     pairs-made e b =
         record {
           paired =
               record {
-                graph = λ pairs few. plain-is ends pairs g e (b .building .plain) few ∙ b .building .graph ∙ ap (add-appointments []) whole;
+                graph = λ pairs few. plain-is (at .ends) pairs (at .g) e (b .building .plain) few ∙ b .building .graph ∙ ap (add-appointments []) whole;
                 plain = b .building .plain;
                 few = b .building .few;
                 number-of = b .building .number-of;

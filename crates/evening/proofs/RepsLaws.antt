@@ -15,7 +15,8 @@ use Rattle.words.proofs.Below.{row-inside}
 use Rattle.multigraph.specs.Regular.{Same-ends}
 use Rattle.multigraph.proofs.Ends.{same-ends-sym, same-ends-trans}
 use Rattle.evening.specs.Contract.{first-of, second-of}
-use Rattle.evening.specs.Rows.{row}
+use Rattle.evening.specs.declared.rows.RowBases.{RowBases}
+use Rattle.evening.specs.Rows.{row, counter}
 use Rattle.evening.specs.Ends.{Says, Earlier}
 use Rattle.evening.specs.Representatives.{mate, Same, Rep, candidate, Finds, Rep-found, Reps-fit, Row-done, Reps-done}
 
@@ -73,12 +74,12 @@ pub record Rep-written (map apair w i j c : ℕ) (s t : List ℕ) : Type 0 where
   pub its-map : word t (map + w) ≡ c
   pub elsewhere : (n : ℕ) → (n ≡ apair + i → ⊥) → (n ≡ map + w → ⊥) → word t n ≡ word s n
 
-module _ (list : List ℕ) (p d b rows map apair : ℕ) (s₀ : List ℕ) (fit : Reps-fit list p d b rows map apair s₀) (v : ℕ) (party : v < p) where
+module _ (list : List ℕ) (rs : RowBases) (map apair : ℕ) (s₀ : List ℕ) (fit : Reps-fit list rs map apair s₀) (v : ℕ) (party : v < rs .parties) where
   abbrev h-at : ℕ → ℕ
-  h-at t = row s₀ rows d v t
+  h-at t = row s₀ rs v t
 
   abbrev len : ℕ
-  len = word s₀ (b + v)
+  len = counter s₀ rs v
 
   -- what is known of a half-edge that has been passed
   pub record Passed (h : ℕ) (s : List ℕ) : Type 0 where
@@ -89,14 +90,14 @@ module _ (list : List ℕ) (p d b rows map apair : ℕ) (s₀ : List ℕ) (fit :
   pub record Going (k : ℕ) (s : List ℕ) : Type 0 where
     pub passed : (t : ℕ) → t < k → Passed (h-at t) s
     pub kept : (i : ℕ) → i < length list / 2 → Rep list i (word s₀ (apair + i)) → Rep list i (word s (apair + i))
-    pub changes : Changes apair (length list / 2) map p s₀ s
+    pub changes : Changes apair (length list / 2) map (rs .parties) s₀ s
 
   pub going-none : Going 0 s₀
   going-none =
       record {
         passed = λ t a. absurd (omega arith);
         kept = λ i a h. h;
-        changes = changes-refl apair (length list / 2) map p s₀;
+        changes = changes-refl apair (length list / 2) map (rs .parties) s₀;
       }
 
   h-below : (t : ℕ) → t < len → h-at t < length list
@@ -109,15 +110,15 @@ module _ (list : List ℕ) (p d b rows map apair : ℕ) (s₀ : List ℕ) (fit :
   apair-low = omega (arith, fit .before, fit .after, fit .after-rows)
 
   -- the row is as it was
-  pub row-kept : (k t : ℕ) (s : List ℕ) → t < len → Going k s → row s rows d v t ≡ h-at t
+  pub row-kept : (k t : ℕ) (s : List ℕ) → t < len → Going k s → row s rs v t ≡ h-at t
   row-kept k t s a g =
-      g .changes .between (rows + d * v + t) (omega (arith, fit .before, fit .after))
-      (omega (arith, fit .after-rows, row-inside d v t p party (omega (arith, fit .lens v party))))
+      g .changes .between (rs .rows + rs .d * v + t) (omega (arith, fit .before, fit .after))
+      (omega (arith, fit .after-rows, row-inside (rs .d) v t (rs .parties) party (omega (arith, fit .lens v party))))
 
   -- the row lies within the words
-  pub row-inside-words : (k t : ℕ) (s : List ℕ) → t < len → Going k s → rows + d * v + t < length s
+  pub row-inside-words : (k t : ℕ) (s : List ℕ) → t < len → Going k s → rs .rows + rs .d * v + t < length s
   row-inside-words k t s a g =
-      omega (arith, row-inside d v t p party (omega (arith, fit .lens v party)), fit .after-rows, fit .inside, g .changes .len)
+      omega (arith, row-inside (rs .d) v t (rs .parties) party (omega (arith, fit .lens v party)), fit .after-rows, fit .inside, g .changes .len)
 
   module _ (k : ℕ) (s : List ℕ) (inside : k < len) (g : Going k s) where
     abbrev h : ℕ
@@ -135,7 +136,7 @@ module _ (list : List ℕ) (p d b rows map apair : ℕ) (s₀ : List ℕ) (fit :
     i-below : i < length list / 2
     i-below = omega (arith, h-below k inside, fit .even)
 
-    w-party : w < p
+    w-party : w < rs .parties
     w-party = fit .ends (mate h) (mate-below h (h-below k inside))
 
     -- where an earlier appointment has the same ends, its half-edge at v has been passed
@@ -167,7 +168,7 @@ module _ (list : List ℕ) (p d b rows map apair : ℕ) (s₀ : List ℕ) (fit :
 
     module _ (j c : ℕ) (t : List ℕ) (is-rep : Rep list i j) (is-c : c ≤ i) (c-same : Same list c i)
         (others : (x : ℕ) → x < k → word list (mate (h-at x)) ≡ w → c ≡ word s (map + w)) (wr : Rep-written map apair w i j c s t)
-        (ch : Changes apair (length list / 2) map p s t) where
+        (ch : Changes apair (length list / 2) map (rs .parties) s t) where
       rep-kept : (n : ℕ) → n < length list / 2 → Rep list n (word s (apair + n)) → Rep list n (word t (apair + n))
       rep-kept n a r =
           elim (ℕ-discrete n i) [
@@ -247,7 +248,7 @@ module _ (list : List ℕ) (p d b rows map apair : ℕ) (s₀ : List ℕ) (fit :
           its-map = away s (apair + i) (map + w) c (λ x. omega (arith, apair-low, i-below));
           elsewhere = λ n x y. away s (apair + i) n c x;
         }))
-        (rw q (changes-put-low apair (length list / 2) map p s (apair + i) c apair-low (omega arith) (omega (arith, i-below))))
+        (rw q (changes-put-low apair (length list / 2) map (rs .parties) s (apair + i) c apair-low (omega arith) (omega (arith, i-below))))
 
     -- a half-edge passed before with the same other end would have given a candidate
     not-met : (Earlier list (word s (map + w)) i (word list h) w → ⊥) → (x : ℕ) → x < k → word list (mate (h-at x)) ≡ w → ⊥
@@ -285,14 +286,14 @@ module _ (list : List ℕ) (p d b rows map apair : ℕ) (s₀ : List ℕ) (fit :
         }))
         (rw q
         (changes-trans
-        (changes-put-low apair (length list / 2) map p s (apair + i) i apair-low (omega arith) (omega (arith, i-below)))
-        (changes-put apair (length list / 2) map p u (map + w) i apair-low (omega arith) (omega (arith, w-party)))))
+        (changes-put-low apair (length list / 2) map (rs .parties) s (apair + i) i apair-low (omega arith) (omega (arith, i-below)))
+        (changes-put apair (length list / 2) map (rs .parties) u (map + w) i apair-low (omega arith) (omega (arith, w-party)))))
 
     pub going-more : (t : List ℕ) → Rep-found list map apair h s t → Going (k + 1) t
     going-more t f = ⊎-elim (λ x. going-found t (x .0) (x .1)) (λ x. going-new t (x .0) (x .1)) f
 
   -- the whole row has been gone through
-  pub row-done : (s : List ℕ) → Going len s → Row-done list p map apair v s₀ s
+  pub row-done : (s : List ℕ) → Going len s → Row-done list (rs .parties) map apair v s₀ s
   row-done s g =
       record {
         reps = λ h a e. one h (fit .in-rows .there h a) e;
@@ -301,7 +302,7 @@ module _ (list : List ℕ) (p d b rows map apair : ℕ) (s₀ : List ℕ) (fit :
       }
     where
       one :
-          (h : ℕ) → (t : ℕ) × (t < word s₀ (b + word list h)) × (row s₀ rows d (word list h) t ≡ h) → word list h ≡ v →
+          (h : ℕ) → (t : ℕ) × (t < counter s₀ rs (word list h)) × (row s₀ rs (word list h) t ≡ h) → word list h ≡ v →
           Rep list (h / 2) (word s (apair + h / 2))
       one h at e =
           let inside : at .0 < len = rw e at (at .1) in
@@ -310,12 +311,12 @@ module _ (list : List ℕ) (p d b rows map apair : ℕ) (s₀ : List ℕ) (fit :
 
 -- ── all rows ──
 
-module _ (list : List ℕ) (p d b rows map apair : ℕ) (s₀ : List ℕ) (fit : Reps-fit list p d b rows map apair s₀) where
-  pub reps-none : Reps-done list p map apair 0 s₀ s₀
-  reps-none = record { reps = λ h a e. absurd (omega arith); changes = changes-refl apair (length list / 2) map p s₀ }
+module _ (list : List ℕ) (rs : RowBases) (map apair : ℕ) (s₀ : List ℕ) (fit : Reps-fit list rs map apair s₀) where
+  pub reps-none : Reps-done list (rs .parties) map apair 0 s₀ s₀
+  reps-none = record { reps = λ h a e. absurd (omega arith); changes = changes-refl apair (length list / 2) map (rs .parties) s₀ }
 
   -- what the search writes is neither a row nor a length
-  pub reps-fit-kept : (s : List ℕ) → Changes apair (length list / 2) map p s₀ s → Reps-fit list p d b rows map apair s
+  pub reps-fit-kept : (s : List ℕ) → Changes apair (length list / 2) map (rs .parties) s₀ s → Reps-fit list rs map apair s
   reps-fit-kept s ch =
       record {
         in-rows =
@@ -340,27 +341,27 @@ module _ (list : List ℕ) (p d b rows map apair : ℕ) (s₀ : List ℕ) (fit :
         small = fit .small;
       }
     where
-      len-same : (v : ℕ) → v < p → word s (b + v) ≡ word s₀ (b + v)
-      len-same v a = ch .between (b + v) (omega (arith, fit .before)) (omega (arith, fit .after, fit .after-rows))
+      len-same : (v : ℕ) → v < rs .parties → counter s rs v ≡ counter s₀ rs v
+      len-same v a = ch .between (rs .counts + v) (omega (arith, fit .before)) (omega (arith, fit .after, fit .after-rows))
 
-      old : (v t : ℕ) → v < p → t < word s (b + v) → t < word s₀ (b + v)
+      old : (v t : ℕ) → v < rs .parties → t < counter s rs v → t < counter s₀ rs v
       old v t a l = omega (arith, len-same v a)
 
-      row-same : (v t : ℕ) → v < p → t < word s₀ (b + v) → row s rows d v t ≡ row s₀ rows d v t
+      row-same : (v t : ℕ) → v < rs .parties → t < counter s₀ rs v → row s rs v t ≡ row s₀ rs v t
       row-same v t a l =
-          ch .between (rows + d * v + t) (omega (arith, fit .before, fit .after))
-          (omega (arith, fit .after-rows, row-inside d v t p a (omega (arith, fit .lens v a))))
+          ch .between (rs .rows + rs .d * v + t) (omega (arith, fit .before, fit .after))
+          (omega (arith, fit .after-rows, row-inside (rs .d) v t (rs .parties) a (omega (arith, fit .lens v a))))
 
       there :
-          (h : ℕ) → h < length list → (t : ℕ) × (t < word s₀ (b + word list h)) × (row s₀ rows d (word list h) t ≡ h) →
-          (t : ℕ) × (t < word s (b + word list h)) × (row s rows d (word list h) t ≡ h)
+          (h : ℕ) → h < length list → (t : ℕ) × (t < counter s₀ rs (word list h)) × (row s₀ rs (word list h) t ≡ h) →
+          (t : ℕ) × (t < counter s rs (word list h)) × (row s rs (word list h) t ≡ h)
       there h a x =
-          let party : word list h < p = fit .ends h a in
+          let party : word list h < rs .parties = fit .ends h a in
           (x .0, omega (arith, x .1, len-same (word list h) party), row-same (word list h) (x .0) party (x .1) ∙ x .2)
 
   pub reps-more :
-      (v : ℕ) (s t : List ℕ) → v < p → Reps-done list p map apair v s₀ s → Row-done list p map apair v s t →
-      Reps-done list p map apair (v + 1) s₀ t
+      (v : ℕ) (s t : List ℕ) → v < rs .parties → Reps-done list (rs .parties) map apair v s₀ s → Row-done list (rs .parties) map apair v s t →
+      Reps-done list (rs .parties) map apair (v + 1) s₀ t
   reps-more v s t a x y =
       record {
         reps = λ h l e. one h l e;
@@ -375,7 +376,7 @@ module _ (list : List ℕ) (p d b rows map apair : ℕ) (s₀ : List ℕ) (fit :
           ]
 
   -- every appointment has its representative
-  pub rep-of : (t : List ℕ) → Reps-done list p map apair p s₀ t → (i : ℕ) → i < length list / 2 → Rep list i (word t (apair + i))
+  pub rep-of : (t : List ℕ) → Reps-done list (rs .parties) map apair (rs .parties) s₀ t → (i : ℕ) → i < length list / 2 → Rep list i (word t (apair + i))
   rep-of t x i a =
       let h : 2 * i < length list = omega arith in
       let e : 2 * i / 2 ≡ i = omega arith in

@@ -11,7 +11,8 @@ use Rattle.words.proofs.Sums.{is-same, is-ne, count-take-le}
 use Rattle.words.proofs.Frames.{here, away, length-put, keeps-refl, keeps-trans}
 use Rattle.words.proofs.Below.{rows-apart, row-inside}
 use Rattle.appointments.proofs.Flat.{count-more}
-use Rattle.evening.specs.Rows.{row, Cleared, Pushes, Rows-fit, Rows-filled}
+use Rattle.evening.specs.declared.rows.RowBases.{RowBases}
+use Rattle.evening.specs.Rows.{row, counter, Cleared, Pushes, row-pushed, Rows-fit, Rows-filled}
 
 -- ── clearing ──
 
@@ -35,54 +36,54 @@ cleared-more b n s t u inside h e =
 
 -- ── one half-edge more ──
 
-pub record Row-pushed (q d b rows v h : ℕ) (s t : List ℕ) : Type 0 where
+pub record Row-pushed (rs : RowBases) (v h : ℕ) (s t : List ℕ) : Type 0 where
   pub len : length t ≡ length s
-  pub under : (i : ℕ) → i < b → word t i ≡ word s i
-  pub own-len : word t (b + v) ≡ word s (b + v) + 1
-  pub other-len : (w : ℕ) → w < q → (w ≡ v → ⊥) → word t (b + w) ≡ word s (b + w)
-  pub last : row t rows d v (word s (b + v)) ≡ h
-  pub own-row : (x : ℕ) → x < word s (b + v) → row t rows d v x ≡ row s rows d v x
-  pub other-row : (w x : ℕ) → w < q → (w ≡ v → ⊥) → x < d → row t rows d w x ≡ row s rows d w x
+  pub under : (i : ℕ) → i < rs .counts → word t i ≡ word s i
+  pub own-len : counter t rs v ≡ counter s rs v + 1
+  pub other-len : (w : ℕ) → w < rs .parties → (w ≡ v → ⊥) → counter t rs w ≡ counter s rs w
+  pub last : row t rs v (counter s rs v) ≡ h
+  pub own-row : (x : ℕ) → x < counter s rs v → row t rs v x ≡ row s rs v x
+  pub other-row : (w x : ℕ) → w < rs .parties → (w ≡ v → ⊥) → x < rs .d → row t rs w x ≡ row s rs w x
 
-pub row-pushed :
-    (q d b rows v h : ℕ) (s t : List ℕ) → v < q → word s (b + v) < d → b + q ≤ rows → rows + d * q ≤ length s →
-    rows + d * q ≤ 4294967296 → h < 4294967296 →
-    t ≡ put-word (put-word s (rows + d * v + word s (b + v)) h) (b + v) (word s (b + v) + 1) → Row-pushed q d b rows v h s t
-row-pushed q d b rows v h s t party short after inside small fits e =
+pub row-pushed-is :
+    (rs : RowBases) (v h : ℕ) (s t : List ℕ) → v < rs .parties → counter s rs v < rs .d → rs .counts + rs .parties ≤ rs .rows → rs .rows + rs .d * rs .parties ≤ length s →
+    rs .rows + rs .d * rs .parties ≤ 4294967296 → h < 4294967296 →
+    t ≡ row-pushed rs v h s → Row-pushed rs v h s t
+row-pushed-is rs v h s t party short after inside small fits e =
     rw e
     (record {
-      len = length-put u (b + v) (l + 1) ∙ len1;
+      len = length-put u (rs .counts + v) (l + 1) ∙ len1;
       under = λ i a. past i (λ x. omega arith) ∙ away s at i h (λ x. omega arith);
-      own-len = here u (b + v) (l + 1) (omega (arith, len1, in-row)) (omega (arith, in-row));
-      other-len = λ w a n. past (b + w) (λ x. n (omega arith)) ∙ away s at (b + w) h (λ x. omega arith);
+      own-len = here u (rs .counts + v) (l + 1) (omega (arith, len1, in-row)) (omega (arith, in-row));
+      other-len = λ w a n. past (rs .counts + w) (λ x. n (omega arith)) ∙ away s at (rs .counts + w) h (λ x. omega arith);
       last = past at (λ x. omega arith) ∙ here s at h (omega (arith, in-row)) fits;
-      own-row = λ x a. past (rows + d * v + x) (λ y. omega arith) ∙ away s at (rows + d * v + x) h (λ y. omega arith);
+      own-row = λ x a. past (rs .rows + rs .d * v + x) (λ y. omega arith) ∙ away s at (rs .rows + rs .d * v + x) h (λ y. omega arith);
       other-row =
           λ w x a n k.
-          past (rows + d * w + x) (λ y. omega arith)
-          ∙ away s at (rows + d * w + x) h (λ y. rows-apart d w x v l k short n (omega arith));
+          past (rs .rows + rs .d * w + x) (λ y. omega arith)
+          ∙ away s at (rs .rows + rs .d * w + x) h (λ y. rows-apart (rs .d) w x v l k short n (omega arith));
     })
   where
     l : ℕ
-    l = word s (b + v)
+    l = counter s rs v
 
     at : ℕ
-    at = rows + d * v + l
+    at = rs .rows + rs .d * v + l
 
     u : List ℕ
     u = put-word s at h
 
-    in-row : d * v + l < d * q
-    in-row = row-inside d v l q party short
+    in-row : rs .d * v + l < rs .d * rs .parties
+    in-row = row-inside (rs .d) v l (rs .parties) party short
 
     len1 : length u ≡ length s
     len1 = length-put s at h
 
-    past : (i : ℕ) → (i ≡ b + v → ⊥) → word (put-word u (b + v) (l + 1)) i ≡ word u i
-    past i x = away u (b + v) i (l + 1) x
+    past : (i : ℕ) → (i ≡ rs .counts + v → ⊥) → word (put-word u (rs .counts + v) (l + 1)) i ≡ word u i
+    past i x = away u (rs .counts + v) i (l + 1) x
 
-module _ (list : List ℕ) (q d b rows : ℕ) (s : List ℕ) (h : Rows-fit list q d b rows s) where
-  pub filled-none : (t : List ℕ) → Cleared b q s t → Rows-filled list q d b rows 0 s t
+module _ (list : List ℕ) (rs : RowBases) (s : List ℕ) (h : Rows-fit list rs s) where
+  pub filled-none : (t : List ℕ) → Cleared (rs .counts) (rs .parties) s t → Rows-filled list rs 0 s t
   unfolding count
   filled-none t x =
       record {
@@ -97,40 +98,40 @@ module _ (list : List ℕ) (q d b rows : ℕ) (s : List ℕ) (h : Rows-fit list 
         keeps = x .keeps;
       }
 
-  module _ (k : ℕ) (t : List ℕ) (inside : k < length list) (x : Rows-filled list q d b rows k s t) where
+  module _ (k : ℕ) (t : List ℕ) (inside : k < length list) (x : Rows-filled list rs k s t) where
     abbrev v : ℕ
     v = word list k
 
-    v-party : v < q
+    v-party : v < rs .parties
     v-party = h .ends k inside
 
     more : (w : ℕ) → count w (take (k + 1) list) ≡ count w (take k list) + is w (word list k)
     more w = count-more w list k inside
 
-    own-count : word t (b + v) + 1 ≡ count v (take (k + 1) list)
+    own-count : counter t rs v + 1 ≡ count v (take (k + 1) list)
     own-count = omega (arith, x .filled .lens v v-party, more v, is-same v)
 
-    lens-le : (w : ℕ) → w < q → word t (b + w) ≤ d
+    lens-le : (w : ℕ) → w < rs .parties → counter t rs w ≤ rs .d
     lens-le w a = omega (arith, x .filled .lens w a, count-take-le w list k, h .loads w a)
 
-    v-short : word t (b + v) < d
+    v-short : counter t rs v < rs .d
     v-short = omega (arith, own-count, count-take-le v list (k + 1), h .loads v v-party)
 
     -- it has a place in its row
-    pub pushes : Pushes d b rows v t
+    pub pushes : Pushes rs v t
     pushes =
         record {
           count = omega (arith, v-party, h .after, h .inside, x .keeps .len);
-          next = omega (arith, row-inside d v (word t (b + v)) q v-party v-short, h .inside, x .keeps .len);
+          next = omega (arith, row-inside (rs .d) v (counter t rs v) (rs .parties) v-party v-short, h .inside, x .keeps .len);
         }
 
-    module _ (u : List ℕ) (e : u ≡ put-word (put-word t (rows + d * v + word t (b + v)) k) (b + v) (word t (b + v) + 1)) where
-      p : Row-pushed q d b rows v k t u
+    module _ (u : List ℕ) (e : u ≡ row-pushed rs v k t) where
+      p : Row-pushed rs v k t u
       p =
-          row-pushed q d b rows v k t u v-party v-short (h .after) (omega (arith, h .inside, x .keeps .len)) (omega (arith, h .small))
+          row-pushed-is rs v k t u v-party v-short (h .after) (omega (arith, h .inside, x .keeps .len)) (omega (arith, h .small))
           (omega (arith, h .short)) e
 
-      lens' : (w : ℕ) → w < q → word u (b + w) ≡ count w (take (k + 1) list)
+      lens' : (w : ℕ) → w < rs .parties → counter u rs w ≡ count w (take (k + 1) list)
       lens' w a =
           elim (ℕ-discrete w v) [
             | yes y ↦ rw y (p .own-len ∙ own-count)
@@ -138,66 +139,66 @@ module _ (list : List ℕ) (q d b rows : ℕ) (s : List ℕ) (h : Rows-fit list 
           ]
 
       -- a place of a row is as before, or the new last one
-      below' : (w i : ℕ) → w < q → i < word u (b + w) → row u rows d w i < k + 1
+      below' : (w i : ℕ) → w < rs .parties → i < counter u rs w → row u rs w i < k + 1
       below' w i a l =
           elim (ℕ-discrete w v) [
             | yes y ↦
                 rw y
-                (elim (ℕ-discrete i (word t (b + v))) [
+                (elim (ℕ-discrete i (counter t rs v)) [
                   | yes z ↦ rw (z, p .last) (omega arith)
                   | no z ↦
-                      let i-old : i < word t (b + v) = omega (arith, p .own-len, ap (λ n. word u (b + n)) y) in
+                      let i-old : i < counter t rs v = omega (arith, p .own-len, ap (λ n. counter u rs n) y) in
                       rw (p .own-row i i-old) (omega (arith, x .filled .below v i v-party i-old))
                 ])
             | no y ↦
-                let i-old : i < word t (b + w) = omega (arith, p .other-len w a y) in
+                let i-old : i < counter t rs w = omega (arith, p .other-len w a y) in
                 rw (p .other-row w i a y (omega (arith, lens-le w a))) (omega (arith, x .filled .below w i a i-old))
           ]
 
-      named' : (w i : ℕ) → w < q → i < word u (b + w) → word list (row u rows d w i) ≡ w
+      named' : (w i : ℕ) → w < rs .parties → i < counter u rs w → word list (row u rs w i) ≡ w
       named' w i a l =
           elim (ℕ-discrete w v) [
             | yes y ↦
                 rw y
-                (elim (ℕ-discrete i (word t (b + v))) [
+                (elim (ℕ-discrete i (counter t rs v)) [
                   | yes z ↦ rw (z, p .last)
                   | no z ↦
-                      let i-old : i < word t (b + v) = omega (arith, p .own-len, ap (λ n. word u (b + n)) y) in
+                      let i-old : i < counter t rs v = omega (arith, p .own-len, ap (λ n. counter u rs n) y) in
                       rw (p .own-row i i-old) (x .filled .named v i v-party i-old)
                 ])
             | no y ↦
-                let i-old : i < word t (b + w) = omega (arith, p .other-len w a y) in
+                let i-old : i < counter t rs w = omega (arith, p .other-len w a y) in
                 rw (p .other-row w i a y (omega (arith, lens-le w a))) (x .filled .named w i a i-old)
           ]
 
-      order' : (w i j : ℕ) → w < q → i < j → j < word u (b + w) → row u rows d w i < row u rows d w j
+      order' : (w i j : ℕ) → w < rs .parties → i < j → j < counter u rs w → row u rs w i < row u rs w j
       order' w i j a l m =
           elim (ℕ-discrete w v) [
             | yes y ↦
-                let i-old : i < word t (b + v) = omega (arith, p .own-len, ap (λ n. word u (b + n)) y) in
+                let i-old : i < counter t rs v = omega (arith, p .own-len, ap (λ n. counter u rs n) y) in
                 rw y
-                (elim (ℕ-discrete j (word t (b + v))) [
+                (elim (ℕ-discrete j (counter t rs v)) [
                   | yes z ↦ rw (p .own-row i i-old, z, p .last) (x .filled .below v i v-party i-old)
                   | no z ↦
-                      let j-old : j < word t (b + v) = omega (arith, p .own-len, ap (λ n. word u (b + n)) y) in
+                      let j-old : j < counter t rs v = omega (arith, p .own-len, ap (λ n. counter u rs n) y) in
                       rw (p .own-row i i-old, p .own-row j j-old) (x .filled .order v i j v-party l j-old)
                 ])
             | no y ↦
-                let j-old : j < word t (b + w) = omega (arith, p .other-len w a y) in
+                let j-old : j < counter t rs w = omega (arith, p .other-len w a y) in
                 rw (p .other-row w i a y (omega (arith, lens-le w a)), p .other-row w j a y (omega (arith, lens-le w a)))
                 (x .filled .order w i j a l j-old)
           ]
 
-      there' : (f : ℕ) → f < k + 1 → (i : ℕ) × (i < word u (b + word list f)) × (row u rows d (word list f) i ≡ f)
+      there' : (f : ℕ) → f < k + 1 → (i : ℕ) × (i < counter u rs (word list f)) × (row u rs (word list f) i ≡ f)
       there' f a =
           elim (ℕ-discrete f k) [
-            | yes y ↦ rw y (word t (b + v), omega (arith, p .own-len), p .last)
+            | yes y ↦ rw y (counter t rs v, omega (arith, p .own-len), p .last)
             | no y ↦
                 let old = x .filled .there f (omega arith) in
-                let f-party : word list f < q = h .ends f (omega arith) in
+                let f-party : word list f < rs .parties = h .ends f (omega arith) in
                 elim (ℕ-discrete (word list f) v) [
                   | yes z ↦
-                      let i-old : old .0 < word t (b + v) = rw z at (old .1) in
+                      let i-old : old .0 < counter t rs v = rw z at (old .1) in
                       (old .0, rw z (omega (arith, p .own-len, i-old)), rw z (p .own-row (old .0) i-old) ∙ rw z at (old .2))
                   | no z ↦ (
                     old .0,
@@ -207,7 +208,7 @@ module _ (list : List ℕ) (q d b rows : ℕ) (s : List ℕ) (h : Rows-fit list 
                 ]
           ]
 
-      pub filled-more : Rows-filled list q d b rows (k + 1) s u
+      pub filled-more : Rows-filled list rs (k + 1) s u
       filled-more =
           record {
             filled = record { lens = lens'; below = below'; named = named'; order = order'; there = there' };

@@ -21,31 +21,32 @@ use Rattle.multigraph.proofs.Matchings.{Sound}
 use Rattle.multigraph.proofs.Sizes.{pairs-le, copies-le}
 use Rattle.multigraph.proofs.Spans.{span-length, all-span}
 use Rattle.evening.specs.Evening.{Evening, evening, add-appointments, even-out-step}
-use Rattle.evening.specs.Contract.{Plain, Can-even}
+use Rattle.evening.specs.Contract.{Plain}
 use Rattle.evening.specs.Adding.{plain-pair, plain-graph}
-use Rattle.evening.specs.Rows.{row, Rows-filled}
+use Rattle.evening.specs.Rows.{rows-from, row, Rows-filled}
 use Rattle.two_color.proofs.Regions.{region-length, region-rest}
 use Rattle.evening.proofs.Pairs.{degree-load, sound-list}
 use Rattle.evening.proofs.EvenSteps.{Evens, next-done, next-left, next-none, next-right}
 use Rattle.evening.proofs.EvenOut.{keep}
 use Rattle.evening.proofs.PlainLaws.{plain-is, Graph-kept, graph-kept, plain-kept, graph-kept-by}
+use Rattle.evening.specs.declared.Bases.{Bases}
+use Rattle.evening.specs.Filling.{Evens-at}
 
-module _ (list : List ℕ) (d n left right ends apair g u : ℕ) (first : List ℕ)
-    (h : Can-even list d n left right ends apair g u first) where
+module _ (list : List ℕ) (d n : ℕ) (at : Bases) (u : ℕ) (first : List ℕ) (h : Evens-at list d n at u first) where
   abbrev side : ℕ → ℕ
   side = h .side
 
   abbrev lefts : List ℕ
-  lefts = region first left n
+  lefts = region first (at .left) n
 
   abbrev rights : List ℕ
-  rights = region first right n
+  rights = region first (at .right) n
 
   abbrev start : Graph
-  start = plain-graph first ends g
+  start = plain-graph first (at .ends) (at .g)
 
   start-is : start ≡ add-appointments [] (appts list)
-  start-is = sym (plain-is ends (size first g) g first (h .paired .plain) (omega arith)) ∙ h .paired .graph (size first g) (omega arith)
+  start-is = sym (plain-is (at .ends) (size first (at .g)) (at .g) first (h .paired .plain) (omega arith)) ∙ h .paired .graph (size first (at .g)) (omega arith)
 
   pub start-sound : Sound (n + n) side start
   start-sound = rw start-is (sound-list (n + n) side (appts list) (h .crosses))
@@ -67,31 +68,31 @@ module _ (list : List ℕ) (d n left right ends apair g u : ℕ) (first : List �
         rights = h .partition .right-side;
       }
 
-  module _ (s₁ : List ℕ) (x : Rows-filled list (n + n) d u (u + (n + n)) (length list) first s₁) where
+  module _ (s₁ : List ℕ) (x : Rows-filled list (rows-from (n + n) d u) (length list) first s₁) where
     pub record Stage (E : Evening) (i j : ℕ) (s : List ℕ) : Type 0 where
       pub left-rest : E .left ≡ drop i lefts
       pub right-rest : E .right ≡ drop j rights
-      pub graph : plain-graph s ends g ≡ E .graph
-      pub plain : Plain ends g s
+      pub graph : plain-graph s (at .ends) (at .g) ≡ E .graph
+      pub plain : Plain (at .ends) (at .g) s
       pub degrees : (v : ℕ) → v < n + n → word s (u + v) ≡ degree v (E .graph)
       pub evens : Evens (n + n) side d start E
-      pub grown : size first g ≤ size s g
+      pub grown : size first (at .g) ≤ size s (at .g)
       pub new-full :
-          (e : ℕ) → size first g ≤ e → e < size s g →
-          (word s (u + word s (ends + 2 * e)) ≡ d) ⊎ (word s (u + word s (ends + 2 * e + 1)) ≡ d)
-      pub firsts : (e : ℕ) → e < size first g → word s (ends + 2 * e) ≡ word first (ends + 2 * e)
-      pub seconds : (e : ℕ) → e < size first g → word s (ends + 2 * e + 1) ≡ word first (ends + 2 * e + 1)
-      pub changes : (mark : ℕ) → Changes-three ends (2 * (n * d + n)) g (2 + 2 * (n * d + n)) u (n + n) mark s₁ s
+          (e : ℕ) → size first (at .g) ≤ e → e < size s (at .g) →
+          (word s (u + word s (at .ends + 2 * e)) ≡ d) ⊎ (word s (u + word s (at .ends + 2 * e + 1)) ≡ d)
+      pub firsts : (e : ℕ) → e < size first (at .g) → word s (at .ends + 2 * e) ≡ word first (at .ends + 2 * e)
+      pub seconds : (e : ℕ) → e < size first (at .g) → word s (at .ends + 2 * e + 1) ≡ word first (at .ends + 2 * e + 1)
+      pub changes : (mark : ℕ) → Changes-three (at .ends) (2 * (n * d + n)) (at .g) (2 + 2 * (n * d + n)) u (n + n) mark s₁ s
 
-    start-few : size first g ≤ n * d
-    start-few = omega (arith, pairs-le n side d start (start-sound .across) (start-sound .positive) start-most, span-length (plain-pair first ends g) 0 (size first g))
+    start-few : size first (at .g) ≤ n * d
+    start-few = omega (arith, pairs-le n side d start (start-sound .across) (start-sound .positive) start-most, span-length (plain-pair first (at .ends) (at .g)) 0 (size first (at .g)))
 
-    pub table-low : ends + 2 * (n * d + n) ≤ g
+    pub table-low : at .ends + 2 * (n * d + n) ≤ at .g
     table-low = omega (arith, h .after-ends, h .after-apair)
 
-    kept-1 : Graph-kept ends g first s₁
+    kept-1 : Graph-kept (at .ends) (at .g) first s₁
     kept-1 =
-        graph-kept-by ends g (n * d + n) first s₁ (omega (arith, start-few)) table-low
+        graph-kept-by (at .ends) (at .g) (n * d + n) first s₁ (omega (arith, start-few)) table-low
         (λ i a b. x .keeps .same i (omega (arith, table-low, h .after-graph))) (λ i a b. x .keeps .same i (omega (arith, h .after-graph)))
 
     pub stage-none : Stage (evening start lefts rights) 0 0 s₁
@@ -99,8 +100,8 @@ module _ (list : List ℕ) (d n left right ends apair g u : ℕ) (first : List �
         record {
           left-rest = refl;
           right-rest = refl;
-          graph = graph-kept ends g first s₁ kept-1;
-          plain = plain-kept ends g first s₁ kept-1 (h .paired .plain);
+          graph = graph-kept (at .ends) (at .g) first s₁ kept-1;
+          plain = plain-kept (at .ends) (at .g) first s₁ kept-1 (h .paired .plain);
           degrees =
               λ v a.
               x .filled .lens v a ∙ ap (count v) (take-all (length list) list (omega arith)) ∙ sym (load-count v list (h .even))
@@ -110,31 +111,31 @@ module _ (list : List ℕ) (d n left right ends apair g u : ℕ) (first : List �
           new-full = λ e a b. absurd (omega (arith, kept-1 .count));
           firsts = λ e a. kept-1 .firsts e a;
           seconds = λ e a. kept-1 .seconds e a;
-          changes = λ mark. three-refl ends (2 * (n * d + n)) g (2 + 2 * (n * d + n)) u (n + n) mark s₁;
+          changes = λ mark. three-refl (at .ends) (2 * (n * d + n)) (at .g) (2 + 2 * (n * d + n)) u (n + n) mark s₁;
         }
 
     module _ (E : Evening) (i j : ℕ) (s : List ℕ) (st : Stage E i j s) where
       abbrev l : ℕ
-      l = word s (left + i)
+      l = word s (at .left + i)
 
       abbrev r : ℕ
-      r = word s (right + j)
+      r = word s (at .right + j)
 
-      left-word : (k : ℕ) → k < n → word s (left + k) ≡ word first (left + k)
+      left-word : (k : ℕ) → k < n → word s (at .left + k) ≡ word first (at .left + k)
       left-word k a =
-          st .changes (left + k + 1) .under (left + k) (omega arith) (omega (arith, h .after-left))
-          ∙ x .keeps .same (left + k) (omega (arith, h .after-left, table-low, h .after-graph))
+          st .changes (at .left + k + 1) .under (at .left + k) (omega arith) (omega (arith, h .after-left))
+          ∙ x .keeps .same (at .left + k) (omega (arith, h .after-left, table-low, h .after-graph))
 
-      right-word : (k : ℕ) → k < n → word s (right + k) ≡ word first (right + k)
+      right-word : (k : ℕ) → k < n → word s (at .right + k) ≡ word first (at .right + k)
       right-word k a =
-          st .changes (right + k + 1) .under (right + k) (omega arith) (omega (arith, h .after-right))
-          ∙ x .keeps .same (right + k) (omega (arith, h .after-right, table-low, h .after-graph))
+          st .changes (at .right + k + 1) .under (at .right + k) (omega arith) (omega (arith, h .after-right))
+          ∙ x .keeps .same (at .right + k) (omega (arith, h .after-right, table-low, h .after-graph))
 
       left-cons : i < n → E .left ≡ l ∷ drop (i + 1) lefts
-      left-cons a = st .left-rest ∙ rw (left-word i a) (region-rest first left n i a)
+      left-cons a = st .left-rest ∙ rw (left-word i a) (region-rest first (at .left) n i a)
 
       right-cons : j < n → E .right ≡ r ∷ drop (j + 1) rights
-      right-cons a = st .right-rest ∙ rw (right-word j a) (region-rest first right n j a)
+      right-cons a = st .right-rest ∙ rw (right-word j a) (region-rest first (at .right) n j a)
 
       l-side : i < n → (l < n + n) × (side l ≡ 0)
       l-side a = (rw (left-cons a) at (st .evens .lefts)) .0
@@ -145,12 +146,12 @@ module _ (list : List ℕ) (d n left right ends apair g u : ℕ) (first : List �
       -- what is known of the words and of the parties at i and j
       pub record Known : Type 0 where
         pub len : length s ≡ length first
-        pub pair-of : (k : ℕ) → k < length list / 2 → word s (apair + k) ≡ word first (apair + k)
-        pub row-of : (v k : ℕ) → row s (u + (n + n)) d v k ≡ row s₁ (u + (n + n)) d v k
+        pub pair-of : (k : ℕ) → k < length list / 2 → word s (at .apair + k) ≡ word first (at .apair + k)
+        pub row-of : (v k : ℕ) → row s (rows-from (n + n) d u) v k ≡ row s₁ (rows-from (n + n) d u) v k
         pub row-end : (v : ℕ) → v < n + n → word s₁ (u + v) ≤ d
-        pub low : ends + 2 * (n * d + n) ≤ g
-        pub few : size s g ≤ n * d
-        pub copies : (e : ℕ) → e < size s g → copies-of s g e ≤ d
+        pub low : at .ends + 2 * (n * d + n) ≤ at .g
+        pub few : size s (at .g) ≤ n * d
+        pub copies : (e : ℕ) → e < size s (at .g) → copies-of s (at .g) e ≤ d
         pub evens : Evens (n + n) side d start (even-out-step d E)
         pub lefts-are : i < n → E .left ≡ l ∷ drop (i + 1) lefts
         pub rights-are : j < n → E .right ≡ r ∷ drop (j + 1) rights
@@ -165,8 +166,8 @@ module _ (list : List ℕ) (d n left right ends apair g u : ℕ) (first : List �
             len = st .changes 0 .len ∙ x .keeps .len;
             pair-of =
                 λ k a.
-                st .changes (apair + k + 1) .after-first (apair + k) (omega arith) (omega (arith, h .after-ends)) (omega (arith, h .after-apair))
-                ∙ x .keeps .same (apair + k) (omega (arith, h .after-apair, h .after-graph));
+                st .changes (at .apair + k + 1) .after-first (at .apair + k) (omega arith) (omega (arith, h .after-ends)) (omega (arith, h .after-apair))
+                ∙ x .keeps .same (at .apair + k) (omega (arith, h .after-apair, h .after-graph));
             row-of =
                 λ v k. st .changes (u + (n + n) + d * v + k + 1) .after-third (u + (n + n) + d * v + k) (omega arith) (omega arith);
             row-end = λ v a. omega (arith, stage-none .degrees v a, start-most v a);
@@ -176,11 +177,11 @@ module _ (list : List ℕ) (d n left right ends apair g u : ℕ) (first : List �
                   arith,
                   pairs-le n side d (E .graph) (st .evens .sound .across) (st .evens .sound .positive) (st .evens .most),
                   ap length (st .graph),
-                  span-length (plain-pair s ends g) 0 (size s g),
+                  span-length (plain-pair s (at .ends) (at .g)) 0 (size s (at .g)),
                 );
             copies =
                 λ e a.
-                all-span (λ (p : Pair). p .copies ≤ d) (plain-pair s ends g) 0 (size s g)
+                all-span (λ (p : Pair). p .copies ≤ d) (plain-pair s (at .ends) (at .g)) 0 (size s (at .g))
                 (rw (st .graph) (copies-le (n + n) side d (E .graph) (st .evens .sound .across) (st .evens .most))) e (omega arith)
                 (omega arith);
             evens = keep (n + n) side d start lefts rights (h .partition) (E .graph) (E .left) (E .right) (st .evens);
@@ -213,7 +214,7 @@ module _ (list : List ℕ) (d n left right ends apair g u : ℕ) (first : List �
 
       pub stage-done : n ≤ i → Stage (even-out-step d E) i j s
       stage-done a =
-          let none : E .left ≡ [] = st .left-rest ∙ drop-of-length-le lefts {i = i} (omega (arith, region-length first left n)) in
+          let none : E .left ≡ [] = st .left-rest ∙ drop-of-length-le lefts {i = i} (omega (arith, region-length first (at .left) n)) in
           stage-same i j [] (E .right) (rw none (next-done d (E .graph) (E .right))) (sym none ∙ st .left-rest) (st .right-rest)
 
       pub stage-left : i < n → word s (u + l) ≡ d → Stage (even-out-step d E) (i + 1) j s
@@ -223,7 +224,7 @@ module _ (list : List ℕ) (d n left right ends apair g u : ℕ) (first : List �
 
       pub stage-none-right : i < n → (word s (u + l) ≡ d → ⊥) → n ≤ j → Stage (even-out-step d E) i j s
       stage-none-right a e b =
-          let none : E .right ≡ [] = st .right-rest ∙ drop-of-length-le rights {i = j} (omega (arith, region-length first right n)) in
+          let none : E .right ≡ [] = st .right-rest ∙ drop-of-length-le rights {i = j} (omega (arith, region-length first (at .right) n)) in
           stage-same i j (l ∷ drop (i + 1) lefts) []
           (rw (left-cons a, none) (next-none d (E .graph) l (drop (i + 1) lefts) (λ q. e (known .left-degree a ∙ q))))
           (sym (left-cons a) ∙ st .left-rest) (sym none ∙ st .right-rest)

@@ -13,6 +13,7 @@ use Rattle.evening.specs.Evening.{add-appointments}
 use Rattle.evening.specs.Contract.{first-of, second-of, Has-ends, Plain}
 use Rattle.evening.specs.Adding.{plain-graph}
 use Rattle.evening.specs.Representatives.{Rep}
+use Rattle.evening.specs.declared.Bases.{Bases}
 
 -- The pair of appointment i, for which its representative stands at `apair`: that of an earlier one, or the next number.
 abbrev pub pair-of : ℕ → ℕ → ℕ → List ℕ → ℕ
@@ -20,20 +21,20 @@ pair-of g apair i s =
     pick (ltb (word s (apair + i)) i) (word s (apair + word s (apair + i))) (size s g)
 
 -- The first k appointments have their pairs; the others still have their representatives at `apair`.
-pub record Building (list : List ℕ) (ends apair g k : ℕ) (s : List ℕ) : Type 0 where
-  pub graph : plain-graph s ends g ≡ add-appointments [] (take k (appts list))
-  pub plain : Plain ends g s
-  pub few : size s g ≤ k
-  pub number-of : (i : ℕ) → i < k → word s (apair + i) < size s g
-  pub ends-of : (i : ℕ) → i < k → Has-ends s ends (word s (apair + i)) (first-of list i) (second-of list i)
-  pub every : (e : ℕ) → e < size s g → (i : ℕ) × (i < k) × (word s (apair + i) ≡ e)
-  pub reps : (i : ℕ) → k ≤ i → i < length list / 2 → Rep list i (word s (apair + i))
-  pub after-ends : ends + 2 * (length list / 2) ≤ apair
-  pub after-apair : apair + length list / 2 ≤ g
-  pub inside : g + 2 + 2 * (length list / 2) ≤ length s
-  pub small : g + 2 + 2 * (length list / 2) < 4294967296
+pub record Building (list : List ℕ) (at : Bases) (k : ℕ) (s : List ℕ) : Type 0 where
+  pub graph : plain-graph s (at .ends) (at .g) ≡ add-appointments [] (take k (appts list))
+  pub plain : Plain (at .ends) (at .g) s
+  pub few : size s (at .g) ≤ k
+  pub number-of : (i : ℕ) → i < k → word s (at .apair + i) < size s (at .g)
+  pub ends-of : (i : ℕ) → i < k → Has-ends s (at .ends) (word s (at .apair + i)) (first-of list i) (second-of list i)
+  pub every : (e : ℕ) → e < size s (at .g) → (i : ℕ) × (i < k) × (word s (at .apair + i) ≡ e)
+  pub reps : (i : ℕ) → k ≤ i → i < length list / 2 → Rep list i (word s (at .apair + i))
+  pub after-ends : at .ends + 2 * (length list / 2) ≤ at .apair
+  pub after-apair : at .apair + length list / 2 ≤ at .g
+  pub inside : at .g + 2 + 2 * (length list / 2) ≤ length s
+  pub small : at .g + 2 + 2 * (length list / 2) < 4294967296
   pub short : length list ≤ 8192
 
-pub record Built (list : List ℕ) (ends apair g k : ℕ) (s t : List ℕ) : Type 0 where
-  pub building : Building list ends apair g k t
-  pub changes : (mark : ℕ) → Changes-three ends (2 * (length list / 2)) apair (length list / 2) g (2 + 2 * (length list / 2)) mark s t
+pub record Built (list : List ℕ) (at : Bases) (k : ℕ) (s t : List ℕ) : Type 0 where
+  pub building : Building list at k t
+  pub changes : (mark : ℕ) → Changes-three (at .ends) (2 * (length list / 2)) (at .apair) (length list / 2) (at .g) (2 + 2 * (length list / 2)) mark s t

@@ -8,7 +8,8 @@ use Rattle.words.specs.Frames.{Changes}
 use Rattle.words.specs.Words.{word, put-word}
 use Rattle.multigraph.specs.Regular.{Same-ends}
 use Rattle.evening.specs.Contract.{first-of, second-of}
-use Rattle.evening.specs.Rows.{Rows}
+use Rattle.evening.specs.declared.rows.RowBases.{RowBases}
+use Rattle.evening.specs.Rows.{counter, Rows}
 use Rattle.evening.specs.Ends.{Earlier}
 
 -- the half-edge at the other end of half-edge h
@@ -46,17 +47,17 @@ pub record Finds (list : List ℕ) (map apair h : ℕ) (s : List ℕ) : Type 0 w
   pub candidate : map + word list (mate h) < length s
 
 -- Pairs numbers go to `apair`, below the rows; the map lies above them.
-pub record Reps-fit (list : List ℕ) (p d b rows map apair : ℕ) (s : List ℕ) : Type 0 where
-  pub in-rows : Rows list p d b rows (length list) s
-  pub lens : (v : ℕ) → v < p → word s (b + v) ≤ d
-  pub ends : (h : ℕ) → h < length list → word list h < p
+pub record Reps-fit (list : List ℕ) (rs : RowBases) (map apair : ℕ) (s : List ℕ) : Type 0 where
+  pub in-rows : Rows list rs (length list) s
+  pub lens : (v : ℕ) → v < rs .parties → counter s rs v ≤ rs .d
+  pub ends : (h : ℕ) → h < length list → word list h < rs .parties
   pub even : length list % 2 ≡ 0
   pub short : length list ≤ 8192
-  pub before : apair + length list / 2 ≤ b
-  pub after : b + p ≤ rows
-  pub after-rows : rows + d * p ≤ map
-  pub inside : map + p ≤ length s
-  pub small : map + p < 4294967296
+  pub before : apair + length list / 2 ≤ rs .counts
+  pub after : rs .counts + rs .parties ≤ rs .rows
+  pub after-rows : rs .rows + rs .d * rs .parties ≤ map
+  pub inside : map + rs .parties ≤ length s
+  pub small : map + rs .parties < 4294967296
 
 -- the half-edges of party v
 pub record Row-done (list : List ℕ) (p map apair v : ℕ) (s t : List ℕ) : Type 0 where

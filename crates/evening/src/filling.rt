@@ -3,10 +3,11 @@ ghost use mathlib.Core.Path.{_≡_};
 ghost use Prim.Native.Nat.{_+_, _-_, _<_, min};
 ghost use Rattle.evening.specs.Contract.{«Can-even», «Evened-out»};
 ghost use Rattle.evening.specs.Adding.{«Has-place»};
-ghost use Rattle.evening.specs.Filling.{«Pair-found», Filled, «Step-taken»};
+ghost use Rattle.evening.specs.Filling.{«Fill-small», «Pair-found», Filled, «Step-taken»};
 use crate::Bases;
 use crate::adding::add_pair;
 use crate::ends::joins;
+use crate::rows::RowBases;
 use crate::rows::fill_rows;
 use words::get;
 use words::put;
@@ -36,72 +37,53 @@ fn lacks(d: usize, x: usize) -> usize
     0
 }
 
-// The number of the pair with the ends `l` and `r`: some appointment of the `k` half-edges at `from` has these ends, or it is
-// `none`. A row has at most d half-edges and a party is filled at most once, so this is linear in all.
-fn find_pair(
-    s: &[u32],
-    list: &[u16],
-    apair: usize,
-    from: usize,
-    k: usize,
-    l: usize,
-    r: usize,
-    none: usize,
-) -> usize
-    requires { ⌜ (apair < 4294967296) × (from + k < 18446744073709551616) × (l < 4294967296) × (r < 4294967296) ⌝ }
-    ensures { λ e. ⌜ Pair-found (now (list .entry)) apair from k l r none (now (s .entry)) e ⌝ }
+// The number of the pair with the ends `l` and `r`: that of an appointment in the row of `l` with these ends, or the next number
+// if there is none. A row has at most d half-edges and a party is filled at most once, so this is linear in all.
+fn find_pair(s: &[u32], list: &[u16], at: Bases, rows: RowBases, l: usize, r: usize) -> usize
+    requires { ⌜ Fill-small at rows × (l < 4294967296) × (r < 4294967296) ⌝ }
+    ensures { λ e. ⌜ Pair-found (now (list .entry)) at rows l r (now (s .entry)) e ⌝ }
 {
+    let from = rows.rows + rows.d * l;
     let mut t = 0;
-    while t < k {
+    while t < rows.d {
         let i = get(s, from + t) / 2;
         let joined = joins(list, i, l, r);
         if joined == 1 {
-            return get(s, apair + i);
+            return get(s, at.apair + i);
         }
         t += 1;
     }
-    none
+    get(s, at.g + 1)
 }
 
 // Adds the smaller shortfall of `l` and `r` as copies of their pair.
-fn fill(s: &mut [u32], list: &[u16], at: Bases, d: usize, b: usize, from: usize, l: usize, r: usize)
-    requires { ⌜ (at .ends < 4294967296) × (at .apair < 4294967296) × (at .g < 4294967296) × (b < 4294967296) ⌝ }
-    requires { ⌜ (d < 4294967296) × (from + d < 18446744073709551616) × (l < 4294967296) × (r < 4294967296) ⌝ }
+fn fill(s: &mut [u32], list: &[u16], at: Bases, rows: RowBases, l: usize, r: usize)
+    requires { ⌜ Fill-small at rows × (l < 4294967296) × (r < 4294967296) ⌝ }
     requires { ⌜ Has-place (at .ends) (at .g) (now s) ⌝ }
-    ensures { λ x. ⌜ Filled (now (list .entry)) d (at .ends) (at .apair) (at .g) b from l r (now (s .entry)) (now (s .exit)) ⌝ }
+    ensures { λ x. ⌜ Filled (now (list .entry)) at rows l r (now (s .entry)) (now (s .exit)) ⌝ }
 {
-    let dl = get(s, b + l);
-    let dr = get(s, b + r);
-    let more = smaller(lacks(d, dl), lacks(d, dr));
-    let m = get(s, at.g + 1);
-    let e = find_pair(s, list, at.apair, from, d, l, r, m);
+    let dl = get(s, rows.counts + l);
+    let dr = get(s, rows.counts + r);
+    let more = smaller(lacks(rows.d, dl), lacks(rows.d, dr));
+    let e = find_pair(s, list, at, rows, l, r);
     add_pair(s, at.ends, at.g, e, l, r, more);
-    put(s, b + l, dl + more);
-    put(s, b + r, dr + more);
+    put(s, rows.counts + l, dl + more);
+    put(s, rows.counts + r, dr + more);
 }
 
 // One step: a full party is passed, or the smaller shortfall of two short ones is added. After the last left party nothing
 // happens.
-fn even_step(
-    s: &mut [u32],
-    list: &[u16],
-    at: Bases,
-    d: usize,
-    n: usize,
-    b: usize,
-    st: Passed,
-) -> Passed
-    requires { ⌜ (at .left < 4294967296) × (at .right < 4294967296) × (at .ends < 4294967296) × (at .apair < 4294967296) × (at .g < 4294967296) ⌝ }
-    requires { ⌜ (d < 2147483648) × (n < 4294967296) × (b < 4294967296) ⌝ }
+fn even_step(s: &mut [u32], list: &[u16], at: Bases, rows: RowBases, n: usize, st: Passed) -> Passed
+    requires { ⌜ Fill-small at rows × (n < 4294967296) ⌝ }
     requires { ⌜ (st .l < n → Has-place (at .ends) (at .g) (now s)) ⌝ }
-    ensures { λ x. ⌜ Step-taken (now (list .entry)) d n (at .left) (at .right) (at .ends) (at .apair) (at .g) b (now (s .entry)) (now (s .exit)) (st .l) (st .r) (x .l) (x .r) ⌝ }
+    ensures { λ x. ⌜ Step-taken (now (list .entry)) at rows n (now (s .entry)) (now (s .exit)) (st .l) (st .r) (x .l) (x .r) ⌝ }
 {
     if st.l >= n {
         return st;
     }
     let l = get(s, at.left + st.l);
-    let dl = get(s, b + l);
-    if dl == d {
+    let dl = get(s, rows.counts + l);
+    if dl == rows.d {
         return Passed {
             l: st.l + 1,
             r: st.r,
@@ -111,14 +93,14 @@ fn even_step(
         return st;
     }
     let r = get(s, at.right + st.r);
-    let dr = get(s, b + r);
-    if dr == d {
+    let dr = get(s, rows.counts + r);
+    if dr == rows.d {
         return Passed {
             l: st.l,
             r: st.r + 1,
         };
     }
-    fill(s, list, at, d, b, b + (n + n) + d * l, l, r);
+    fill(s, list, at, rows, l, r);
     st
 }
 
@@ -127,13 +109,18 @@ pub(crate) fn even_at(s: &mut [u32], u: usize, list: &[u16], d: usize, n: usize,
     requires { ⌜ Can-even (now list) d n (at .left) (at .right) (at .ends) (at .apair) (at .g) u (now s) ⌝ }
     ensures { λ r. ⌜ Evened-out (now (list .entry)) d n (at .left) (at .right) (at .ends) (at .apair) (at .g) u (now (s .entry)) u (now (s .exit)) ⌝ }
 {
-    let rows = u + (n + n);
-    fill_rows(s, list, n + n, d, u, rows);
+    let rows = RowBases {
+        parties: n + n,
+        d: d,
+        counts: u,
+        rows: u + (n + n),
+    };
+    fill_rows(s, list, rows);
     let steps = 2 * (n + n);
     let mut st = Passed { l: 0, r: 0 };
     let mut k = 0;
     while k < steps {
-        st = even_step(s, list, at, d, n, u, st);
+        st = even_step(s, list, at, rows, n, st);
         k += 1;
     }
 }

@@ -8,6 +8,7 @@ ghost use Rattle.evening.specs.FromList.{«pair-of», Building, Built};
 use crate::Bases;
 use crate::adding::add_pair;
 use crate::representatives::rep_rows;
+use crate::rows::RowBases;
 use crate::rows::fill_rows;
 use words::half_word_at;
 use words::put;
@@ -29,27 +30,27 @@ fn pair_of(s: &[u32], g: usize, apair: usize, i: usize) -> usize
 }
 
 // One copy for appointment `i`.
-fn add_appointment(s: &mut [u32], list: &[u16], ends: usize, apair: usize, g: usize, i: usize)
-    requires { ⌜ Building (now list) ends apair g i (now s) ⌝ }
+fn add_appointment(s: &mut [u32], list: &[u16], at: Bases, i: usize)
+    requires { ⌜ Building (now list) at i (now s) ⌝ }
     requires { do ⌜ i < (← ⟦list.len()⟧) / 2 ⌝ }
-    ensures { λ r. ⌜ Built (now (list .entry)) ends apair g (i + 1) (now (s .entry)) (now (s .exit)) ⌝ }
+    ensures { λ r. ⌜ Built (now (list .entry)) at (i + 1) (now (s .entry)) (now (s .exit)) ⌝ }
 {
-    let e = pair_of(s, g, apair, i);
+    let e = pair_of(s, at.g, at.apair, i);
     let x = half_word_at(list, 2 * i);
     let y = half_word_at(list, 2 * i + 1);
-    add_pair(s, ends, g, e, x, y, 1);
-    set_word(s, apair + i, e);
+    add_pair(s, at.ends, at.g, e, x, y, 1);
+    set_word(s, at.apair + i, e);
 }
 
 // One copy for each appointment, in list order.
-fn add_appointments(s: &mut [u32], list: &[u16], ends: usize, apair: usize, g: usize)
-    requires { ⌜ Building (now list) ends apair g 0 (now s) ⌝ }
-    ensures { λ r. do ⌜ Built (now (list .entry)) ends apair g ((← ⟦list.len()⟧ .entry) / 2) (now (s .entry)) (now (s .exit)) ⌝ }
+fn add_appointments(s: &mut [u32], list: &[u16], at: Bases)
+    requires { ⌜ Building (now list) at 0 (now s) ⌝ }
+    ensures { λ r. do ⌜ Built (now (list .entry)) at ((← ⟦list.len()⟧ .entry) / 2) (now (s .entry)) (now (s .exit)) ⌝ }
 {
     let a = list.len() / 2;
     let mut i = 0;
     while i < a {
-        add_appointment(s, list, ends, apair, g, i);
+        add_appointment(s, list, at, i);
         i += 1;
     }
 }
@@ -68,10 +69,15 @@ pub(crate) fn pairs_at(s: &mut [u32], u: usize, list: &[u16], p: usize, d: usize
     requires { ⌜ Can-pair (now list) p d (at .ends) (at .apair) (at .g) u (now s) ⌝ }
     ensures { λ r. ⌜ Pairs-made (now (list .entry)) (at .ends) (at .apair) (at .g) u (now (s .entry)) u (now (s .exit)) ⌝ }
 {
-    let rows = u + p;
-    let map = rows + d * p;
-    fill_rows(s, list, p, d, u, rows);
-    rep_rows(s, list, p, d, u, rows, map, at.apair);
+    let rows = RowBases {
+        parties: p,
+        d: d,
+        counts: u,
+        rows: u + p,
+    };
+    let map = rows.rows + d * p;
+    fill_rows(s, list, rows);
+    rep_rows(s, list, rows, map, at.apair);
     no_pairs(s, at.g);
-    add_appointments(s, list, at.ends, at.apair, at.g);
+    add_appointments(s, list, at);
 }

@@ -5,6 +5,7 @@ ghost use mathlib.Core.Path.{_≡_};
 ghost use Prim.Native.Nat.{_<_};
 ghost use Rattle.evening.specs.Representatives.{mate, Finds, «Rep-found», «Reps-fit», «Row-done», «Reps-done»};
 use crate::ends::earlier;
+use crate::rows::RowBases;
 use words::half_word_at;
 use words::set_word;
 use words::word_at;
@@ -38,23 +39,13 @@ fn find_rep(s: &mut [u32], list: &[u16], map: usize, apair: usize, h: usize)
 }
 
 // The representatives of the appointments of party `v`.
-fn rep_row(
-    s: &mut [u32],
-    list: &[u16],
-    p: usize,
-    d: usize,
-    b: usize,
-    rows: usize,
-    map: usize,
-    apair: usize,
-    v: usize,
-)
-    requires { ⌜ Reps-fit (now list) p d b rows map apair (now s) ⌝ }
-    requires { ⌜ v < p ⌝ }
-    ensures { λ r. ⌜ Row-done (now (list .entry)) p map apair v (now (s .entry)) (now (s .exit)) ⌝ }
+fn rep_row(s: &mut [u32], list: &[u16], at: RowBases, map: usize, apair: usize, v: usize)
+    requires { ⌜ Reps-fit (now list) at map apair (now s) ⌝ }
+    requires { ⌜ v < at .parties ⌝ }
+    ensures { λ r. ⌜ Row-done (now (list .entry)) (at .parties) map apair v (now (s .entry)) (now (s .exit)) ⌝ }
 {
-    let n = word_at(s, b + v);
-    let from = rows + d * v;
+    let n = word_at(s, at.counts + v);
+    let from = at.rows + at.d * v;
     let mut t = 0;
     while t < n {
         let h = word_at(s, from + t);
@@ -64,22 +55,13 @@ fn rep_row(
 }
 
 // The representatives of all appointments.
-pub(crate) fn rep_rows(
-    s: &mut [u32],
-    list: &[u16],
-    p: usize,
-    d: usize,
-    b: usize,
-    rows: usize,
-    map: usize,
-    apair: usize,
-)
-    requires { ⌜ Reps-fit (now list) p d b rows map apair (now s) ⌝ }
-    ensures { λ r. ⌜ Reps-done (now (list .entry)) p map apair p (now (s .entry)) (now (s .exit)) ⌝ }
+pub(crate) fn rep_rows(s: &mut [u32], list: &[u16], at: RowBases, map: usize, apair: usize)
+    requires { ⌜ Reps-fit (now list) at map apair (now s) ⌝ }
+    ensures { λ r. ⌜ Reps-done (now (list .entry)) (at .parties) map apair (at .parties) (now (s .entry)) (now (s .exit)) ⌝ }
 {
     let mut v = 0;
-    while v < p {
-        rep_row(s, list, p, d, b, rows, map, apair, v);
+    while v < at.parties {
+        rep_row(s, list, at, map, apair, v);
         v += 1;
     }
 }

@@ -4,10 +4,19 @@ ghost use mathlib.Core.Path.{_≡_};
 ghost use Prim.Native.Nat.{_+_, _*_, _<_, _≤_};
 ghost use lib.ListN.{length};
 ghost use Rattle.words.specs.Words.{word, «put-word»};
-ghost use Rattle.evening.specs.Rows.{Cleared, Pushes, «Rows-fit», «Rows-filled»};
+ghost use Rattle.evening.specs.Rows.{Cleared, Pushes, «row-pushed», «Rows-fit», «Rows-filled»};
 use words::half_word_at;
 use words::set_word;
 use words::word_at;
+
+// Where the rows lie: how many parties have one, the words of each, where the counters stand (the party's number further is how
+// many half-edges are in its row), and where the rows stand, party 0's first.
+pub(crate) struct RowBases {
+    pub parties: usize,
+    pub d: usize,
+    pub counts: usize,
+    pub rows: usize,
+}
 
 fn clear_words(s: &mut [u32], b: usize, n: usize)
     requires { do ⌜ b + n ≤ (← ⟦s.len()⟧) ⌝ }
@@ -21,28 +30,26 @@ fn clear_words(s: &mut [u32], b: usize, n: usize)
 }
 
 // Half-edge `h` goes to the end of the row of party `v`.
-fn push_row(s: &mut [u32], d: usize, b: usize, rows: usize, v: usize, h: usize)
-    requires { ⌜ b < 4294967296 ⌝ }
-    requires { ⌜ rows + d * v < 4294967296 ⌝ }
-    requires { ⌜ v < 4294967296 ⌝ }
-    requires { ⌜ Pushes d b rows v (now s) ⌝ }
-    ensures { λ r. ⌜ now (s .exit) ≡ put-word (put-word (now (s .entry)) (rows + d * v + word (now (s .entry)) (b + v)) h) (b + v) (word (now (s .entry)) (b + v) + 1) ⌝ }
+fn push_row(s: &mut [u32], at: RowBases, v: usize, h: usize)
+    requires { ⌜ (at .counts < 4294967296) × (at .rows + at .d * v < 4294967296) × (v < 4294967296) ⌝ }
+    requires { ⌜ Pushes at v (now s) ⌝ }
+    ensures { λ r. ⌜ now (s .exit) ≡ row-pushed at v h (now (s .entry)) ⌝ }
 {
-    let k = word_at(s, b + v);
-    set_word(s, rows + d * v + k, h);
-    set_word(s, b + v, k + 1);
+    let k = word_at(s, at.counts + v);
+    set_word(s, at.rows + at.d * v + k, h);
+    set_word(s, at.counts + v, k + 1);
 }
 
-// The rows of the `q` parties, each half-edge of the list in the row of its party.
-pub(crate) fn fill_rows(s: &mut [u32], list: &[u16], q: usize, d: usize, b: usize, rows: usize)
-    requires { ⌜ Rows-fit (now list) q d b rows (now s) ⌝ }
-    ensures { λ r. ⌜ Rows-filled (now (list .entry)) q d b rows (length (now (list .entry))) (now (s .entry)) (now (s .exit)) ⌝ }
+// Each half-edge of the list goes to the row of its party.
+pub(crate) fn fill_rows(s: &mut [u32], list: &[u16], at: RowBases)
+    requires { ⌜ Rows-fit (now list) at (now s) ⌝ }
+    ensures { λ r. ⌜ Rows-filled (now (list .entry)) at (length (now (list .entry))) (now (s .entry)) (now (s .exit)) ⌝ }
 {
-    clear_words(s, b, q);
+    clear_words(s, at.counts, at.parties);
     let mut h = 0;
     while h < list.len() {
         let v = half_word_at(list, h);
-        push_row(s, d, b, rows, v, h);
+        push_row(s, at, v, h);
         h += 1;
     }
 }

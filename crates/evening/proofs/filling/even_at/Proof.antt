@@ -4,16 +4,16 @@ use native.Mathlib.Omega.{arith}
 use lib.ListN.{length}
 use Rattle.words.specs.Words.{word, put-word}
 use mathlib.Core.List.{List}
-use Rattle.evening.specs.Contract.{Can-even}
-use Rattle.evening.specs.Rows.{Rows-filled}
-use Rattle.evening.proofs.EveningWords.{rows-fit-even, At, at-none, at-place, at-more, evened-out}
+use Rattle.evening.specs.Rows.{rows-from, Rows-filled}
+use Rattle.evening.specs.Filling.{Evens-at}
+use Rattle.evening.proofs.EveningWords.{rows-fit-even, fill-small, At, at-none, at-place, at-more, evened-out}
 use borrow.Author.Needs.{needs}
 use Rattle.evening.proofs.filling.even_at.Statement.{statement}
 use Rattle.evening.proofs.filling.even_at.Tie as tie
 
 abbrev Inv-loop : tie.InvT-loop
 Inv-loop s₀ u list d n at rows steps st₀ k₀ s st k =
-    (k ≤ steps) × (length s ≡ length s₀) × ((first : List ℕ) (h : Can-even list d n (at .left) (at .right) (at .ends) (at .apair) (at .g) u first) (x : Rows-filled list (n + n) d u (u + (n + n)) (length list) first s₀) → At list d n (at .left) (at .right) (at .ends) (at .apair) (at .g) u first h s₀ x k (st .l) (st .r) s)
+    (k ≤ steps) × (length s ≡ length s₀) × ((first : List ℕ) (h : Evens-at list d n at u first) (x : Rows-filled list (rows-from (n + n) d u) (length list) first s₀) → At list d n at u first h s₀ x k (st .l) (st .r) s)
 
 abbrev μ-loop : tie.MeasureT-loop
 μ-loop s₀ u list d n at rows steps st₀ k₀ s st k = steps - k
@@ -21,12 +21,12 @@ abbrev μ-loop : tie.MeasureT-loop
 fill-rows-requires : tie.Need-fill-rows-requires Inv-loop μ-loop
 fill-rows-requires c κs =
     let a = c .before .before .before .args in
-    rows-fit-even (a .list .now) (a .d) (a .n) (a .at .left) (a .at .right) (a .at .ends) (a .at .apair) (a .at .g) (a .u) (a .s .now) (c .before .before .before .pre)
+    rows-fit-even (a .list .now) (a .d) (a .n) (a .at) (a .u) (a .s .now) (c .before .before .before .pre)
 
 loop-holds : tie.Need-loop-holds Inv-loop μ-loop
 loop-holds c =
     let a = c .before .before .before .before .before .before .args in
-    (omega arith, refl, λ first h x. at-none (a .list .now) (a .d) (a .n) (a .at .left) (a .at .right) (a .at .ends) (a .at .apair) (a .at .g) (a .u) first h (c .before .before .fill-rows .last .0) x)
+    (omega arith, refl, λ first h x. at-none (a .list .now) (a .d) (a .n) (a .at) (a .u) first h (c .before .before .fill-rows .last .0) x)
 
 even-step-requires : tie.Need-even-step-requires Inv-loop μ-loop
 even-step-requires c κs =
@@ -34,18 +34,15 @@ even-step-requires c κs =
     let h = c .before .before .before .before .before .before .before .before .before .pre in
     let lp = c .before .before .loop in
     let x = c .before .before .before .before .before .fill-rows .ensures in (
-      (omega (arith, h .after-left, h .after-ends, h .after-apair, h .after-graph, h .low), omega (arith, h .after-right, h .after-ends, h .after-apair, h .after-graph, h .low), omega (arith, h .after-ends, h .after-apair, h .after-graph, h .low), omega (arith, h .after-apair, h .after-graph, h .low), omega (arith, h .after-graph, h .low)),
-      (
-        (h .few, omega (arith, h .low), omega (arith, h .low)),
-        λ below. at-place (a .list .now) (a .d) (a .n) (a .at .left) (a .at .right) (a .at .ends) (a .at .apair) (a .at .g) (a .u) (a .s .now) h (c .before .before .before .before .before .fill-rows .last .0) x (lp .k) (lp .st .l) (lp .st .r) (lp .s) (lp .inv .2 (a .s .now) h x) (omega arith),
-      ),
+      (fill-small (a .list .now) (a .d) (a .n) (a .at) (a .u) (a .s .now) h, omega (arith, h .low)),
+      λ below. at-place (a .list .now) (a .d) (a .n) (a .at) (a .u) (a .s .now) h (c .before .before .before .before .before .fill-rows .last .0) x (lp .k) (lp .st .l) (lp .st .r) (lp .s) (lp .inv .2 (a .s .now) h x) (omega arith),
     )
 
 loop-again : tie.Need-loop-again Inv-loop μ-loop
 loop-again c =
     let a = c .before .before .before .before .before .before .before .before .before .before .before .before .args in
     let lp = c .before .before .before .before .before .loop in
-    (search needs, search needs, λ first h x. at-more (a .list .now) (a .d) (a .n) (a .at .left) (a .at .right) (a .at .ends) (a .at .apair) (a .at .g) (a .u) first h (c .before .before .before .before .before .before .before .before .fill-rows .last .0) x (lp .k) (lp .st .l) (lp .st .r) (c .before .before .even-step .result .l) (c .before .before .even-step .result .r) (lp .s) (c .before .before .even-step .last .0) (lp .inv .2 first h x) (c .before .before .even-step .ensures))
+    (search needs, search needs, λ first h x. at-more (a .list .now) (a .d) (a .n) (a .at) (a .u) first h (c .before .before .before .before .before .before .before .before .fill-rows .last .0) x (lp .k) (lp .st .l) (lp .st .r) (c .before .before .even-step .result .l) (c .before .before .even-step .result .r) (lp .s) (c .before .before .even-step .last .0) (lp .inv .2 first h x) (c .before .before .even-step .ensures))
 
 returns : tie.Need-returns Inv-loop μ-loop
 returns c =
@@ -53,7 +50,7 @@ returns c =
     let lp = c .before .loop in
     let x = c .before .before .before .before .fill-rows .ensures in
     let e : lp .k ≡ 2 * (a .n + a .n) = omega arith in
-    evened-out (a .list .now) (a .d) (a .n) (a .at .left) (a .at .right) (a .at .ends) (a .at .apair) (a .at .g) (a .u) (a .s .now) (c .before .before .before .before .before .before .before .before .pre) (c .before .before .before .before .fill-rows .last .0) x (lp .st .l) (lp .st .r) (lp .s) (rw e at (lp .inv .2 (a .s .now) (c .before .before .before .before .before .before .before .before .pre) x))
+    evened-out (a .list .now) (a .d) (a .n) (a .at) (a .u) (a .s .now) (c .before .before .before .before .before .before .before .before .pre) (c .before .before .before .before .fill-rows .last .0) x (lp .st .l) (lp .st .r) (lp .s) (rw e at (lp .inv .2 (a .s .now) (c .before .before .before .before .before .before .before .before .pre) x))
 
 pub even-at-spec : {M : Type 1} → statement M
 even-at-spec =

@@ -15,16 +15,16 @@ add-pair-requires : tie.Need-add-pair-requires
 add-pair-requires c κs =
     let a = c .before .before .before .before .before .before .before .args in
     let h = c .before .before .before .before .before .before .before .pre .0 in
-    (omega (arith, h .after-ends, h .after-apair, h .small), (omega (arith, h .small), (omega arith, has-place (a .list .now) (a .ends) (a .apair) (a .g) (a .i) (a .s .now) h (c .before .before .before .before .before .before .before .pre .1))))
+    (omega (arith, h .after-ends, h .after-apair, h .small), (omega (arith, h .small), (omega arith, has-place (a .list .now) (a .at) (a .i) (a .s .now) h (c .before .before .before .before .before .before .before .pre .1))))
 
 returns : tie.Need-returns
 returns c =
-    let a = c .before .before .before .before .before .before .before .before .before .before .before .before .before .before .args in
-    let ee : c .before .before .before .before .before .before .before .before .before .before .pair-of .result ≡ pair-of (a .g) (a .apair) (a .i) (a .s .now) = c .before .before .before .before .before .before .before .before .before .before .pair-of .ensures in
-    let ex : c .before .before .before .before .before .before .before .before .before .half-word-at .result ≡ first-of (a .list .now) (a .i) = c .before .before .before .before .before .before .before .before .before .half-word-at .ensures .0 in
-    let ey : c .before .before .before .before .before .before .before .before .half-word-at2 .result ≡ second-of (a .list .now) (a .i) = c .before .before .before .before .before .before .before .before .half-word-at2 .ensures .0 in
-    let add : Pair-added (a .ends) (a .g) (pair-of (a .g) (a .apair) (a .i) (a .s .now)) (first-of (a .list .now) (a .i)) (second-of (a .list .now) (a .i)) 1 (a .s .now) (c .before .before .before .before .before .before .add-pair .last .0) = (rw (ee, ex, ey) at (c .before .before .before .before .before .before .add-pair .ensures)) (fits (a .list .now) (a .ends) (a .apair) (a .g) (a .i) (a .s .now) (c .before .before .before .before .before .before .before .before .before .before .before .before .before .before .pre .0) (c .before .before .before .before .before .before .before .before .before .before .before .before .before .before .pre .1) (omega (arith, ex)) (omega (arith, ey))) in
-    built (a .list .now) (a .ends) (a .apair) (a .g) (a .i) (a .s .now) (c .before .before .before .before .before .before .before .before .before .before .before .before .before .before .pre .0) (c .before .before .before .before .before .before .before .before .before .before .before .before .before .before .pre .1) (c .before .before .before .before .before .before .add-pair .last .0) (c .before .before .set-word .last .0) add (rw ee at (c .before .before .set-word .ensures))
+    let a = c .before .before .before .before .before .before .before .before .before .before .before .before .before .before .before .args in
+    let ee : c .before .before .before .before .before .before .before .before .before .before .before .pair-of .result ≡ pair-of (a .at .g) (a .at .apair) (a .i) (a .s .now) = c .before .before .before .before .before .before .before .before .before .before .before .pair-of .ensures in
+    let ex : c .before .before .before .before .before .before .before .before .before .before .half-word-at .result ≡ first-of (a .list .now) (a .i) = c .before .before .before .before .before .before .before .before .before .before .half-word-at .ensures .0 in
+    let ey : c .before .before .before .before .before .before .before .before .before .half-word-at2 .result ≡ second-of (a .list .now) (a .i) = c .before .before .before .before .before .before .before .before .before .half-word-at2 .ensures .0 in
+    let add : Pair-added (a .at .ends) (a .at .g) (pair-of (a .at .g) (a .at .apair) (a .i) (a .s .now)) (first-of (a .list .now) (a .i)) (second-of (a .list .now) (a .i)) 1 (a .s .now) (c .before .before .before .before .before .before .before .add-pair .last .0) = (rw (ee, ex, ey) at (c .before .before .before .before .before .before .before .add-pair .ensures)) (fits (a .list .now) (a .at) (a .i) (a .s .now) (c .before .before .before .before .before .before .before .before .before .before .before .before .before .before .before .pre .0) (c .before .before .before .before .before .before .before .before .before .before .before .before .before .before .before .pre .1) (omega (arith, ex)) (omega (arith, ey))) in
+    built (a .list .now) (a .at) (a .i) (a .s .now) (c .before .before .before .before .before .before .before .before .before .before .before .before .before .before .before .pre .0) (c .before .before .before .before .before .before .before .before .before .before .before .before .before .before .before .pre .1) (c .before .before .before .before .before .before .before .add-pair .last .0) (c .before .before .set-word .last .0) add (rw ee at (c .before .before .set-word .ensures))
 
 pub add-appointment-spec : {M : Type 1} → statement M
 add-appointment-spec =

@@ -12,16 +12,16 @@ use Rattle.evening.proofs.from_list.add_appointments.Statement.{stateme
 use Rattle.evening.proofs.from_list.add_appointments.Tie as tie
 
 abbrev Inv-loop : tie.InvT-loop
-Inv-loop s₀ list ends apair g a i₀ s i =
-    (i ≤ a) × (length s ≡ length s₀) × (Building list ends apair g 0 s₀ → Built list ends apair g i s₀ s)
+Inv-loop s₀ list at a i₀ s i =
+    (i ≤ a) × (length s ≡ length s₀) × (Building list at 0 s₀ → Built list at i s₀ s)
 
 abbrev μ-loop : tie.MeasureT-loop
-μ-loop s₀ list ends apair g a i₀ s i = a - i
+μ-loop s₀ list at a i₀ s i = a - i
 
 loop-holds : tie.Need-loop-holds Inv-loop μ-loop
 loop-holds c =
     let a = c .before .before .args in
-    (omega arith, refl, λ h. built-none (a .list .now) (a .ends) (a .apair) (a .g) (a .s .now) h)
+    (omega arith, refl, λ h. built-none (a .list .now) (a .at) (a .s .now) h)
 
 add-appointment-requires : tie.Need-add-appointment-requires Inv-loop μ-loop
 add-appointment-requires c κs =
@@ -33,7 +33,7 @@ loop-again : tie.Need-loop-again Inv-loop μ-loop
 loop-again c =
     let a = c .before .before .before .before .before .before .before .before .args in
     let lp = c .before .before .before .before .before .loop in
-    (search needs, search needs, λ h. built-more (a .list .now) (a .ends) (a .apair) (a .g) (lp .i) (a .s .now) (lp .s) (c .before .before .add-appointment .last .0) (lp .inv .2 h) (c .before .before .add-appointment .ensures))
+    (search needs, search needs, λ h. built-more (a .list .now) (a .at) (lp .i) (a .s .now) (lp .s) (c .before .before .add-appointment .last .0) (lp .inv .2 h) (c .before .before .add-appointment .ensures))
 
 returns : tie.Need-returns Inv-loop μ-loop
 returns c =

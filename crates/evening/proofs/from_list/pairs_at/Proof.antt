@@ -11,23 +11,23 @@ use Rattle.evening.proofs.PairsMade.{rows-fit, reps-fit, started, pairs
 
 fill-rows-requires : tie.Need-fill-rows-requires
 fill-rows-requires c κs =
-    let a = c .before .before .before .args in
-    rows-fit (a .list .now) (a .p) (a .d) (a .at .ends) (a .at .apair) (a .at .g) (a .u) (a .s .now) (c .before .before .before .pre)
+    let a = c .before .before .before .before .args in
+    rows-fit (a .list .now) (a .p) (a .d) (a .at) (a .u) (a .s .now) (c .before .before .before .before .pre)
 
 rep-rows-requires : tie.Need-rep-rows-requires
 rep-rows-requires c κs =
-    let a = c .before .before .before .before .before .before .before .args in
-    reps-fit (a .list .now) (a .p) (a .d) (a .at .ends) (a .at .apair) (a .at .g) (a .u) (a .s .now) (c .before .before .before .before .before .before .before .pre) (c .before .before .before .fill-rows .last .0) (c .before .before .before .fill-rows .ensures)
+    let a = c .before .before .before .before .before .before .before .before .args in
+    reps-fit (a .list .now) (a .p) (a .d) (a .at) (a .u) (a .s .now) (c .before .before .before .before .before .before .before .before .pre) (c .before .before .before .fill-rows .last .0) (c .before .before .before .fill-rows .ensures)
 
 add-appointments-requires : tie.Need-add-appointments-requires
 add-appointments-requires c κs =
-    let a = c .before .before .before .before .before .before .before .before .before .before .before .before .before .before .before .args in
-    started (a .list .now) (a .p) (a .d) (a .at .ends) (a .at .apair) (a .at .g) (a .u) (a .s .now) (c .before .before .before .before .before .before .before .before .before .before .before .before .before .before .before .pre) (c .before .before .before .before .before .before .before .before .before .before .before .fill-rows .last .0) (c .before .before .before .before .before .before .before .rep-rows .last .0) (c .before .before .before .no-pairs .last .0) (c .before .before .before .before .before .before .before .before .before .before .before .fill-rows .ensures) (c .before .before .before .before .before .before .before .rep-rows .ensures) (c .before .before .before .no-pairs .ensures)
+    let a = c .before .before .before .before .before .before .before .before .before .before .before .before .before .before .before .before .args in
+    started (a .list .now) (a .p) (a .d) (a .at) (a .u) (a .s .now) (c .before .before .before .before .before .before .before .before .before .before .before .before .before .before .before .before .pre) (c .before .before .before .before .before .before .before .before .before .before .before .fill-rows .last .0) (c .before .before .before .before .before .before .before .rep-rows .last .0) (c .before .before .before .no-pairs .last .0) (c .before .before .before .before .before .before .before .before .before .before .before .fill-rows .ensures) (c .before .before .before .before .before .before .before .rep-rows .ensures) (c .before .before .before .no-pairs .ensures)
 
 returns : tie.Need-returns
 returns c =
-    let a = c .before .before .before .before .before .before .before .before .before .before .before .before .before .before .before .before .before .before .args in
-    pairs-made (a .list .now) (a .p) (a .d) (a .at .ends) (a .at .apair) (a .at .g) (a .u) (a .s .now) (c .before .before .before .before .before .before .before .before .before .before .before .before .before .before .before .before .before .before .pre) (c .before .before .before .before .before .before .before .before .before .before .before .before .before .before .fill-rows .last .0) (c .before .before .before .before .before .before .before .before .before .before .rep-rows .last .0) (c .before .before .before .before .before .before .no-pairs .last .0) (c .before .before .before .before .before .before .before .before .before .before .before .before .before .before .fill-rows .ensures) (c .before .before .before .before .before .before .before .before .before .before .rep-rows .ensures) (c .before .before .before .before .before .before .no-pairs .ensures) (c .before .before .add-appointments .last .0) (c .before .before .add-appointments .ensures)
+    let a = c .before .before .before .before .before .before .before .before .before .before .before .before .before .before .before .before .before .before .before .args in
+    pairs-made (a .list .now) (a .p) (a .d) (a .at) (a .u) (a .s .now) (c .before .before .before .before .before .before .before .before .before .before .before .before .before .before .before .before .before .before .before .pre) (c .before .before .before .before .before .before .before .before .before .before .before .before .before .before .fill-rows .last .0) (c .before .before .before .before .before .before .before .before .before .before .rep-rows .last .0) (c .before .before .before .before .before .before .no-pairs .last .0) (c .before .before .before .before .before .before .before .before .before .before .before .before .before .before .fill-rows .ensures) (c .before .before .before .before .before .before .before .before .before .before .rep-rows .ensures) (c .before .before .before .before .before .before .no-pairs .ensures) (c .before .before .add-appointments .last .0) (c .before .before .add-appointments .ensures)
 
 pub pairs-at-spec : {M : Type 1} → statement M
 pairs-at-spec =

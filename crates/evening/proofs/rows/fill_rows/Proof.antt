@@ -12,11 +12,11 @@ use Rattle.evening.proofs.rows.fill_rows.Statement.{statement}
 use Rattle.evening.proofs.rows.fill_rows.Tie as tie
 
 abbrev Inv-loop : tie.InvT-loop
-Inv-loop s₀ list q d b rows h₀ s h =
-    (h ≤ length list) × (length s ≡ length s₀) × ((first : List ℕ) → Rows-fit list q d b rows first → Rows-filled list q d b rows 0 first s₀ → Rows-filled list q d b rows h first s)
+Inv-loop s₀ list at h₀ s h =
+    (h ≤ length list) × (length s ≡ length s₀) × ((first : List ℕ) → Rows-fit list at first → Rows-filled list at 0 first s₀ → Rows-filled list at h first s)
 
 abbrev μ-loop : tie.MeasureT-loop
-μ-loop s₀ list q d b rows h₀ s h = length list - h
+μ-loop s₀ list at h₀ s h = length list - h
 
 loop-holds : tie.Need-loop-holds Inv-loop μ-loop
 loop-holds c = (omega arith, refl, λ first k x. x)
@@ -26,26 +26,26 @@ push-row-requires c κs =
     let a = c .before .before .before .before .before .before .before .before .before .before .args in
     let h = c .before .before .before .before .before .before .before .before .before .before .pre in
     let e : c .before .half-word-at .result ≡ word (a .list .now) (c .before .before .before .loop .h) = c .before .half-word-at .ensures .0 in
-    let v : c .before .half-word-at .result < a .q = rw e (h .ends (c .before .before .before .loop .h) (omega arith)) in
-    let less : c .before .half-word-at .result ≤ a .q = omega arith in
+    let v : c .before .half-word-at .result < a .at .parties = rw e (h .ends (c .before .before .before .loop .h) (omega arith)) in
+    let less : c .before .half-word-at .result ≤ a .at .parties = omega arith in
     let lp = c .before .before .before .loop in
-    let none = filled-none (a .list .now) (a .q) (a .d) (a .b) (a .rows) (a .s .now) h (c .before .before .before .before .before .before .clear-words .last .0) (c .before .before .before .before .before .before .clear-words .ensures) in
-    let place = pushes (a .list .now) (a .q) (a .d) (a .b) (a .rows) (a .s .now) h (lp .h) (lp .s) (omega arith) (lp .inv .2 (a .s .now) h none) in
-    (omega (arith, h .after, h .small), (omega (arith, h .small, mul-le-mul-left (a .d) less), (omega arith, rw e place)))
+    let none = filled-none (a .list .now) (a .at) (a .s .now) h (c .before .before .before .before .before .before .clear-words .last .0) (c .before .before .before .before .before .before .clear-words .ensures) in
+    let place = pushes (a .list .now) (a .at) (a .s .now) h (lp .h) (lp .s) (omega arith) (lp .inv .2 (a .s .now) h none) in
+    ((omega (arith, h .after, h .small), omega (arith, h .small, mul-le-mul-left (a .at .d) less), omega arith), rw e place)
 
 loop-again : tie.Need-loop-again Inv-loop μ-loop
 loop-again c =
     let a = c .before .before .before .before .before .before .before .before .before .before .before .before .before .args in
     let lp = c .before .before .before .before .before .before .loop in
     let e : c .before .before .before .before .half-word-at .result ≡ word (a .list .now) (lp .h) = c .before .before .before .before .half-word-at .ensures .0 in
-    (search needs, search needs, λ first k x. filled-more (a .list .now) (a .q) (a .d) (a .b) (a .rows) first k (lp .h) (lp .s) (omega arith) (lp .inv .2 first k x) (c .before .before .push-row .last .0) (rw e at (c .before .before .push-row .ensures)))
+    (search needs, search needs, λ first k x. filled-more (a .list .now) (a .at) first k (lp .h) (lp .s) (omega arith) (lp .inv .2 first k x) (c .before .before .push-row .last .0) (rw e at (c .before .before .push-row .ensures)))
 
 returns : tie.Need-returns Inv-loop μ-loop
 returns c =
     let a = c .before .before .before .before .before .before .before .before .args in
     let lp = c .before .loop in
     let e : lp .h ≡ length (a .list .now) = omega arith in
-    rw e at (lp .inv .2 (a .s .now) (c .before .before .before .before .before .before .before .before .pre) (filled-none (a .list .now) (a .q) (a .d) (a .b) (a .rows) (a .s .now) (c .before .before .before .before .before .before .before .before .pre) (c .before .before .before .before .clear-words .last .0) (c .before .before .before .before .clear-words .ensures)))
+    rw e at (lp .inv .2 (a .s .now) (c .before .before .before .before .before .before .before .before .pre) (filled-none (a .list .now) (a .at) (a .s .now) (c .before .before .before .before .before .before .before .before .pre) (c .before .before .before .before .clear-words .last .0) (c .before .before .before .before .clear-words .ensures)))
 
 pub fill-rows-spec : {M : Type 1} → statement M
 fill-rows-spec =
