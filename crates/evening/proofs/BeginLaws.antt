@@ -9,6 +9,7 @@ use Rattle.words.specs.Words.{word, put-word}
 use Rattle.words.proofs.Frames.{here, away, length-put}
 use Rattle.words.proofs.Ranges.{three-refl, three-trans, three-within}
 use Rattle.evening.specs.DiagonalPlaces.{begun, Begins, Diag-fit, Begun, Diag-ready}
+use Rattle.evening.specs.declared.Bases.{Bases}
 
 -- the words after one place
 record One-begun (ends diag b m i l r : ℕ) (s t : List ℕ) : Type 0 where
@@ -82,8 +83,8 @@ module _ (ends diag b m i l r : ℕ) (s : List ℕ) where
       len4 : length v4 ≡ length s
       len4 = length-put v3 (ends + 2 * (m + i)) l ∙ len3
 
-module _ (n left right ends diag b m : ℕ) (s : List ℕ) (h : Diag-fit n left right ends diag b m s) where
-  pub begun-none : Begun n left right ends diag b m 0 s s
+module _ (n : ℕ) (at : Bases) (diag b m : ℕ) (s : List ℕ) (h : Diag-fit n at diag b m s) where
+  pub begun-none : Begun n at diag b m 0 s s
   begun-none =
       record {
         left-place = λ i a. absurd (omega arith);
@@ -91,17 +92,17 @@ module _ (n left right ends diag b m : ℕ) (s : List ℕ) (h : Diag-fit n left 
         numbers = λ i a. absurd (omega arith);
         firsts = λ i a. absurd (omega arith);
         seconds = λ i a. absurd (omega arith);
-        changes = λ mark. three-refl diag n (ends + 2 * m) (2 * n) b (n + n) mark s;
+        changes = λ mark. three-refl diag n (at .ends + 2 * m) (2 * n) b (n + n) mark s;
       }
 
-  pub left-same : (k : ℕ) (t : List ℕ) → Begun n left right ends diag b m k s t → (i : ℕ) → i < n → word t (left + i) ≡ word s (left + i)
-  left-same k t x i a = x .changes (left + i + 1) .under (left + i) (omega arith) (omega (arith, h .after-left))
+  pub left-same : (k : ℕ) (t : List ℕ) → Begun n at diag b m k s t → (i : ℕ) → i < n → word t (at .left + i) ≡ word s (at .left + i)
+  left-same k t x i a = x .changes (at .left + i + 1) .under (at .left + i) (omega arith) (omega (arith, h .after-left))
 
-  pub right-same : (k : ℕ) (t : List ℕ) → Begun n left right ends diag b m k s t → (i : ℕ) → i < n → word t (right + i) ≡ word s (right + i)
-  right-same k t x i a = x .changes (right + i + 1) .under (right + i) (omega arith) (omega (arith, h .after-right))
+  pub right-same : (k : ℕ) (t : List ℕ) → Begun n at diag b m k s t → (i : ℕ) → i < n → word t (at .right + i) ≡ word s (at .right + i)
+  right-same k t x i a = x .changes (at .right + i + 1) .under (at .right + i) (omega arith) (omega (arith, h .after-right))
 
   -- the next place can begin
-  pub begins : (k : ℕ) (t : List ℕ) → k < n → Begun n left right ends diag b m k s t → Begins left right ends diag b m k t
+  pub begins : (k : ℕ) (t : List ℕ) → k < n → Begun n at diag b m k s t → Begins at diag b m k t
   begins k t inside x =
       let len : length t ≡ length s = x .changes 0 .len in
       let low : diag + n ≤ length t = omega (arith, h .after-diag, h .after-ends, h .room) in
@@ -114,27 +115,27 @@ module _ (n left right ends diag b m : ℕ) (s : List ℕ) (h : Diag-fit n left 
         row = omega (arith, h .after-ends, h .room);
       }
 
-  module _ (k : ℕ) (t v : List ℕ) (inside : k < n) (x : Begun n left right ends diag b m k s t)
-      (e : v ≡ begun ends diag b m k (word t (left + k)) (word t (right + k)) t) where
+  module _ (k : ℕ) (t v : List ℕ) (inside : k < n) (x : Begun n at diag b m k s t)
+      (e : v ≡ begun (at .ends) diag b m k (word t (at .left + k)) (word t (at .right + k)) t) where
     abbrev l : ℕ
-    l = word s (left + k)
+    l = word s (at .left + k)
 
     abbrev r : ℕ
-    r = word s (right + k)
+    r = word s (at .right + k)
 
-    l-is : word t (left + k) ≡ l
+    l-is : word t (at .left + k) ≡ l
     l-is = left-same k t x k inside
 
-    r-is : word t (right + k) ≡ r
+    r-is : word t (at .right + k) ≡ r
     r-is = right-same k t x k inside
 
     t-len : length t ≡ length s
     t-len = x .changes 0 .len
 
-    o : One-begun ends diag b m k l r t v
+    o : One-begun (at .ends) diag b m k l r t v
     o =
         rw (e, l-is, r-is)
-        (one-begun ends diag b m k l r t (h .apart k k inside inside) (omega (arith, h .after-diag)) (omega (arith, h .after-ends))
+        (one-begun (at .ends) diag b m k l r t (h .apart k k inside inside) (omega (arith, h .after-diag)) (omega (arith, h .after-ends))
         (omega (arith, h .left-below k inside, h .room, t-len)) (omega (arith, h .right-below k inside, h .room, t-len))
         (omega (arith, h .left-below k inside, h .low)) (omega (arith, h .right-below k inside, h .low)))
 
@@ -146,25 +147,25 @@ module _ (n left right ends diag b m : ℕ) (s : List ℕ) (h : Diag-fit n left 
 
     -- a word below the places
     low-kept :
-        (w : ℕ) → w < b → (w ≡ diag + k → ⊥) → (w ≡ ends + 2 * (m + k) → ⊥) → (w ≡ ends + 2 * (m + k) + 1 → ⊥) →
+        (w : ℕ) → w < b → (w ≡ diag + k → ⊥) → (w ≡ at .ends + 2 * (m + k) → ⊥) → (w ≡ at .ends + 2 * (m + k) + 1 → ⊥) →
         word v w ≡ word t w
     low-kept w a c d f = o .elsewhere w (λ q. omega arith) (λ q. omega arith) c d f
 
-    left-place' : (i : ℕ) → i < k + 1 → word v (b + word s (left + i)) ≡ i
+    left-place' : (i : ℕ) → i < k + 1 → word v (b + word s (at .left + i)) ≡ i
     left-place' i a =
         elim (ℕ-discrete i k) [
           | yes q ↦ rw q (o .left-place)
           | no q ↦
-              place-kept (word s (left + i)) (λ p. q (h .left-once i k (omega arith) inside p)) (h .apart i k (omega arith) inside)
+              place-kept (word s (at .left + i)) (λ p. q (h .left-once i k (omega arith) inside p)) (h .apart i k (omega arith) inside)
               ∙ x .left-place i (omega arith)
         ]
 
-    right-place' : (i : ℕ) → i < k + 1 → word v (b + word s (right + i)) ≡ i
+    right-place' : (i : ℕ) → i < k + 1 → word v (b + word s (at .right + i)) ≡ i
     right-place' i a =
         elim (ℕ-discrete i k) [
           | yes q ↦ rw q (o .right-place)
           | no q ↦
-              place-kept (word s (right + i)) (λ p. h .apart k i inside (omega arith) (sym p))
+              place-kept (word s (at .right + i)) (λ p. h .apart k i inside (omega arith) (sym p))
               (λ p. q (h .right-once i k (omega arith) inside p))
               ∙ x .right-place i (omega arith)
         ]
@@ -179,27 +180,27 @@ module _ (n left right ends diag b m : ℕ) (s : List ℕ) (h : Diag-fit n left 
               ∙ x .numbers i (omega arith)
         ]
 
-    firsts' : (i : ℕ) → i < k + 1 → word v (ends + 2 * (m + i)) ≡ word s (left + i)
+    firsts' : (i : ℕ) → i < k + 1 → word v (at .ends + 2 * (m + i)) ≡ word s (at .left + i)
     firsts' i a =
         elim (ℕ-discrete i k) [
           | yes q ↦ rw q (o .first)
           | no q ↦
-              low-kept (ends + 2 * (m + i)) (omega (arith, h .after-ends)) (λ p. omega (arith, h .after-diag)) (λ p. q (omega arith))
+              low-kept (at .ends + 2 * (m + i)) (omega (arith, h .after-ends)) (λ p. omega (arith, h .after-diag)) (λ p. q (omega arith))
               (λ p. omega arith)
               ∙ x .firsts i (omega arith)
         ]
 
-    seconds' : (i : ℕ) → i < k + 1 → word v (ends + 2 * (m + i) + 1) ≡ word s (right + i)
+    seconds' : (i : ℕ) → i < k + 1 → word v (at .ends + 2 * (m + i) + 1) ≡ word s (at .right + i)
     seconds' i a =
         elim (ℕ-discrete i k) [
           | yes q ↦ rw q (o .second)
           | no q ↦
-              low-kept (ends + 2 * (m + i) + 1) (omega (arith, h .after-ends)) (λ p. omega (arith, h .after-diag)) (λ p. omega arith)
+              low-kept (at .ends + 2 * (m + i) + 1) (omega (arith, h .after-ends)) (λ p. omega (arith, h .after-diag)) (λ p. omega arith)
               (λ p. q (omega arith))
               ∙ x .seconds i (omega arith)
         ]
 
-    pub begun-more : Begun n left right ends diag b m (k + 1) s v
+    pub begun-more : Begun n at diag b m (k + 1) s v
     begun-more =
         record {
           left-place = left-place';
@@ -210,7 +211,7 @@ module _ (n left right ends diag b m : ℕ) (s : List ℕ) (h : Diag-fit n left 
           changes =
               λ mark.
               three-trans (x .changes mark)
-              (three-within diag n (ends + 2 * m) (2 * n) b (n + n) mark t v (omega (arith, h .after-diag)) (omega (arith, h .after-ends)) (o .len)
+              (three-within diag n (at .ends + 2 * m) (2 * n) b (n + n) mark t v (omega (arith, h .after-diag)) (omega (arith, h .after-ends)) (o .len)
               (λ w a c d f.
               o .elsewhere w (λ q. f (omega arith) (omega (arith, h .left-below k inside)))
               (λ q. f (omega arith) (omega (arith, h .right-below k inside))) (λ q. c (omega arith) (omega arith))
@@ -218,7 +219,7 @@ module _ (n left right ends diag b m : ℕ) (s : List ℕ) (h : Diag-fit n left 
         }
 
   -- with all places begun the pairs can be looked at
-  pub diag-ready : (t : List ℕ) → Begun n left right ends diag b m n s t → Diag-ready n left right ends diag b m t
+  pub diag-ready : (t : List ℕ) → Begun n at diag b m n s t → Diag-ready n at diag b m t
   diag-ready t x =
       record {
         left-place = λ i a. rw (left-same n t x i a) (x .left-place i a);

@@ -11,23 +11,25 @@ use Rattle.evening.specs.Contract.{Has-ends, Can-diagonal, Diagonal-set}
 use Rattle.evening.specs.DiagonalPlaces.{Diag-fit, Begun, Looked}
 use Rattle.two_color.proofs.Regions.{region-all, region-once}
 use Rattle.evening.proofs.BeginLaws.{left-same, right-same}
+use Rattle.evening.specs.declared.Bases.{Bases}
 
-module _ (n left right ends g diag u : ℕ) (s : List ℕ) (h : Can-diagonal n left right ends g diag u s) where
-  left-of : (i : ℕ) → i < n → (word s (left + i) < n + n) × (h .side (word s (left + i)) ≡ 0)
-  left-of = region-all (λ v. (v < n + n) × (h .side v ≡ 0)) s left n (h .partition .left-side)
+module _ (n : ℕ) (at : Bases) (diag u : ℕ) (s : List ℕ)
+    (h : Can-diagonal n (at .left) (at .right) (at .ends) (at .g) diag u s) where
+  left-of : (i : ℕ) → i < n → (word s (at .left + i) < n + n) × (h .side (word s (at .left + i)) ≡ 0)
+  left-of = region-all (λ v. (v < n + n) × (h .side v ≡ 0)) s (at .left) n (h .partition .left-side)
 
-  right-of : (i : ℕ) → i < n → (word s (right + i) < n + n) × (h .side (word s (right + i)) ≡ 1)
-  right-of = region-all (λ v. (v < n + n) × (h .side v ≡ 1)) s right n (h .partition .right-side)
+  right-of : (i : ℕ) → i < n → (word s (at .right + i) < n + n) × (h .side (word s (at .right + i)) ≡ 1)
+  right-of = region-all (λ v. (v < n + n) × (h .side v ≡ 1)) s (at .right) n (h .partition .right-side)
 
-  pub diag-fit : Diag-fit n left right ends diag u (size s g) s
+  pub diag-fit : Diag-fit n at diag u (size s (at .g)) s
   diag-fit =
       record {
         left-once =
             λ i j a b e.
-            region-once (word s (left + j)) s left n (omega (arith, h .partition .once (word s (left + j)) (left-of j b .0))) i j a b e refl;
+            region-once (word s (at .left + j)) s (at .left) n (omega (arith, h .partition .once (word s (at .left + j)) (left-of j b .0))) i j a b e refl;
         right-once =
             λ i j a b e.
-            region-once (word s (right + j)) s right n (omega (arith, h .partition .once (word s (right + j)) (right-of j b .0))) i j a b e
+            region-once (word s (at .right + j)) s (at .right) n (omega (arith, h .partition .once (word s (at .right + j)) (right-of j b .0))) i j a b e
             refl;
         apart = λ i j a b e. omega (arith, left-of i a .1, right-of j b .1, ap (h .side) e);
         left-below = λ i a. left-of i a .0;
@@ -40,14 +42,15 @@ module _ (n left right ends g diag u : ℕ) (s : List ℕ) (h : Can-diagonal n l
         low = h .low;
       }
 
-module _ (n left right ends g diag u : ℕ) (s : List ℕ) (h : Can-diagonal n left right ends g diag u s) where
+module _ (n : ℕ) (at : Bases) (diag u : ℕ) (s : List ℕ)
+    (h : Can-diagonal n (at .left) (at .right) (at .ends) (at .g) diag u s) where
   pub diagonal-set :
-      (t v : List ℕ) → Begun n left right ends diag u (size s g) n s t → Looked n left right ends diag (size s g) (size s g) t v →
-      Diagonal-set n left right ends g diag u s u v
+      (t v : List ℕ) → Begun n at diag u (size s (at .g)) n s t → Looked n at diag (size s (at .g)) (size s (at .g)) t v →
+      Diagonal-set n (at .left) (at .right) (at .ends) (at .g) diag u s u v
   diagonal-set t v x y =
       record {
-        firsts = λ i a. y .over (ends + 2 * (size s g + i)) (omega (arith, h .after-diag)) ∙ x .firsts i a;
-        seconds = λ i a. y .over (ends + 2 * (size s g + i) + 1) (omega (arith, h .after-diag)) ∙ x .seconds i a;
+        firsts = λ i a. y .over (at .ends + 2 * (size s (at .g) + i)) (omega (arith, h .after-diag)) ∙ x .firsts i a;
+        seconds = λ i a. y .over (at .ends + 2 * (size s (at .g) + i) + 1) (omega (arith, h .after-diag)) ∙ x .seconds i a;
         numbers =
             λ i a.
             ⊎-elim
@@ -65,29 +68,29 @@ module _ (n left right ends g diag u : ℕ) (s : List ℕ) (h : Can-diagonal n l
             };
       }
     where
-      fit : Diag-fit n left right ends diag u (size s g) s
-      fit = diag-fit n left right ends g diag u s h
+      fit : Diag-fit n at diag u (size s (at .g)) s
+      fit = diag-fit n at diag u s h
 
-      lefts : (i : ℕ) → i < n → word t (left + i) ≡ word s (left + i)
-      lefts = left-same n left right ends diag u (size s g) s fit n t x
+      lefts : (i : ℕ) → i < n → word t (at .left + i) ≡ word s (at .left + i)
+      lefts = left-same n at diag u (size s (at .g)) s fit n t x
 
-      rights : (i : ℕ) → i < n → word t (right + i) ≡ word s (right + i)
-      rights = right-same n left right ends diag u (size s g) s fit n t x
+      rights : (i : ℕ) → i < n → word t (at .right + i) ≡ word s (at .right + i)
+      rights = right-same n at diag u (size s (at .g)) s fit n t x
 
-      first-same : (e : ℕ) → e < size s g → word t (ends + 2 * e) ≡ word s (ends + 2 * e)
+      first-same : (e : ℕ) → e < size s (at .g) → word t (at .ends + 2 * e) ≡ word s (at .ends + 2 * e)
       first-same e a =
-          x .changes (ends + 2 * e + 1) .after-first (ends + 2 * e) (omega arith) (omega (arith, h .after-diag)) (omega arith)
+          x .changes (at .ends + 2 * e + 1) .after-first (at .ends + 2 * e) (omega arith) (omega (arith, h .after-diag)) (omega arith)
 
-      second-same : (e : ℕ) → e < size s g → word t (ends + 2 * e + 1) ≡ word s (ends + 2 * e + 1)
+      second-same : (e : ℕ) → e < size s (at .g) → word t (at .ends + 2 * e + 1) ≡ word s (at .ends + 2 * e + 1)
       second-same e a =
-          x .changes (ends + 2 * e + 2) .after-first (ends + 2 * e + 1) (omega arith) (omega (arith, h .after-diag)) (omega arith)
+          x .changes (at .ends + 2 * e + 2) .after-first (at .ends + 2 * e + 1) (omega arith) (omega (arith, h .after-diag)) (omega arith)
 
       back :
-          (e i : ℕ) → e < size s g → i < n → Has-ends t ends e (word t (left + i)) (word t (right + i)) →
-          Has-ends s ends e (word s (left + i)) (word s (right + i))
+          (e i : ℕ) → e < size s (at .g) → i < n → Has-ends t (at .ends) e (word t (at .left + i)) (word t (at .right + i)) →
+          Has-ends s (at .ends) e (word s (at .left + i)) (word s (at .right + i))
       back e i k a q = rw (lefts i a, rights i a, first-same e k, second-same e k) at q
 
       forth :
-          (e i : ℕ) → e < size s g → i < n → Has-ends s ends e (word s (left + i)) (word s (right + i)) →
-          Has-ends t ends e (word t (left + i)) (word t (right + i))
+          (e i : ℕ) → e < size s (at .g) → i < n → Has-ends s (at .ends) e (word s (at .left + i)) (word s (at .right + i)) →
+          Has-ends t (at .ends) e (word t (at .left + i)) (word t (at .right + i))
       forth e i k a q = rw (lefts i a, rights i a, first-same e k, second-same e k) q

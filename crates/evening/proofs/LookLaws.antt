@@ -12,31 +12,32 @@ use Rattle.multigraph.specs.Regular.{Same-ends}
 use Rattle.evening.specs.Contract.{Has-ends}
 use Rattle.evening.specs.Ends.{Says}
 use Rattle.evening.specs.DiagonalPlaces.{place-of, On-diagonal, Looks, Looked-at, Diag-ready, Looked}
+use Rattle.evening.specs.declared.Bases.{Bases}
 
 -- what one look does, by what it has read
-module _ (n left right ends diag b e : ℕ) (s : List ℕ) (x y i : ℕ) (ex : x ≡ word s (ends + 2 * e)) (ey : y ≡ word s (ends + 2 * e + 1))
+module _ (n : ℕ) (at : Bases) (diag b e : ℕ) (s : List ℕ) (x y i : ℕ) (ex : x ≡ word s (at .ends + 2 * e)) (ey : y ≡ word s (at .ends + 2 * e + 1))
     (ei : i ≡ word s (b + x)) where
-  place-is : i ≡ place-of ends b e s
+  place-is : i ≡ place-of (at .ends) b e s
   place-is = rw ex at ei
 
-  pub look-none : n ≤ i → Looked-at n left right ends diag b e s s
+  pub look-none : n ≤ i → Looked-at n at diag b e s s
   look-none a = inr (λ q. omega (arith, place-is, q .0), refl)
 
-  module _ (inside : i < n) (l r q : ℕ) (el : l ≡ word s (left + i)) (er : r ≡ word s (right + i)) (says : Says q (Same-ends l r x y)) where
-    same-is : Says q (Has-ends s ends e (word s (left + place-of ends b e s)) (word s (right + place-of ends b e s)))
+  module _ (inside : i < n) (l r q : ℕ) (el : l ≡ word s (at .left + i)) (er : r ≡ word s (at .right + i)) (says : Says q (Same-ends l r x y)) where
+    same-is : Says q (Has-ends s (at .ends) e (word s (at .left + place-of (at .ends) b e s)) (word s (at .right + place-of (at .ends) b e s)))
     same-is = rw (el, er, place-is, ex, ey) at says
 
-    pub look-other : q ≡ 0 → Looked-at n left right ends diag b e s s
+    pub look-other : q ≡ 0 → Looked-at n at diag b e s s
     look-other z = inr (λ p. ⊎-elim (λ k. omega (arith, k .1)) (λ k. k .0 (p .1)) same-is, refl)
 
-    pub look-hit : (t : List ℕ) → (q ≡ 0 → ⊥) → t ≡ put-word s (diag + i) e → Looked-at n left right ends diag b e s t
+    pub look-hit : (t : List ℕ) → (q ≡ 0 → ⊥) → t ≡ put-word s (diag + i) e → Looked-at n at diag b e s t
     look-hit t z w =
         ⊎-elim
         (λ k. inl ((omega (arith, place-is), k .0), rw place-is at w))
         (λ k. absurd (z (k .1))) same-is
 
-module _ (n left right ends diag b m : ℕ) (s : List ℕ) (h : Diag-ready n left right ends diag b m s) where
-  pub looked-none : Looked n left right ends diag m 0 s s
+module _ (n : ℕ) (at : Bases) (diag b m : ℕ) (s : List ℕ) (h : Diag-ready n at diag b m s) where
+  pub looked-none : Looked n at diag m 0 s s
   looked-none =
       record {
         numbers = λ i a. inr (h .numbers i a, λ e k q. omega arith);
@@ -46,7 +47,7 @@ module _ (n left right ends diag b m : ℕ) (s : List ℕ) (h : Diag-ready n lef
       }
 
   -- the next pair can be looked at
-  pub looks : (k : ℕ) (t : List ℕ) → k < m → length t ≡ length s → Looks n left right ends diag k t
+  pub looks : (k : ℕ) (t : List ℕ) → k < m → length t ≡ length s → Looks n at diag k t
   looks k t inside len =
       let low : diag + n ≤ length t = omega (arith, h .after-diag, h .after-ends, h .room) in
       record {
@@ -56,65 +57,65 @@ module _ (n left right ends diag b m : ℕ) (s : List ℕ) (h : Diag-ready n lef
         numbers = low;
       }
 
-  module _ (k : ℕ) (t v : List ℕ) (inside : k < m) (x : Looked n left right ends diag m k s t) (w : Looked-at n left right ends diag b k t v) where
+  module _ (k : ℕ) (t v : List ℕ) (inside : k < m) (x : Looked n at diag m k s t) (w : Looked-at n at diag b k t v) where
     abbrev first : ℕ
-    first = word s (ends + 2 * k)
+    first = word s (at .ends + 2 * k)
 
-    first-is : word t (ends + 2 * k) ≡ first
-    first-is = x .over (ends + 2 * k) (omega (arith, h .after-diag))
+    first-is : word t (at .ends + 2 * k) ≡ first
+    first-is = x .over (at .ends + 2 * k) (omega (arith, h .after-diag))
 
-    second-is : word t (ends + 2 * k + 1) ≡ word s (ends + 2 * k + 1)
-    second-is = x .over (ends + 2 * k + 1) (omega (arith, h .after-diag))
+    second-is : word t (at .ends + 2 * k + 1) ≡ word s (at .ends + 2 * k + 1)
+    second-is = x .over (at .ends + 2 * k + 1) (omega (arith, h .after-diag))
 
     high : (i : ℕ) → b ≤ i → word t i ≡ word s i
     high i a = x .over i (omega (arith, h .after-diag, h .after-ends))
 
-    left-same : (i : ℕ) → i < n → word t (left + i) ≡ word s (left + i)
-    left-same i a = x .under (left + i) (omega (arith, h .after-left))
+    left-same : (i : ℕ) → i < n → word t (at .left + i) ≡ word s (at .left + i)
+    left-same i a = x .under (at .left + i) (omega (arith, h .after-left))
 
-    right-same : (i : ℕ) → i < n → word t (right + i) ≡ word s (right + i)
-    right-same i a = x .under (right + i) (omega (arith, h .after-right))
+    right-same : (i : ℕ) → i < n → word t (at .right + i) ≡ word s (at .right + i)
+    right-same i a = x .under (at .right + i) (omega (arith, h .after-right))
 
-    place-same : place-of ends b k t ≡ word s (b + first)
+    place-same : place-of (at .ends) b k t ≡ word s (b + first)
     place-same = ap (λ z. word t (b + z)) first-is ∙ high (b + first) (omega arith)
 
     -- the place whose parties are the ends of pair k is the one that was looked up
     place-found :
-        (i : ℕ) → i < n → Has-ends s ends k (word s (left + i)) (word s (right + i)) → place-of ends b k t ≡ i
+        (i : ℕ) → i < n → Has-ends s (at .ends) k (word s (at .left + i)) (word s (at .right + i)) → place-of (at .ends) b k t ≡ i
     place-found i a q =
         place-same
         ∙ ⊎-elim (λ z. ap (λ c. word s (b + c)) (z .0) ∙ h .left-place i a) (λ z. ap (λ c. word s (b + c)) (z .0) ∙ h .right-place i a) q
 
     ends-same :
-        (i : ℕ) → i < n → Has-ends t ends k (word t (left + i)) (word t (right + i)) →
-        Has-ends s ends k (word s (left + i)) (word s (right + i))
+        (i : ℕ) → i < n → Has-ends t (at .ends) k (word t (at .left + i)) (word t (at .right + i)) →
+        Has-ends s (at .ends) k (word s (at .left + i)) (word s (at .right + i))
     ends-same i a q = rw (left-same i a, right-same i a, first-is, second-is) at q
 
     ends-back :
-        (i : ℕ) → i < n → Has-ends s ends k (word s (left + i)) (word s (right + i)) →
-        Has-ends t ends k (word t (left + i)) (word t (right + i))
+        (i : ℕ) → i < n → Has-ends s (at .ends) k (word s (at .left + i)) (word s (at .right + i)) →
+        Has-ends t (at .ends) k (word t (at .left + i)) (word t (at .right + i))
     ends-back i a q = rw (left-same i a, right-same i a, first-is, second-is) q
 
-    on-place : (i : ℕ) → i < n → Has-ends s ends k (word s (left + i)) (word s (right + i)) → On-diagonal n left right ends b k t
+    on-place : (i : ℕ) → i < n → Has-ends s (at .ends) k (word s (at .left + i)) (word s (at .right + i)) → On-diagonal n at b k t
     on-place i a q =
-        let e : place-of ends b k t ≡ i = place-found i a q in
+        let e : place-of (at .ends) b k t ≡ i = place-found i a q in
         (omega (arith, e), rw e (ends-back i a q))
 
     abbrev Numbered : ℕ → ℕ → Type 0
     Numbered c i =
-        ((c < k + 1) × Has-ends s ends c (word s (left + i)) (word s (right + i)))
-        ⊎ ((c ≡ m + i) × ((e : ℕ) → e < k + 1 → Has-ends s ends e (word s (left + i)) (word s (right + i)) → ⊥))
+        ((c < k + 1) × Has-ends s (at .ends) c (word s (at .left + i)) (word s (at .right + i)))
+        ⊎ ((c ≡ m + i) × ((e : ℕ) → e < k + 1 → Has-ends s (at .ends) e (word s (at .left + i)) (word s (at .right + i)) → ⊥))
 
     -- a place whose parties are not the ends of pair k
     number-kept :
-        (i : ℕ) → i < n → (Has-ends s ends k (word s (left + i)) (word s (right + i)) → ⊥) → Numbered (word t (diag + i)) i
+        (i : ℕ) → i < n → (Has-ends s (at .ends) k (word s (at .left + i)) (word s (at .right + i)) → ⊥) → Numbered (word t (diag + i)) i
     number-kept i a none =
         ⊎-elim
         (λ y. inl (omega (arith, y .0), y .1))
         (λ y. inr (y .0, λ e c q. elim (ℕ-discrete e k) [ yes z ↦ none (rw z at q) | no z ↦ y .1 e (omega arith) q ]))
         (x .numbers i a)
 
-    looked-hit : On-diagonal n left right ends b k t → v ≡ put-word t (diag + place-of ends b k t) k → Looked n left right ends diag m (k + 1) s v
+    looked-hit : On-diagonal n at b k t → v ≡ put-word t (diag + place-of (at .ends) b k t) k → Looked n at diag m (k + 1) s v
     looked-hit on e =
         record {
           numbers = numbers';
@@ -124,7 +125,7 @@ module _ (n left right ends diag b m : ℕ) (s : List ℕ) (h : Diag-ready n lef
         }
       where
         p : ℕ
-        p = place-of ends b k t
+        p = place-of (at .ends) b k t
 
         other : (i : ℕ) → (i ≡ diag + p → ⊥) → word v i ≡ word t i
         other i q = rw e (away t (diag + p) i k q)
@@ -142,7 +143,7 @@ module _ (n left right ends diag b m : ℕ) (s : List ℕ) (h : Diag-ready n lef
               | no q ↦ rw (other (diag + i) (λ z. q (omega arith))) (number-kept i a (λ z. q (sym (place-found i a z))))
             ]
 
-    looked-miss : (On-diagonal n left right ends b k t → ⊥) → v ≡ t → Looked n left right ends diag m (k + 1) s v
+    looked-miss : (On-diagonal n at b k t → ⊥) → v ≡ t → Looked n at diag m (k + 1) s v
     looked-miss none e =
         rw e
         (record {
@@ -152,5 +153,5 @@ module _ (n left right ends diag b m : ℕ) (s : List ℕ) (h : Diag-ready n lef
           over = x .over;
         })
 
-    pub looked-more : Looked n left right ends diag m (k + 1) s v
+    pub looked-more : Looked n at diag m (k + 1) s v
     looked-more = ⊎-elim (λ z. looked-hit (z .0) (z .1)) (λ z. looked-miss (z .0) (z .1)) w

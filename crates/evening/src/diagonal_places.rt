@@ -14,7 +14,7 @@ use words::word_at;
 fn begin_place(s: &mut [u32], at: Bases, diag: usize, b: usize, m: usize, i: usize)
     requires { ⌜ (at .left < 4294967296) × (at .right < 4294967296) × (at .ends < 4294967296) ⌝ }
     requires { ⌜ (diag < 4294967296) × (b < 4294967296) × (m < 4294967296) × (i < 4294967296) ⌝ }
-    requires { ⌜ Begins (at .left) (at .right) (at .ends) diag b m i (now s) ⌝ }
+    requires { ⌜ Begins at diag b m i (now s) ⌝ }
     ensures { λ x. ⌜ now (s .exit) ≡ begun (at .ends) diag b m i (word (now (s .entry)) (at .left + i)) (word (now (s .entry)) (at .right + i)) (now (s .entry)) ⌝ }
 {
     let l = word_at(s, at.left + i);
@@ -28,8 +28,8 @@ fn begin_place(s: &mut [u32], at: Bases, diag: usize, b: usize, m: usize, i: usi
 
 // All places.
 fn begin_places(s: &mut [u32], at: Bases, diag: usize, b: usize, m: usize, n: usize)
-    requires { ⌜ Diag-fit n (at .left) (at .right) (at .ends) diag b m (now s) ⌝ }
-    ensures { λ x. ⌜ Begun n (at .left) (at .right) (at .ends) diag b m n (now (s .entry)) (now (s .exit)) ⌝ }
+    requires { ⌜ Diag-fit n at diag b m (now s) ⌝ }
+    ensures { λ x. ⌜ Begun n at diag b m n (now (s .entry)) (now (s .exit)) ⌝ }
 {
     let mut i = 0;
     while i < n {
@@ -43,8 +43,8 @@ fn begin_places(s: &mut [u32], at: Bases, diag: usize, b: usize, m: usize, n: us
 fn look_at(s: &mut [u32], at: Bases, diag: usize, b: usize, n: usize, e: usize)
     requires { ⌜ (at .left < 4294967296) × (at .right < 4294967296) × (at .ends < 4294967296) ⌝ }
     requires { ⌜ (diag < 4294967296) × (b < 4294967296) × (e < 4294967296) ⌝ }
-    requires { ⌜ Looks n (at .left) (at .right) (at .ends) diag e (now s) ⌝ }
-    ensures { λ x. ⌜ Looked-at n (at .left) (at .right) (at .ends) diag b e (now (s .entry)) (now (s .exit)) ⌝ }
+    requires { ⌜ Looks n at diag e (now s) ⌝ }
+    ensures { λ x. ⌜ Looked-at n at diag b e (now (s .entry)) (now (s .exit)) ⌝ }
 {
     let x = word_at(s, at.ends + 2 * e);
     let y = word_at(s, at.ends + 2 * e + 1);
@@ -63,8 +63,8 @@ fn look_at(s: &mut [u32], at: Bases, diag: usize, b: usize, n: usize, e: usize)
 
 // All pairs, of which there are `m`.
 fn look_at_pairs(s: &mut [u32], at: Bases, diag: usize, b: usize, n: usize, m: usize)
-    requires { ⌜ Diag-ready n (at .left) (at .right) (at .ends) diag b m (now s) ⌝ }
-    ensures { λ x. ⌜ Looked n (at .left) (at .right) (at .ends) diag m m (now (s .entry)) (now (s .exit)) ⌝ }
+    requires { ⌜ Diag-ready n at diag b m (now s) ⌝ }
+    ensures { λ x. ⌜ Looked n at diag m m (now (s .entry)) (now (s .exit)) ⌝ }
 {
     let mut e = 0;
     while e < m {

@@ -12,7 +12,7 @@ use Rattle.evening.proofs.BeginLaws.{begun-none, begins, begun-more}
 
 abbrev Inv-loop : tie.InvT-loop
 Inv-loop s₀ at diag b m n i₀ s i =
-    (i ≤ n) × (length s ≡ length s₀) × (Diag-fit n (at .left) (at .right) (at .ends) diag b m s₀ → Begun n (at .left) (at .right) (at .ends) diag b m i s₀ s)
+    (i ≤ n) × (length s ≡ length s₀) × (Diag-fit n at diag b m s₀ → Begun n at diag b m i s₀ s)
 
 abbrev μ-loop : tie.MeasureT-loop
 μ-loop s₀ at diag b m n i₀ s i = n - i
@@ -20,7 +20,7 @@ abbrev μ-loop : tie.MeasureT-loop
 loop-holds : tie.Need-loop-holds Inv-loop μ-loop
 loop-holds c =
     let a = c .before .args in
-    (omega arith, refl, λ h. begun-none (a .n) (a .at .left) (a .at .right) (a .at .ends) (a .diag) (a .b) (a .m) (a .s .now) h)
+    (omega arith, refl, λ h. begun-none (a .n) (a .at) (a .diag) (a .b) (a .m) (a .s .now) h)
 
 begin-place-requires : tie.Need-begin-place-requires Inv-loop μ-loop
 begin-place-requires c κs =
@@ -31,7 +31,7 @@ begin-place-requires c κs =
       (omega (arith, h .after-left, h .after-diag), omega (arith, h .after-right, h .after-diag), omega arith),
       (
         (omega (arith, h .after-diag), omega (arith, h .low), omega arith, omega arith),
-        begins (a .n) (a .at .left) (a .at .right) (a .at .ends) (a .diag) (a .b) (a .m) (a .s .now) h (lp .i) (lp .s) (omega arith) (lp .inv .2 h),
+        begins (a .n) (a .at) (a .diag) (a .b) (a .m) (a .s .now) h (lp .i) (lp .s) (omega arith) (lp .inv .2 h),
       ),
     )
 
@@ -39,7 +39,7 @@ loop-again : tie.Need-loop-again Inv-loop μ-loop
 loop-again c =
     let a = c .before .before .before .before .before .before .before .args in
     let lp = c .before .before .before .before .before .loop in
-    (search needs, search needs, λ h. begun-more (a .n) (a .at .left) (a .at .right) (a .at .ends) (a .diag) (a .b) (a .m) (a .s .now) h (lp .i) (lp .s) (c .before .before .begin-place .last .0) (omega arith) (lp .inv .2 h) (c .before .before .begin-place .ensures))
+    (search needs, search needs, λ h. begun-more (a .n) (a .at) (a .diag) (a .b) (a .m) (a .s .now) h (lp .i) (lp .s) (c .before .before .begin-place .last .0) (omega arith) (lp .inv .2 h) (c .before .before .begin-place .ensures))
 
 returns : tie.Need-returns Inv-loop μ-loop
 returns c =

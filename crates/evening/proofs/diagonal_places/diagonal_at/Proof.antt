@@ -15,23 +15,23 @@ use Rattle.evening.proofs.BeginLaws.{diag-ready}
 begin-places-requires : tie.Need-begin-places-requires
 begin-places-requires c κs =
     let a = c .before .before .before .before .before .args in
-    rw (c .before .get .ensures .0) (diag-fit (a .n) (a .at .left) (a .at .right) (a .at .ends) (a .at .g) (a .diag) (a .u) (a .s .now) (c .before .before .before .before .before .pre))
+    rw (c .before .get .ensures .0) (diag-fit (a .n) (a .at) (a .diag) (a .u) (a .s .now) (c .before .before .before .before .before .pre))
 
 look-at-pairs-requires : tie.Need-look-at-pairs-requires
 look-at-pairs-requires c κs =
     let a = c .before .before .before .before .before .before .before .before .before .args in
     let e = c .before .before .before .before .before .get .ensures .0 in
-    let fit = diag-fit (a .n) (a .at .left) (a .at .right) (a .at .ends) (a .at .g) (a .diag) (a .u) (a .s .now) (c .before .before .before .before .before .before .before .before .before .pre) in
-    let x : Begun (a .n) (a .at .left) (a .at .right) (a .at .ends) (a .diag) (a .u) (size (a .s .now) (a .at .g)) (a .n) (a .s .now) (c .before .before .before .begin-places .last .0) = rw e at (c .before .before .before .begin-places .ensures) in
-    rw e (diag-ready (a .n) (a .at .left) (a .at .right) (a .at .ends) (a .diag) (a .u) (size (a .s .now) (a .at .g)) (a .s .now) fit (c .before .before .before .begin-places .last .0) x)
+    let fit = diag-fit (a .n) (a .at) (a .diag) (a .u) (a .s .now) (c .before .before .before .before .before .before .before .before .before .pre) in
+    let x : Begun (a .n) (a .at) (a .diag) (a .u) (size (a .s .now) (a .at .g)) (a .n) (a .s .now) (c .before .before .before .begin-places .last .0) = rw e at (c .before .before .before .begin-places .ensures) in
+    rw e (diag-ready (a .n) (a .at) (a .diag) (a .u) (size (a .s .now) (a .at .g)) (a .s .now) fit (c .before .before .before .begin-places .last .0) x)
 
 returns : tie.Need-returns
 returns c =
     let a = c .before .before .before .before .before .before .before .before .before .before .before .before .args in
     let e = c .before .before .before .before .before .before .before .before .get .ensures .0 in
-    let x : Begun (a .n) (a .at .left) (a .at .right) (a .at .ends) (a .diag) (a .u) (size (a .s .now) (a .at .g)) (a .n) (a .s .now) (c .before .before .before .before .before .before .begin-places .last .0) = rw e at (c .before .before .before .before .before .before .begin-places .ensures) in
-    let y : Looked (a .n) (a .at .left) (a .at .right) (a .at .ends) (a .diag) (size (a .s .now) (a .at .g)) (size (a .s .now) (a .at .g)) (c .before .before .before .before .before .before .begin-places .last .0) (c .before .before .look-at-pairs .last .0) = rw e at (c .before .before .look-at-pairs .ensures) in
-    diagonal-set (a .n) (a .at .left) (a .at .right) (a .at .ends) (a .at .g) (a .diag) (a .u) (a .s .now) (c .before .before .before .before .before .before .before .before .before .before .before .before .pre) (c .before .before .before .before .before .before .begin-places .last .0) (c .before .before .look-at-pairs .last .0) x y
+    let x : Begun (a .n) (a .at) (a .diag) (a .u) (size (a .s .now) (a .at .g)) (a .n) (a .s .now) (c .before .before .before .before .before .before .begin-places .last .0) = rw e at (c .before .before .before .before .before .before .begin-places .ensures) in
+    let y : Looked (a .n) (a .at) (a .diag) (size (a .s .now) (a .at .g)) (size (a .s .now) (a .at .g)) (c .before .before .before .before .before .before .begin-places .last .0) (c .before .before .look-at-pairs .last .0) = rw e at (c .before .before .look-at-pairs .ensures) in
+    diagonal-set (a .n) (a .at) (a .diag) (a .u) (a .s .now) (c .before .before .before .before .before .before .before .before .before .before .before .before .pre) (c .before .before .before .before .before .before .begin-places .last .0) (c .before .before .look-at-pairs .last .0) x y
 
 pub diagonal-at-spec : {M : Type 1} → statement M
 diagonal-at-spec =

@@ -12,7 +12,7 @@ use Rattle.evening.proofs.LookLaws.{looked-none, looks, looked-more}
 
 abbrev Inv-loop : tie.InvT-loop
 Inv-loop s₀ at diag b n m e₀ s e =
-    (e ≤ m) × (length s ≡ length s₀) × (Diag-ready n (at .left) (at .right) (at .ends) diag b m s₀ → Looked n (at .left) (at .right) (at .ends) diag m e s₀ s)
+    (e ≤ m) × (length s ≡ length s₀) × (Diag-ready n at diag b m s₀ → Looked n at diag m e s₀ s)
 
 abbrev μ-loop : tie.MeasureT-loop
 μ-loop s₀ at diag b n m e₀ s e = m - e
@@ -20,7 +20,7 @@ abbrev μ-loop : tie.MeasureT-loop
 loop-holds : tie.Need-loop-holds Inv-loop μ-loop
 loop-holds c =
     let a = c .before .args in
-    (omega arith, refl, λ h. looked-none (a .n) (a .at .left) (a .at .right) (a .at .ends) (a .diag) (a .b) (a .m) (a .s .now) h)
+    (omega arith, refl, λ h. looked-none (a .n) (a .at) (a .diag) (a .b) (a .m) (a .s .now) h)
 
 look-at-requires : tie.Need-look-at-requires Inv-loop μ-loop
 look-at-requires c κs =
@@ -31,7 +31,7 @@ look-at-requires c κs =
       (omega (arith, h .after-left, h .after-diag), omega (arith, h .after-right, h .after-diag), omega arith),
       (
         (omega (arith, h .after-diag), omega (arith, h .low), omega arith),
-        looks (a .n) (a .at .left) (a .at .right) (a .at .ends) (a .diag) (a .b) (a .m) (a .s .now) h (lp .e) (lp .s) (omega arith) (lp .inv .1),
+        looks (a .n) (a .at) (a .diag) (a .b) (a .m) (a .s .now) h (lp .e) (lp .s) (omega arith) (lp .inv .1),
       ),
     )
 
@@ -39,7 +39,7 @@ loop-again : tie.Need-loop-again Inv-loop μ-loop
 loop-again c =
     let a = c .before .before .before .before .before .before .before .args in
     let lp = c .before .before .before .before .before .loop in
-    (search needs, search needs, λ h. looked-more (a .n) (a .at .left) (a .at .right) (a .at .ends) (a .diag) (a .b) (a .m) (a .s .now) h (lp .e) (lp .s) (c .before .before .look-at .last .0) (omega arith) (lp .inv .2 h) (c .before .before .look-at .ensures))
+    (search needs, search needs, λ h. looked-more (a .n) (a .at) (a .diag) (a .b) (a .m) (a .s .now) h (lp .e) (lp .s) (c .before .before .look-at .last .0) (omega arith) (lp .inv .2 h) (c .before .before .look-at .ensures))
 
 returns : tie.Need-returns Inv-loop μ-loop
 returns c =
