@@ -7,10 +7,12 @@ use mathlib.Core.Logic.{inl, inr, ⊎-elim}
 use native.Mathlib.Omega.{arith}
 use Rattle.words.specs.Words.{word}
 use Rattle.multigraph.specs.Places.{size}
-use Rattle.evening.specs.Contract.{Has-ends, Can-diagonal, Diagonal-set}
+use Rattle.evening.specs.Contract.{Can-diagonal, Diagonal-set}
 use Rattle.evening.specs.DiagonalPlaces.{Diag-fit, Begun, Looked}
 use Rattle.two_color.proofs.Regions.{region-all, region-once}
 use Rattle.evening.proofs.BeginLaws.{left-same, right-same}
+use Rattle.evening.proofs.TableLaws.{Table-same}
+use Rattle.evening.proofs.LookLaws.{at-place-old, at-place-new}
 use Rattle.evening.specs.declared.Bases.{Bases}
 
 module _ (n : ℕ) (at : Bases) (diag u : ℕ) (s : List ℕ)
@@ -34,12 +36,15 @@ module _ (n : ℕ) (at : Bases) (diag u : ℕ) (s : List ℕ)
         apart = λ i j a b e. omega (arith, left-of i a .1, right-of j b .1, ap (h .side) e);
         left-below = λ i a. left-of i a .0;
         right-below = λ i a. right-of i a .0;
-        after-left = h .after-left;
-        after-right = h .after-right;
-        after-diag = h .after-diag;
-        after-ends = h .after-ends;
-        room = h .room;
-        low = h .low;
+        lies =
+            record {
+              after-left = h .after-left;
+              after-right = h .after-right;
+              after-diag = h .after-diag;
+              after-ends = h .after-ends;
+              room = h .room;
+              low = h .low;
+            };
       }
 
 module _ (n : ℕ) (at : Bases) (diag u : ℕ) (s : List ℕ)
@@ -54,8 +59,8 @@ module _ (n : ℕ) (at : Bases) (diag u : ℕ) (s : List ℕ)
         numbers =
             λ i a.
             ⊎-elim
-            (λ z. inl (z .0, back (word v (diag + i)) i (z .0) a (z .1)))
-            (λ z. inr (z .0, λ e k q. z .1 e k (forth e i k a q)))
+            (λ z. inl (z .0, at-place-old n (size s (at .g)) at s t table lefts rights (word v (diag + i)) i (z .0) a (z .1)))
+            (λ z. inr (z .0, λ e k q. z .1 e k (at-place-new n (size s (at .g)) at s t table lefts rights e i k a q)))
             (y .numbers i a);
         mark = refl;
         changes =
@@ -77,20 +82,5 @@ module _ (n : ℕ) (at : Bases) (diag u : ℕ) (s : List ℕ)
       rights : (i : ℕ) → i < n → word t (at .right + i) ≡ word s (at .right + i)
       rights = right-same n at diag u (size s (at .g)) s fit n t x
 
-      first-same : (e : ℕ) → e < size s (at .g) → word t (at .ends + 2 * e) ≡ word s (at .ends + 2 * e)
-      first-same e a =
-          x .changes (at .ends + 2 * e + 1) .after-first (at .ends + 2 * e) (omega arith) (omega (arith, h .after-diag)) (omega arith)
-
-      second-same : (e : ℕ) → e < size s (at .g) → word t (at .ends + 2 * e + 1) ≡ word s (at .ends + 2 * e + 1)
-      second-same e a =
-          x .changes (at .ends + 2 * e + 2) .after-first (at .ends + 2 * e + 1) (omega arith) (omega (arith, h .after-diag)) (omega arith)
-
-      back :
-          (e i : ℕ) → e < size s (at .g) → i < n → Has-ends t (at .ends) e (word t (at .left + i)) (word t (at .right + i)) →
-          Has-ends s (at .ends) e (word s (at .left + i)) (word s (at .right + i))
-      back e i k a q = rw (lefts i a, rights i a, first-same e k, second-same e k) at q
-
-      forth :
-          (e i : ℕ) → e < size s (at .g) → i < n → Has-ends s (at .ends) e (word s (at .left + i)) (word s (at .right + i)) →
-          Has-ends t (at .ends) e (word t (at .left + i)) (word t (at .right + i))
-      forth e i k a q = rw (lefts i a, rights i a, first-same e k, second-same e k) q
+      table : Table-same (at .ends) (size s (at .g)) s t
+      table i a b = x .changes (i + 1) .after-first i (omega arith) (omega (arith, h .after-diag)) (omega arith)

@@ -1,3 +1,5 @@
+pub mod Puts
+pub mod TableLaws
 pub mod Pairs
 pub mod Padding
 pub mod Shortfalls

@@ -9,10 +9,25 @@ use lib.ListN.{length}
 use Rattle.words.specs.Words.{word, put-word}
 use Rattle.words.proofs.Frames.{here, away, length-put}
 use Rattle.multigraph.specs.Regular.{Same-ends}
-use Rattle.evening.specs.Contract.{Has-ends}
 use Rattle.evening.specs.Ends.{Says}
-use Rattle.evening.specs.DiagonalPlaces.{place-of, On-diagonal, Looks, Looked-at, Diag-ready, Looked}
+use Rattle.evening.specs.DiagonalPlaces.{place-of, At-place, On-diagonal, Looks, Looked-at, Diag-ready, Looked}
 use Rattle.evening.specs.declared.Bases.{Bases}
+use Rattle.evening.proofs.TableLaws.{Table-same, first-same, has-ends-old, has-ends-new}
+
+-- ── where the table and the sides are the same ──
+
+module _ (n k : ℕ) (at : Bases) (s t : List ℕ) (table : Table-same (at .ends) k s t)
+    (lefts : (i : ℕ) → i < n → word t (at .left + i) ≡ word s (at .left + i))
+    (rights : (i : ℕ) → i < n → word t (at .right + i) ≡ word s (at .right + i)) where
+  pub at-place-old : (e i : ℕ) → e < k → i < n → At-place at t e i → At-place at s e i
+  at-place-old e i a b x =
+      rw (lefts i b, rights i b) at (has-ends-old (at .ends) k s t table e (word t (at .left + i)) (word t (at .right + i)) a x)
+
+  pub at-place-new : (e i : ℕ) → e < k → i < n → At-place at s e i → At-place at t e i
+  at-place-new e i a b x =
+      rw (lefts i b, rights i b) (has-ends-new (at .ends) k s t table e (word s (at .left + i)) (word s (at .right + i)) a x)
+
+-- ── one pair ──
 
 -- what one look does, by what it has read
 module _ (n : ℕ) (at : Bases) (diag b e : ℕ) (s : List ℕ) (x y i : ℕ) (ex : x ≡ word s (at .ends + 2 * e)) (ey : y ≡ word s (at .ends + 2 * e + 1))
@@ -24,7 +39,7 @@ module _ (n : ℕ) (at : Bases) (diag b e : ℕ) (s : List ℕ) (x y i : ℕ) (e
   look-none a = inr (λ q. omega (arith, place-is, q .0), refl)
 
   module _ (inside : i < n) (l r q : ℕ) (el : l ≡ word s (at .left + i)) (er : r ≡ word s (at .right + i)) (says : Says q (Same-ends l r x y)) where
-    same-is : Says q (Has-ends s (at .ends) e (word s (at .left + place-of (at .ends) b e s)) (word s (at .right + place-of (at .ends) b e s)))
+    same-is : Says q (At-place at s e (place-of (at .ends) b e s))
     same-is = rw (el, er, place-is, ex, ey) at says
 
     pub look-other : q ≡ 0 → Looked-at n at diag b e s s
@@ -49,11 +64,11 @@ module _ (n : ℕ) (at : Bases) (diag b m : ℕ) (s : List ℕ) (h : Diag-ready 
   -- the next pair can be looked at
   pub looks : (k : ℕ) (t : List ℕ) → k < m → length t ≡ length s → Looks n at diag k t
   looks k t inside len =
-      let low : diag + n ≤ length t = omega (arith, h .after-diag, h .after-ends, h .room) in
+      let low : diag + n ≤ length t = omega (arith, h .lies .after-diag, h .lies .after-ends, h .lies .room) in
       record {
-        row = omega (arith, h .after-ends, h .room);
-        lefts = omega (arith, h .after-left);
-        rights = omega (arith, h .after-right);
+        row = omega (arith, h .lies .after-ends, h .lies .room);
+        lefts = omega (arith, h .lies .after-left);
+        rights = omega (arith, h .lies .after-right);
         numbers = low;
       }
 
@@ -61,54 +76,41 @@ module _ (n : ℕ) (at : Bases) (diag b m : ℕ) (s : List ℕ) (h : Diag-ready 
     abbrev first : ℕ
     first = word s (at .ends + 2 * k)
 
-    first-is : word t (at .ends + 2 * k) ≡ first
-    first-is = x .over (at .ends + 2 * k) (omega (arith, h .after-diag))
-
-    second-is : word t (at .ends + 2 * k + 1) ≡ word s (at .ends + 2 * k + 1)
-    second-is = x .over (at .ends + 2 * k + 1) (omega (arith, h .after-diag))
+    table : Table-same (at .ends) m s t
+    table i a b = x .over i (omega (arith, h .lies .after-diag))
 
     high : (i : ℕ) → b ≤ i → word t i ≡ word s i
-    high i a = x .over i (omega (arith, h .after-diag, h .after-ends))
+    high i a = x .over i (omega (arith, h .lies .after-diag, h .lies .after-ends))
 
     left-same : (i : ℕ) → i < n → word t (at .left + i) ≡ word s (at .left + i)
-    left-same i a = x .under (at .left + i) (omega (arith, h .after-left))
+    left-same i a = x .under (at .left + i) (omega (arith, h .lies .after-left))
 
     right-same : (i : ℕ) → i < n → word t (at .right + i) ≡ word s (at .right + i)
-    right-same i a = x .under (at .right + i) (omega (arith, h .after-right))
+    right-same i a = x .under (at .right + i) (omega (arith, h .lies .after-right))
 
     place-same : place-of (at .ends) b k t ≡ word s (b + first)
-    place-same = ap (λ z. word t (b + z)) first-is ∙ high (b + first) (omega arith)
+    place-same = ap (λ z. word t (b + z)) (first-same (at .ends) m s t table k inside) ∙ high (b + first) (omega arith)
 
     -- the place whose parties are the ends of pair k is the one that was looked up
     place-found :
-        (i : ℕ) → i < n → Has-ends s (at .ends) k (word s (at .left + i)) (word s (at .right + i)) → place-of (at .ends) b k t ≡ i
+        (i : ℕ) → i < n → At-place at s k i → place-of (at .ends) b k t ≡ i
     place-found i a q =
         place-same
         ∙ ⊎-elim (λ z. ap (λ c. word s (b + c)) (z .0) ∙ h .left-place i a) (λ z. ap (λ c. word s (b + c)) (z .0) ∙ h .right-place i a) q
 
-    ends-same :
-        (i : ℕ) → i < n → Has-ends t (at .ends) k (word t (at .left + i)) (word t (at .right + i)) →
-        Has-ends s (at .ends) k (word s (at .left + i)) (word s (at .right + i))
-    ends-same i a q = rw (left-same i a, right-same i a, first-is, second-is) at q
-
-    ends-back :
-        (i : ℕ) → i < n → Has-ends s (at .ends) k (word s (at .left + i)) (word s (at .right + i)) →
-        Has-ends t (at .ends) k (word t (at .left + i)) (word t (at .right + i))
-    ends-back i a q = rw (left-same i a, right-same i a, first-is, second-is) q
-
-    on-place : (i : ℕ) → i < n → Has-ends s (at .ends) k (word s (at .left + i)) (word s (at .right + i)) → On-diagonal n at b k t
+    on-place : (i : ℕ) → i < n → At-place at s k i → On-diagonal n at b k t
     on-place i a q =
         let e : place-of (at .ends) b k t ≡ i = place-found i a q in
-        (omega (arith, e), rw e (ends-back i a q))
+        (omega (arith, e), rw e (at-place-new n m at s t table left-same right-same k i inside a q))
 
     abbrev Numbered : ℕ → ℕ → Type 0
     Numbered c i =
-        ((c < k + 1) × Has-ends s (at .ends) c (word s (at .left + i)) (word s (at .right + i)))
-        ⊎ ((c ≡ m + i) × ((e : ℕ) → e < k + 1 → Has-ends s (at .ends) e (word s (at .left + i)) (word s (at .right + i)) → ⊥))
+        ((c < k + 1) × At-place at s c i)
+        ⊎ ((c ≡ m + i) × ((e : ℕ) → e < k + 1 → At-place at s e i → ⊥))
 
     -- a place whose parties are not the ends of pair k
     number-kept :
-        (i : ℕ) → i < n → (Has-ends s (at .ends) k (word s (at .left + i)) (word s (at .right + i)) → ⊥) → Numbered (word t (diag + i)) i
+        (i : ℕ) → i < n → (At-place at s k i → ⊥) → Numbered (word t (diag + i)) i
     number-kept i a none =
         ⊎-elim
         (λ y. inl (omega (arith, y .0), y .1))
@@ -133,13 +135,13 @@ module _ (n : ℕ) (at : Bases) (diag b m : ℕ) (s : List ℕ) (h : Diag-ready 
         own : word v (diag + p) ≡ k
         own =
             rw e
-            (here t (diag + p) k (omega (arith, on .0, h .after-diag, h .after-ends, h .room, x .len))
-            (omega (arith, h .after-diag, h .after-ends, h .low)))
+            (here t (diag + p) k (omega (arith, on .0, h .lies .after-diag, h .lies .after-ends, h .lies .room, x .len))
+            (omega (arith, h .lies .after-diag, h .lies .after-ends, h .lies .low)))
 
         numbers' : (i : ℕ) → i < n → Numbered (word v (diag + i)) i
         numbers' i a =
             elim (ℕ-discrete i p) [
-              | yes q ↦ rw (q, own) (inl (omega arith, ends-same p (on .0) (on .1)))
+              | yes q ↦ rw (q, own) (inl (omega arith, at-place-old n m at s t table left-same right-same k p inside (on .0) (on .1)))
               | no q ↦ rw (other (diag + i) (λ z. q (omega arith))) (number-kept i a (λ z. q (sym (place-found i a z))))
             ]
 

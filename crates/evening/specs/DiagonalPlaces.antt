@@ -26,6 +26,24 @@ pub record Begins (at : Bases) (diag b m i : ℕ) (s : List ℕ) : Type 0 where
   pub number : diag + i < length s
   pub row : at .ends + 2 * (m + i) + 1 < length s
 
+-- Where things lie, from below: the n parties of each side, the n numbers of the diagonal, the table of ends with n rows more than
+-- there are pairs, which are m, and each party's place.
+pub record Diag-room (n : ℕ) (at : Bases) (diag b m : ℕ) (s : List ℕ) : Type 0 where
+  pub after-left : at .left + n ≤ diag
+  pub after-right : at .right + n ≤ diag
+  pub after-diag : diag + n ≤ at .ends
+  pub after-ends : at .ends + 2 * (m + n) ≤ b
+  pub room : b + (n + n) ≤ length s
+  pub low : b + (n + n) < 4294967296
+
+-- all these places are small numbers
+pub record Diag-small (at : Bases) (diag b : ℕ) : Type 0 where
+  pub left : at .left < 4294967296
+  pub right : at .right < 4294967296
+  pub ends : at .ends < 4294967296
+  pub numbers : diag < 4294967296
+  pub places : b < 4294967296
+
 -- all 2·n parties are different numbers below n + n
 pub record Diag-fit (n : ℕ) (at : Bases) (diag b m : ℕ) (s : List ℕ) : Type 0 where
   pub left-once : (i j : ℕ) → i < n → j < n → word s (at .left + i) ≡ word s (at .left + j) → i ≡ j
@@ -33,12 +51,7 @@ pub record Diag-fit (n : ℕ) (at : Bases) (diag b m : ℕ) (s : List ℕ) : Typ
   pub apart : (i j : ℕ) → i < n → j < n → word s (at .left + i) ≡ word s (at .right + j) → ⊥
   pub left-below : (i : ℕ) → i < n → word s (at .left + i) < n + n
   pub right-below : (i : ℕ) → i < n → word s (at .right + i) < n + n
-  pub after-left : at .left + n ≤ diag
-  pub after-right : at .right + n ≤ diag
-  pub after-diag : diag + n ≤ at .ends
-  pub after-ends : at .ends + 2 * (m + n) ≤ b
-  pub room : b + (n + n) ≤ length s
-  pub low : b + (n + n) < 4294967296
+  pub lies : Diag-room n at diag b m s
 
 -- k places have begun
 pub record Begun (n : ℕ) (at : Bases) (diag b m k : ℕ) (s t : List ℕ) : Type 0 where
@@ -53,11 +66,15 @@ pub record Begun (n : ℕ) (at : Bases) (diag b m k : ℕ) (s t : List ℕ) : Ty
 abbrev pub place-of : ℕ → ℕ → ℕ → List ℕ → ℕ
 place-of ends b e s = word s (b + word s (ends + 2 * e))
 
--- that place's two parties are the ends of pair e
+-- the two parties of place i are the ends of pair e
+abbrev pub At-place : Bases → List ℕ → ℕ → ℕ → Type 0
+At-place at s e i = Has-ends s (at .ends) e (word s (at .left + i)) (word s (at .right + i))
+
+-- the place of its first end has the ends of pair e as parties
 abbrev pub On-diagonal : ℕ → Bases → ℕ → ℕ → List ℕ → Type 0
 On-diagonal n at b e s =
     (place-of (at .ends) b e s < n)
-    × Has-ends s (at .ends) e (word s (at .left + place-of (at .ends) b e s)) (word s (at .right + place-of (at .ends) b e s))
+    × At-place at s e (place-of (at .ends) b e s)
 
 -- pair e has its row, and each place its two parties and its number
 pub record Looks (n : ℕ) (at : Bases) (diag e : ℕ) (s : List ℕ) : Type 0 where
@@ -76,20 +93,15 @@ pub record Diag-ready (n : ℕ) (at : Bases) (diag b m : ℕ) (s : List ℕ) : T
   pub left-place : (i : ℕ) → i < n → word s (b + word s (at .left + i)) ≡ i
   pub right-place : (i : ℕ) → i < n → word s (b + word s (at .right + i)) ≡ i
   pub numbers : (i : ℕ) → i < n → word s (diag + i) ≡ m + i
-  pub after-left : at .left + n ≤ diag
-  pub after-right : at .right + n ≤ diag
-  pub after-diag : diag + n ≤ at .ends
-  pub after-ends : at .ends + 2 * (m + n) ≤ b
-  pub room : b + (n + n) ≤ length s
-  pub low : b + (n + n) < 4294967296
+  pub lies : Diag-room n at diag b m s
 
 -- the first k pairs have been looked at
 pub record Looked (n : ℕ) (at : Bases) (diag m k : ℕ) (s t : List ℕ) : Type 0 where
   pub numbers :
       (i : ℕ) → i < n →
-      ((word t (diag + i) < k) × Has-ends s (at .ends) (word t (diag + i)) (word s (at .left + i)) (word s (at .right + i)))
+      ((word t (diag + i) < k) × At-place at s (word t (diag + i)) i)
       ⊎ ((word t (diag + i) ≡ m + i)
-      × ((e : ℕ) → e < k → Has-ends s (at .ends) e (word s (at .left + i)) (word s (at .right + i)) → ⊥))
+      × ((e : ℕ) → e < k → At-place at s e i → ⊥))
   pub len : length t ≡ length s
   pub under : (i : ℕ) → i < diag → word t i ≡ word s i
   pub over : (i : ℕ) → diag + n ≤ i → word t i ≡ word s i

@@ -8,7 +8,7 @@ use Rattle.evening.specs.DiagonalPlaces.{Diag-fit, Begun}
 use borrow.Author.Needs.{needs}
 use Rattle.evening.proofs.diagonal_places.begin_places.Statement.{statement}
 use Rattle.evening.proofs.diagonal_places.begin_places.Tie as tie
-use Rattle.evening.proofs.BeginLaws.{begun-none, begins, begun-more}
+use Rattle.evening.proofs.BeginLaws.{diag-small, begun-none, begins, begun-more}
 
 abbrev Inv-loop : tie.InvT-loop
 Inv-loop s₀ at diag b m n i₀ s i =
@@ -27,12 +27,10 @@ begin-place-requires c κs =
     let a = c .before .before .before .before .args in
     let h = c .before .before .before .before .pre in
     let lp = c .before .before .loop in
-    let low : a .at .ends + 2 * (a .m + a .n) < 4294967296 = omega (arith, h .after-ends, h .low) in (
-      (omega (arith, h .after-left, h .after-diag), omega (arith, h .after-right, h .after-diag), omega arith),
-      (
-        (omega (arith, h .after-diag), omega (arith, h .low), omega arith, omega arith),
-        begins (a .n) (a .at) (a .diag) (a .b) (a .m) (a .s .now) h (lp .i) (lp .s) (omega arith) (lp .inv .2 h),
-      ),
+    let small = diag-small (a .n) (a .at) (a .diag) (a .b) (a .m) (a .s .now) (h .lies) in
+    (
+      (small, omega (arith, h .lies .after-ends, h .lies .low), omega (arith, h .lies .low)),
+      begins (a .n) (a .at) (a .diag) (a .b) (a .m) (a .s .now) h (lp .i) (lp .s) (omega arith) (lp .inv .2 h),
     )
 
 loop-again : tie.Need-loop-again Inv-loop μ-loop

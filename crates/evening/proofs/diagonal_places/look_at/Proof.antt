@@ -24,10 +24,10 @@ returns-3 c =
     look-hit (a .n) (a .at) (a .diag) (a .b) (a .e) (a .s .now) (c .before .before .before .before .before .before .before .before .before .before .before .before .before .before .before .before .before .before .word-at .result) (c .before .before .before .before .before .before .before .before .before .before .before .before .before .before .before .word-at2 .result) (c .before .before .before .before .before .before .before .before .before .before .before .before .before .get .result) (c .before .before .before .before .before .before .before .before .before .before .before .before .before .before .before .before .before .before .word-at .ensures .0) (c .before .before .before .before .before .before .before .before .before .before .before .before .before .before .before .word-at2 .ensures .0) (c .before .before .before .before .before .before .before .before .before .before .before .before .before .get .ensures .0) (omega arith) (c .before .before .before .before .before .before .before .before .before .word-at3 .result) (c .before .before .before .before .before .before .word-at4 .result) (c .before .before .before .before .before .same-ends .result) (c .before .before .before .before .before .before .before .before .before .word-at3 .ensures .0) (c .before .before .before .before .before .before .word-at4 .ensures .0) (c .before .before .before .before .before .same-ends .ensures) (c .before .before .set-word .last .0) (c .before .before .before .before .if2 .left) (c .before .before .set-word .ensures)
 
 add-set-word : tie.Need-add-set-word
-add-set-word c = omega (arith, c .before .before .before .before .before .before .before .before .before .before .get .ensures .1, c .before .before .before .before .before .before .before .before .before .before .before .before .before .before .before .before .before .before .before .pre .1 .0 .0)
+add-set-word c = omega (arith, c .before .before .before .before .before .before .before .before .before .before .get .ensures .1, c .before .before .before .before .before .before .before .before .before .before .before .before .before .before .before .before .before .before .before .pre .0 .0 .numbers)
 
 set-word-requires : tie.Need-set-word-requires
-set-word-requires c κs = omega (arith, c .before .before .before .before .before .before .before .before .before .if1 .left, c .before .before .before .before .before .before .before .before .before .before .before .before .before .before .before .before .before .before .before .pre .1 .1 .numbers)
+set-word-requires c κs = omega (arith, c .before .before .before .before .before .before .before .before .before .if1 .left, c .before .before .before .before .before .before .before .before .before .before .before .before .before .before .before .before .before .before .before .pre .1 .numbers)
 
 pub look-at-spec : {M : Type 1} → statement M
 look-at-spec =

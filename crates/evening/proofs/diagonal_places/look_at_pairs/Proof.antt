@@ -8,6 +8,7 @@ use Rattle.evening.specs.DiagonalPlaces.{Diag-ready, Looked}
 use borrow.Author.Needs.{needs}
 use Rattle.evening.proofs.diagonal_places.look_at_pairs.Statement.{statement}
 use Rattle.evening.proofs.diagonal_places.look_at_pairs.Tie as tie
+use Rattle.evening.proofs.BeginLaws.{diag-small}
 use Rattle.evening.proofs.LookLaws.{looked-none, looks, looked-more}
 
 abbrev Inv-loop : tie.InvT-loop
@@ -27,12 +28,10 @@ look-at-requires c κs =
     let a = c .before .before .before .before .args in
     let h = c .before .before .before .before .pre in
     let lp = c .before .before .loop in
-    let low : a .at .ends + 2 * (a .m + a .n) < 4294967296 = omega (arith, h .after-ends, h .low) in (
-      (omega (arith, h .after-left, h .after-diag), omega (arith, h .after-right, h .after-diag), omega arith),
-      (
-        (omega (arith, h .after-diag), omega (arith, h .low), omega arith),
-        looks (a .n) (a .at) (a .diag) (a .b) (a .m) (a .s .now) h (lp .e) (lp .s) (omega arith) (lp .inv .1),
-      ),
+    let small = diag-small (a .n) (a .at) (a .diag) (a .b) (a .m) (a .s .now) (h .lies) in
+    (
+      (small, omega (arith, h .lies .after-ends, h .lies .low)),
+      looks (a .n) (a .at) (a .diag) (a .b) (a .m) (a .s .now) h (lp .e) (lp .s) (omega arith) (lp .inv .1),
     )
 
 loop-again : tie.Need-loop-again Inv-loop μ-loop
