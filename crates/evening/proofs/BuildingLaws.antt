@@ -21,7 +21,8 @@ use Rattle.evening.specs.Contract.{first-of, second-of, Has-ends}
 use Rattle.evening.specs.Adding.{Has-place, Pair-fits, Pair-added}
 use Rattle.evening.specs.Representatives.{Rep}
 use Rattle.evening.specs.FromList.{pair-of, Building, Built}
-use Rattle.evening.proofs.PlainLaws.{Graph-kept, graph-kept, has-ends-kept, plain-kept, graph-kept-by}
+use Rattle.evening.proofs.PlainLaws.{Graph-kept, graph-kept, plain-kept, graph-kept-by}
+use Rattle.evening.proofs.TableLaws.{has-ends-new}
 use Rattle.evening.proofs.Listed.{add-appointments-more, copies-few}
 use Rattle.evening.specs.declared.Bases.{Bases}
 
@@ -125,8 +126,8 @@ module _ (list : List ℕ) (at : Bases) (k : ℕ) (s : List ℕ) (h : Building l
 
     old-ends : (f l r : ℕ) → f < size s (at .g) → Has-ends s (at .ends) f l r → Has-ends u (at .ends) f l r
     old-ends f l r a z =
-        has-ends-kept (at .ends) (at .g) t u kept-t f l r (omega (arith, add .grown))
-        (rw (add .changes .under (at .ends + 2 * f) (omega arith), add .changes .under (at .ends + 2 * f + 1) (omega arith)) z)
+        has-ends-new (at .ends) (size t (at .g)) t u (kept-t .table) f l r (omega (arith, add .grown))
+        (has-ends-new (at .ends) (size s (at .g)) s t (λ i lo hi. add .changes .under i (omega arith)) f l r a z)
 
     number-of' : (i : ℕ) → i < k + 1 → word u (at .apair + i) < size u (at .g)
     number-of' i a =
@@ -138,7 +139,7 @@ module _ (list : List ℕ) (at : Bases) (k : ℕ) (s : List ℕ) (h : Building l
     ends-of' : (i : ℕ) → i < k + 1 → Has-ends u (at .ends) (word u (at .apair + i)) (first-of list i) (second-of list i)
     ends-of' i a =
         elim (ℕ-discrete i k) [
-          | yes z ↦ rw (z, u-here) (has-ends-kept (at .ends) (at .g) t u kept-t e x y (add .its-number) (add .its-ends))
+          | yes z ↦ rw (z, u-here) (has-ends-new (at .ends) (size t (at .g)) t u (kept-t .table) e x y (add .its-number) (add .its-ends))
           | no z ↦
               rw (old-pair i z (omega arith))
               (old-ends (word s (at .apair + i)) (first-of list i) (second-of list i) (h .number-of i (omega arith)) (h .ends-of i (omega arith)))

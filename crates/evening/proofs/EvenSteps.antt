@@ -101,32 +101,26 @@ module _ (g : Graph) (l r m : ℕ) (apart : l ≡ r → ⊥) where
   added-else v a b = degree-added v g l r m 0 ∙ rw (is-ne {u = v} {v = l} a, is-ne {u = v} {v = r} b) (omega arith)
 
 module _ (N : ℕ) (side : ℕ → ℕ) (D : ℕ) (start : Graph) where
+  -- fewer parties are still to be filled, where those that are not are full
+  fewer :
+      (g : Graph) (left₀ right₀ left right : List ℕ) → Evens N side D start (evening g left₀ right₀) →
+      ((v : ℕ) → v < N → count v left ≡ 0 → count v right ≡ 0 → degree v g ≡ D) → All (λ v. (v < N) × (side v ≡ 0)) left →
+      All (λ v. (v < N) × (side v ≡ 1)) right → Evens N side D start (evening g left right)
+  fewer g left₀ right₀ left right e full lefts rights =
+      record { sound = e .sound; most = e .most; kept = e .kept; full = full; lefts = lefts; rights = rights }
+
   -- a full party is passed, on the left or on the right
   pub pass-left :
       (g : Graph) (l : ℕ) (left right : List ℕ) → Evens N side D start (evening g (l ∷ left) right) → degree l g ≡ D →
       Evens N side D start (evening g left right)
   pass-left g l left right e d =
-      record {
-        sound = e .sound;
-        most = e .most;
-        kept = e .kept;
-        full = λ v h cl cr. passed D g l left d v (λ c. e .full v h c cr) cl;
-        lefts = e .lefts .1;
-        rights = e .rights;
-      }
+      fewer g (l ∷ left) right left right e (λ v h cl cr. passed D g l left d v (λ c. e .full v h c cr) cl) (e .lefts .1) (e .rights)
 
   pub pass-right :
       (g : Graph) (r : ℕ) (left right : List ℕ) → Evens N side D start (evening g left (r ∷ right)) → degree r g ≡ D →
       Evens N side D start (evening g left right)
   pass-right g r left right e d =
-      record {
-        sound = e .sound;
-        most = e .most;
-        kept = e .kept;
-        full = λ v h cl cr. passed D g r right d v (λ c. e .full v h cl c) cr;
-        lefts = e .lefts;
-        rights = e .rights .1;
-      }
+      fewer g left (r ∷ right) left right e (λ v h cl cr. passed D g r right d v (λ c. e .full v h cl c) cr) (e .lefts) (e .rights .1)
 
   -- the smaller shortfall is added between two short parties
   module _

@@ -15,12 +15,13 @@ use Rattle.two_color.specs.Contract.{region}
 use Rattle.multigraph.specs.Multigraph.{Graph}
 use Rattle.multigraph.specs.Places.{size}
 use Rattle.evening.specs.Evening.{Evening, evening, even-out-step, evened, even-out}
-use Rattle.evening.specs.Contract.{Evened-out}
+use Rattle.evening.specs.Contract.{first-of, second-of, Evened-out}
 use Rattle.evening.specs.Adding.{plain-graph, Has-place}
 use Rattle.evening.specs.Rows.{rows-from, Rows-fit, Rows-filled}
 use Rattle.evening.specs.Filling.{Step-taken, all-passed, left-full, none-right, right-full, both-short}
 use Rattle.two_color.proofs.Regions.{region-length}
 use Rattle.evening.proofs.EvenOut.{Evened, even-out-law}
+use Rattle.evening.proofs.TableLaws.{has-ends-new}
 use Rattle.evening.proofs.PlainLaws.{plain-is}
 use Rattle.evening.proofs.StageWords.{start-sound, start-most, Stage, stage-none, known, stage-done, stage-left, stage-none-right, stage-right}
 use Rattle.evening.proofs.FillStage.{stage-fill}
@@ -145,8 +146,9 @@ module _ (list : List ℕ) (d n : ℕ) (at : Bases) (u : ℕ) (first : List ℕ)
           ends-of =
               λ k a.
               let below : word first (at .apair + k) < size first (at .g) = h .paired .number-of k a in
-              rw (word-same k a, st .firsts (word first (at .apair + k)) below, st .seconds (word first (at .apair + k)) below)
-              (h .paired .ends-of k a);
+              rw (word-same k a)
+              (has-ends-new (at .ends) (size first (at .g)) first t (st .table) (word first (at .apair + k)) (first-of list k) (second-of list k)
+              below (h .paired .ends-of k a));
           mark = refl;
           changes =
               record {

@@ -23,7 +23,8 @@ use Rattle.evening.specs.Rows.{rows-from, row, Rows-filled}
 use Rattle.evening.specs.Ends.{Joins}
 use Rattle.evening.specs.Filling.{shortfall, Filled}
 use Rattle.evening.proofs.EvenSteps.{added-left, added-right, added-else, next-fill}
-use Rattle.evening.proofs.PlainLaws.{Graph-kept, graph-kept, has-ends-kept, plain-kept, graph-kept-by}
+use Rattle.evening.proofs.TableLaws.{Table-same, first-same, second-same, has-ends-new, has-ends-old}
+use Rattle.evening.proofs.PlainLaws.{Graph-kept, graph-kept, plain-kept, graph-kept-by}
 use Rattle.evening.proofs.RepsLaws.{half-of}
 use Rattle.evening.proofs.FillingWords.{Raised, raised}
 use Rattle.evening.proofs.StageWords.{Stage, Known, known}
@@ -89,14 +90,14 @@ module _ (list : List ℕ) (d n : ℕ) (at : Bases) (u : ℕ) (first : List ℕ)
       let below : word first (at .apair + k) < size first (at .g) = h .paired .number-of k inside in
       let own : Has-ends first (at .ends) (word first (at .apair + k)) l r = same-ends-trans q (h .paired .ends-of k inside) in
       rw (K .pair-of k inside)
-      (omega (arith, st .grown), rw (st .firsts (word first (at .apair + k)) below, st .seconds (word first (at .apair + k)) below) own)
+      (omega (arith, st .grown), has-ends-new (at .ends) (size first (at .g)) first s (st .table) (word first (at .apair + k)) l r below own)
 
   -- a pair of the list with these ends has an appointment among the half-edges of l
   old-joined :
       (e : ℕ) → e < size first (at .g) → Has-ends s (at .ends) e l r →
       (k : ℕ) × (k < d) × Joins list (word s (u + (n + n) + d * l + k) / 2) l r
   old-joined e below q =
-      let own : Has-ends first (at .ends) e l r = rw (st .firsts e below, st .seconds e below) at q in
+      let own : Has-ends first (at .ends) e l r = has-ends-old (at .ends) (size first (at .g)) first s (st .table) e l r below q in
       let k = h .paired .every e below in
       let its : Has-ends first (at .ends) e (first-of list (k .0)) (second-of list (k .0)) = rw (k .2) at (h .paired .ends-of (k .0) (k .1)) in
       let joins : Joins list (k .0) l r = same-ends-trans own (same-ends-sym its) in
@@ -220,14 +221,8 @@ module _ (list : List ℕ) (d n : ℕ) (at : Bases) (u : ℕ) (first : List ℕ)
         | no y ↦ inl (omega (arith, R .left, l-short, r-short))
       ]
 
-  added-first : (e : ℕ) → e < size s (at .g) → word t (at .ends + 2 * e) ≡ word s (at .ends + 2 * e)
-  added-first e y =
-      t-low (at .ends + 2 * e) (omega (arith, room, K .low, h .after-graph)) ∙ A .changes .under (at .ends + 2 * e) (omega arith)
-
-  added-second : (e : ℕ) → e < size s (at .g) → word t (at .ends + 2 * e + 1) ≡ word s (at .ends + 2 * e + 1)
-  added-second e y =
-      t-low (at .ends + 2 * e + 1) (omega (arith, room, K .low, h .after-graph))
-      ∙ A .changes .under (at .ends + 2 * e + 1) (omega arith)
+  added-table : Table-same (at .ends) (size s (at .g)) s t
+  added-table k lo hi = t-low k (omega (arith, room, K .low, h .after-graph)) ∙ A .changes .under k (omega arith)
 
   last-full :
       (e : ℕ) → Has-ends t (at .ends) e l r →
@@ -243,7 +238,7 @@ module _ (list : List ℕ) (d n : ℕ) (at : Bases) (u : ℕ) (first : List ℕ)
   new-full' e low below =
       elim (decLt e (size s (at .g))) [
         | yes y ↦
-            rw (added-first e y, added-second e y)
+            rw (first-same (at .ends) (size s (at .g)) s t added-table e y, second-same (at .ends) (size s (at .g)) s t added-table e y)
             (⊎-elim (λ z. inl (full-stays (word s (at .ends + 2 * e)) z)) (λ z. inr (full-stays (word s (at .ends + 2 * e + 1)) z))
             (st .new-full e low y))
         | no y ↦
@@ -251,7 +246,7 @@ module _ (list : List ℕ) (d n : ℕ) (at : Bases) (u : ℕ) (first : List ℕ)
             ⊎-elim
             (λ z. absurd (omega (arith, A .same-size (z .0), kept-t .count)))
             (λ z. omega (arith, z .0, A .by-one, kept-t .count)) number-cases in
-            last-full e (rw its at (has-ends-kept (at .ends) (at .g) (F .added) t kept-t (F .number) l r (A .its-number) (A .its-ends)))
+            last-full e (rw its at (has-ends-new (at .ends) (size (F .added) (at .g)) (F .added) t (kept-t .table) (F .number) l r (A .its-number) (A .its-ends)))
       ]
 
   changes' : (mark : ℕ) → Changes-three (at .ends) (2 * (n * d + n)) (at .g) (2 + 2 * (n * d + n)) u (n + n) mark s t
@@ -274,7 +269,6 @@ module _ (list : List ℕ) (d n : ℕ) (at : Bases) (u : ℕ) (first : List ℕ)
         evens = K .evens;
         grown = omega (arith, st .grown, A .grown, kept-t .count);
         new-full = new-full';
-        firsts = λ e y. added-first e (omega (arith, st .grown)) ∙ st .firsts e y;
-        seconds = λ e y. added-second e (omega (arith, st .grown)) ∙ st .seconds e y;
+        table = λ k lo hi. added-table k lo (omega (arith, st .grown)) ∙ st .table k lo hi;
         changes = λ mark. three-trans (st .changes mark) (changes' mark);
       }

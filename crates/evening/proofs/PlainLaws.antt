@@ -1,7 +1,7 @@
 -- A graph in which a pair's number is its place: what it is as a list of pairs, and that adding a pair whose number is known is
 -- `add-edge`. Assumes nothing.
 use Prim.Native.Nat.{ℕ, _+_, _*_, _≤_, _<_}
-use mathlib.Core.Path.{_≡_, sym, _∙_}
+use mathlib.Core.Path.{_≡_, refl, sym, _∙_}
 use mathlib.Core.Bool.{false}
 use mathlib.Core.List.{List}
 use mathlib.Core.Logic.{_⊎_, inl, inr, ⊎-elim}
@@ -10,7 +10,6 @@ use native.Mathlib.Decide.{ℕ-discrete}
 use borrow.Author.Tests.{lt-leb}
 use lib.ListN.{length}
 use Rattle.words.specs.Words.{word, put-word}
-use Rattle.words.proofs.Frames.{here, away, length-put}
 use Rattle.multigraph.specs.Multigraph.{pair, joins, add-edge}
 use Rattle.multigraph.specs.Stored.{entry, graph-at}
 use Rattle.multigraph.specs.Places.{size, number, copies-of, Alike, Distinct-ends}
@@ -19,6 +18,8 @@ use Rattle.multigraph.proofs.Ends.{true-joins, same-ends-sym, same-ends-trans}
 use Rattle.multigraph.proofs.Spans.{graph-span, span-same, span-snoc, not-joins, add-last, add-there}
 use Rattle.evening.specs.Contract.{Has-ends, Plain}
 use Rattle.evening.specs.Adding.{plain-pair, plain-graph, pushed, Pair-fits, Pair-added}
+use Rattle.evening.proofs.Puts.{Put, put-is}
+use Rattle.evening.proofs.TableLaws.{Table-same, first-same, second-same, has-ends-new, has-ends-old, distinct-same}
 
 -- as `graph-at`, where no number is a flagged one
 pub plain-is :
@@ -29,35 +30,20 @@ plain-is ends pairs g s h few =
     one : (e : ℕ) → e < size s g → entry s ends pairs g e ≡ plain-pair s ends g e
     one e a = rw (h .numbers e a, lt-leb pairs e (omega arith))
 
--- words that are the same give the same graph
+-- words that are the same give the same pair, and the same graph
+pair-same :
+    (ends g : ℕ) (s t : List ℕ) → Table-same ends (size s g) s t → (e : ℕ) → e < size s g → copies-of t g e ≡ copies-of s g e →
+    plain-pair t ends g e ≡ plain-pair s ends g e
+pair-same ends g s t table e a k =
+    rw (first-same ends (size s g) s t table e a, second-same ends (size s g) s t table e a, k)
+
 pub plain-same :
-    (ends g : ℕ) (s t : List ℕ) → size t g ≡ size s g →
-    ((e : ℕ) → e < size s g → word t (ends + 2 * e) ≡ word s (ends + 2 * e)) →
-    ((e : ℕ) → e < size s g → word t (ends + 2 * e + 1) ≡ word s (ends + 2 * e + 1)) →
+    (ends g : ℕ) (s t : List ℕ) → size t g ≡ size s g → Table-same ends (size s g) s t →
     ((e : ℕ) → e < size s g → copies-of t g e ≡ copies-of s g e) → plain-graph t ends g ≡ plain-graph s ends g
-plain-same ends g s t n a b k =
-    rw n
-    (span-same (plain-pair s ends g) (plain-pair t ends g) 0 (size s g)
-    (λ e x y. rw (a e (omega arith), b e (omega arith), k e (omega arith))))
+plain-same ends g s t n table k =
+    rw n (span-same (plain-pair s ends g) (plain-pair t ends g) 0 (size s g) (λ e x y. pair-same ends g s t table e (omega arith) (k e (omega arith))))
 
 -- ── what is written ──
-
--- the word at `at` has grown by `more`
-pub record Bumped (at more : ℕ) (s t : List ℕ) : Type 0 where
-  pub len : length t ≡ length s
-  pub new : word t at ≡ word s at + more
-  pub elsewhere : (i : ℕ) → (i ≡ at → ⊥) → word t i ≡ word s i
-
-pub bumped :
-    (at more : ℕ) (s t : List ℕ) → at < length s → word s at + more < 4294967296 →
-    t ≡ put-word s at (word s at + more) → Bumped at more s t
-bumped at more s t h k e =
-    rw e
-    (record {
-      len = length-put s at (word s at + more);
-      new = here s at (word s at + more) h k;
-      elsewhere = λ i x. away s at i (word s at + more) x;
-    })
 
 pub record Pushed (ends g m l r copies : ℕ) (s t : List ℕ) : Type 0 where
   pub len : length t ≡ length s
@@ -83,53 +69,35 @@ module _ (ends g m l r copies : ℕ) (s : List ℕ) where
   u4 : List ℕ
   u4 = put-word u3 (g + 3 + 2 * m) copies
 
+  u5 : List ℕ
+  u5 = put-word u4 (g + 1) (m + 1)
+
   pub pushed-words :
       ends + 2 * (m + 1) ≤ g → g + 2 + 2 * (m + 1) ≤ length s → g + 2 + 2 * (m + 1) ≤ 4294967296 → l < 4294967296 → r < 4294967296 →
       copies < 4294967296 → Pushed ends g m l r copies s (pushed ends g m l r copies s)
-  unfolding u1 u2 u3 u4
+  unfolding u1 u2 u3 u4 u5
   pushed-words low inside small sl sr sc =
+      let p1 : Put (ends + 2 * m) l s u1 = put-is (ends + 2 * m) l s u1 refl (omega arith) sl in
+      let p2 : Put (ends + 2 * m + 1) r u1 u2 = put-is (ends + 2 * m + 1) r u1 u2 refl (omega (arith, p1 .len)) sr in
+      let len2 : length u2 ≡ length s = p2 .len ∙ p1 .len in
+      let p3 : Put (g + 2 + 2 * m) m u2 u3 = put-is (g + 2 + 2 * m) m u2 u3 refl (omega (arith, len2)) (omega arith) in
+      let len3 : length u3 ≡ length s = p3 .len ∙ len2 in
+      let p4 : Put (g + 3 + 2 * m) copies u3 u4 = put-is (g + 3 + 2 * m) copies u3 u4 refl (omega (arith, len3)) sc in
+      let len4 : length u4 ≡ length s = p4 .len ∙ len3 in
+      let p5 : Put (g + 1) (m + 1) u4 u5 = put-is (g + 1) (m + 1) u4 u5 refl (omega (arith, len4)) (omega arith) in
       record {
-        len = len5;
+        len = p5 .len ∙ len4;
         first =
-            past5 (ends + 2 * m) (omega arith) ∙ past4 (ends + 2 * m) (omega arith) ∙ past3 (ends + 2 * m) (omega arith)
-            ∙ past2 (ends + 2 * m) (omega arith) ∙ here s (ends + 2 * m) l (omega arith) sl;
+            p5 .else (ends + 2 * m) (omega arith) ∙ p4 .else (ends + 2 * m) (omega arith) ∙ p3 .else (ends + 2 * m) (omega arith)
+            ∙ p2 .else (ends + 2 * m) (omega arith) ∙ p1 .new;
         second =
-            past5 (ends + 2 * m + 1) (omega arith) ∙ past4 (ends + 2 * m + 1) (omega arith) ∙ past3 (ends + 2 * m + 1) (omega arith)
-            ∙ here u1 (ends + 2 * m + 1) r (omega (arith, len1)) sr;
-        its-number =
-            past5 (g + 2 + 2 * m) (omega arith) ∙ past4 (g + 2 + 2 * m) (omega arith)
-            ∙ here u2 (g + 2 + 2 * m) m (omega (arith, len2)) (omega arith);
-        its-copies = past5 (g + 3 + 2 * m) (omega arith) ∙ here u3 (g + 3 + 2 * m) copies (omega (arith, len3)) sc;
-        new-size = here u4 (g + 1) (m + 1) (omega (arith, len4)) (omega arith);
-        elsewhere = λ i a b c d e. past5 i e ∙ past4 i d ∙ past3 i c ∙ past2 i b ∙ away s (ends + 2 * m) i l a;
+            p5 .else (ends + 2 * m + 1) (omega arith) ∙ p4 .else (ends + 2 * m + 1) (omega arith)
+            ∙ p3 .else (ends + 2 * m + 1) (omega arith) ∙ p2 .new;
+        its-number = p5 .else (g + 2 + 2 * m) (omega arith) ∙ p4 .else (g + 2 + 2 * m) (omega arith) ∙ p3 .new;
+        its-copies = p5 .else (g + 3 + 2 * m) (omega arith) ∙ p4 .new;
+        new-size = p5 .new;
+        elsewhere = λ i a b c d e. p5 .else i e ∙ p4 .else i d ∙ p3 .else i c ∙ p2 .else i b ∙ p1 .else i a;
       }
-    where
-      past2 : (i : ℕ) → (i ≡ ends + 2 * m + 1 → ⊥) → word u2 i ≡ word u1 i
-      past2 i x = away u1 (ends + 2 * m + 1) i r x
-
-      past3 : (i : ℕ) → (i ≡ g + 2 + 2 * m → ⊥) → word u3 i ≡ word u2 i
-      past3 i x = away u2 (g + 2 + 2 * m) i m x
-
-      past4 : (i : ℕ) → (i ≡ g + 3 + 2 * m → ⊥) → word u4 i ≡ word u3 i
-      past4 i x = away u3 (g + 3 + 2 * m) i copies x
-
-      past5 : (i : ℕ) → (i ≡ g + 1 → ⊥) → word (put-word u4 (g + 1) (m + 1)) i ≡ word u4 i
-      past5 i x = away u4 (g + 1) i (m + 1) x
-
-      len1 : length u1 ≡ length s
-      len1 = length-put s (ends + 2 * m) l
-
-      len2 : length u2 ≡ length s
-      len2 = length-put u1 (ends + 2 * m + 1) r ∙ len1
-
-      len3 : length u3 ≡ length s
-      len3 = length-put u2 (g + 2 + 2 * m) m ∙ len2
-
-      len4 : length u4 ≡ length s
-      len4 = length-put u3 (g + 3 + 2 * m) copies ∙ len3
-
-      len5 : length (put-word u4 (g + 1) (m + 1)) ≡ length s
-      len5 = length-put u4 (g + 1) (m + 1) ∙ len4
 
 -- ── what it is for the graph ──
 
@@ -143,15 +111,12 @@ module _ (ends g e l r copies : ℕ) (s : List ℕ) (h : Pair-fits ends g e l r 
   none : (f : ℕ) → size s g ≤ e → f < size s g → joins l r (plain-pair s ends g f) ≡ false
   none f a b = not-joins l r (plain-pair s ends g f) (λ k. h .new a f b k)
 
-  module _ (a : e < size s g) (t : List ℕ) (b : Bumped (g + 3 + 2 * e) copies s t) where
-    same-ends-first : (f : ℕ) → f < size s g → word t (ends + 2 * f) ≡ word s (ends + 2 * f)
-    same-ends-first f x = b .elsewhere (ends + 2 * f) (λ y. omega (arith, h .after-ends))
-
-    same-ends-second : (f : ℕ) → f < size s g → word t (ends + 2 * f + 1) ≡ word s (ends + 2 * f + 1)
-    same-ends-second f x = b .elsewhere (ends + 2 * f + 1) (λ y. omega (arith, h .after-ends))
+  module _ (a : e < size s g) (t : List ℕ) (b : Put (g + 3 + 2 * e) (copies-of s g e + copies) s t) where
+    there-table : Table-same ends (size s g) s t
+    there-table i x y = b .else i (λ q. omega (arith, h .after-ends))
 
     there-size : size t g ≡ size s g
-    there-size = b .elsewhere (g + 1) (λ y. omega arith)
+    there-size = b .else (g + 1) (λ y. omega arith)
 
     there-graph : plain-graph t ends g ≡ add-edge (plain-graph s ends g) l r copies 0
     there-graph =
@@ -159,19 +124,11 @@ module _ (ends g e l r copies : ℕ) (s : List ℕ) (h : Pair-fits ends g e l r 
         (sym
         (add-there l r copies 0 e (plain-pair s ends g) (plain-pair t ends g) 0 (size s g) (omega arith) (omega arith)
         (true-joins l r (plain-pair s ends g e) (h .there a)) (λ f x y. others f a (omega arith) (λ q. omega arith))
-        (rw (same-ends-first e a, same-ends-second e a, b .new))
-        (λ f x y z.
-        let k : copies-of t g f ≡ copies-of s g f = b .elsewhere (g + 3 + 2 * f) (λ q. z (omega arith)) in
-        rw (same-ends-first f (omega arith), same-ends-second f (omega arith), k))))
+        (rw (first-same ends (size s g) s t there-table e a, second-same ends (size s g) s t there-table e a, b .new))
+        (λ f x y z. pair-same ends g s t there-table f (omega arith) (b .else (g + 3 + 2 * f) (λ q. z (omega arith))))))
 
     there-distinct : Distinct-ends ends (size t g) t
-    there-distinct =
-        record {
-          distinct = λ x y i j k. h .plain .distinct .distinct x y (omega (arith, there-size)) (omega (arith, there-size)) (back x y (omega (arith, there-size)) (omega (arith, there-size)) k);
-        }
-      where
-        back : (x y : ℕ) → x < size s g → y < size s g → Alike t ends x y → Alike s ends x y
-        back x y i j k = rw (same-ends-first x i, same-ends-second x i, same-ends-first y j, same-ends-second y j) at k
+    there-distinct = rw there-size (distinct-same ends (size s g) s t there-table (h .plain .distinct))
 
     pub added-there : Pair-added ends g e l r copies s t
     added-there =
@@ -179,8 +136,8 @@ module _ (ends g e l r copies : ℕ) (s : List ℕ) (h : Pair-fits ends g e l r 
           graph = there-graph;
           plain =
               record {
-                header = b .elsewhere g (λ y. omega arith) ∙ h .plain .header;
-                numbers = λ f x. b .elsewhere (g + 2 + 2 * f) (λ y. omega arith) ∙ h .plain .numbers f (omega (arith, there-size));
+                header = b .else g (λ y. omega arith) ∙ h .plain .header;
+                numbers = λ f x. b .else (g + 2 + 2 * f) (λ y. omega arith) ∙ h .plain .numbers f (omega (arith, there-size));
                 distinct = there-distinct;
               };
           grown = omega (arith, there-size);
@@ -188,13 +145,13 @@ module _ (ends g e l r copies : ℕ) (s : List ℕ) (h : Pair-fits ends g e l r 
           same-size = λ x. there-size;
           new-size = λ x. absurd (omega arith);
           its-number = omega (arith, there-size);
-          its-ends = rw (same-ends-first e a, same-ends-second e a) (h .there a);
+          its-ends = has-ends-new ends (size s g) s t there-table e l r a (h .there a);
           changes =
               record {
                 len = b .len;
-                under = λ i x. b .elsewhere i (λ y. omega (arith, h .after-ends));
-                between = λ i x z. b .elsewhere i (λ y. omega arith);
-                over = λ i x. b .elsewhere i (λ y. omega arith);
+                under = λ i x. b .else i (λ y. omega (arith, h .after-ends));
+                between = λ i x z. b .else i (λ y. omega arith);
+                over = λ i x. b .else i (λ y. omega arith);
               };
         }
 
@@ -207,11 +164,8 @@ module _ (ends g e l r copies : ℕ) (s : List ℕ) (h : Pair-fits ends g e l r 
         b .elsewhere i (λ q. ⊎-elim (λ k. omega arith) (λ k. omega arith) x) (λ q. ⊎-elim (λ k. omega arith) (λ k. omega arith) x)
         (λ q. ⊎-elim (λ k. omega arith) (λ k. omega arith) z) (λ q. ⊎-elim (λ k. omega arith) (λ k. omega arith) z) y
 
-    old-first : (f : ℕ) → f < size s g → word t (ends + 2 * f) ≡ word s (ends + 2 * f)
-    old-first f x = old (ends + 2 * f) (inl (omega arith)) (λ q. omega (arith, h .after-ends)) (inl (omega (arith, h .after-ends)))
-
-    old-second : (f : ℕ) → f < size s g → word t (ends + 2 * f + 1) ≡ word s (ends + 2 * f + 1)
-    old-second f x = old (ends + 2 * f + 1) (inl (omega arith)) (λ q. omega (arith, h .after-ends)) (inl (omega (arith, h .after-ends)))
+    old-table : Table-same ends (size s g) s t
+    old-table i x y = old i (inl (omega arith)) (λ q. omega (arith, h .after-ends)) (inl (omega (arith, h .after-ends)))
 
     old-copies : (f : ℕ) → f < size s g → copies-of t g f ≡ copies-of s g f
     old-copies f x = old (g + 3 + 2 * f) (inr (omega (arith, h .after-ends))) (λ q. omega arith) (inl (omega arith))
@@ -224,14 +178,14 @@ module _ (ends g e l r copies : ℕ) (s : List ℕ) (h : Pair-fits ends g e l r 
     new-graph =
         let before : span (plain-pair t ends g) 0 (size s g) ≡ span (plain-pair s ends g) 0 (size s g) =
         span-same (plain-pair s ends g) (plain-pair t ends g) 0 (size s g)
-        (λ f x y. rw (old-first f (omega arith), old-second f (omega arith), old-copies f (omega arith))) in
+        (λ f x y. pair-same ends g s t old-table f (omega arith) (old-copies f (omega arith))) in
         let last : plain-pair t ends g (size s g) ≡ pair l r copies 0 = rw (b .first, b .second, b .its-copies) in
         rw (b .new-size, span-snoc (plain-pair t ends g) (size s g), before, last)
         (sym (add-last l r copies 0 (plain-pair s ends g) 0 (size s g) (λ f x y. none f a (omega arith))))
 
     -- the last pair has ends that no other has
     not-last : (f : ℕ) → f < size s g → Has-ends t ends f l r → ⊥
-    not-last f x k = h .new a f x (rw (old-first f x, old-second f x) at k)
+    not-last f x k = h .new a f x (has-ends-old ends (size s g) s t old-table f l r x k)
 
     last-ends : Has-ends t ends (size s g) l r
     last-ends = inl (b .first, b .second)
@@ -247,9 +201,7 @@ module _ (ends g e l r copies : ℕ) (s : List ℕ) (h : Pair-fits ends g e l r 
           | no p ↦
               elim (ℕ-discrete y (size s g)) [
                 | yes q ↦ absurd (not-last x (omega arith) (same-ends-trans last-ends (same-ends-sym (rw q at k))))
-                | no q ↦
-                    h .plain .distinct .distinct x y (omega arith) (omega arith)
-                    (rw (old-first x (omega arith), old-second x (omega arith), old-first y (omega arith), old-second y (omega arith)) at k)
+                | no q ↦ distinct-same ends (size s g) s t old-table (h .plain .distinct) .distinct x y (omega arith) (omega arith) k
               ]
         ]
 
@@ -288,44 +240,32 @@ module _ (ends g e l r copies : ℕ) (s : List ℕ) (h : Pair-fits ends g e l r 
 pub record Graph-kept (ends g : ℕ) (s t : List ℕ) : Type 0 where
   pub header : word t g ≡ word s g
   pub count : size t g ≡ size s g
-  pub firsts : (e : ℕ) → e < size s g → word t (ends + 2 * e) ≡ word s (ends + 2 * e)
-  pub seconds : (e : ℕ) → e < size s g → word t (ends + 2 * e + 1) ≡ word s (ends + 2 * e + 1)
+  pub table : Table-same ends (size s g) s t
   pub numbers : (e : ℕ) → e < size s g → number t g e ≡ number s g e
   pub copies : (e : ℕ) → e < size s g → copies-of t g e ≡ copies-of s g e
 
 module _ (ends g : ℕ) (s t : List ℕ) (k : Graph-kept ends g s t) where
   pub graph-kept : plain-graph t ends g ≡ plain-graph s ends g
-  graph-kept = plain-same ends g s t (k .count) (k .firsts) (k .seconds) (k .copies)
-
-  pub has-ends-kept : (e l r : ℕ) → e < size s g → Has-ends s ends e l r → Has-ends t ends e l r
-  has-ends-kept e l r a x = rw (k .firsts e a, k .seconds e a) x
+  graph-kept = plain-same ends g s t (k .count) (k .table) (k .copies)
 
   pub plain-kept : Plain ends g s → Plain ends g t
   plain-kept h =
       record {
         header = k .header ∙ h .header;
         numbers = λ e a. k .numbers e (omega (arith, k .count)) ∙ h .numbers e (omega (arith, k .count));
-        distinct =
-            record {
-              distinct =
-                  λ e f a b x.
-                  let ea : e < size s g = omega (arith, k .count) in
-                  let fb : f < size s g = omega (arith, k .count) in
-                  h .distinct .distinct e f ea fb (rw (k .firsts e ea, k .seconds e ea, k .firsts f fb, k .seconds f fb) at x);
-            };
+        distinct = rw (k .count) (distinct-same ends (size s g) s t (k .table) (h .distinct));
       }
 
 -- where the words below `at` that are not the table's and the graph's own don't matter
 pub graph-kept-by :
     (ends g rows : ℕ) (s t : List ℕ) → size s g ≤ rows → ends + 2 * rows ≤ g →
-    ((i : ℕ) → ends ≤ i → i < ends + 2 * rows → word t i ≡ word s i) →
+    Table-same ends rows s t →
     ((i : ℕ) → g ≤ i → i < g + 2 + 2 * rows → word t i ≡ word s i) → Graph-kept ends g s t
 graph-kept-by ends g rows s t few low table own =
     record {
       header = own g (omega arith) (omega arith);
       count = own (g + 1) (omega arith) (omega arith);
-      firsts = λ e a. table (ends + 2 * e) (omega arith) (omega arith);
-      seconds = λ e a. table (ends + 2 * e + 1) (omega arith) (omega arith);
+      table = λ i a b. table i a (omega arith);
       numbers = λ e a. own (g + 2 + 2 * e) (omega arith) (omega arith);
       copies = λ e a. own (g + 3 + 2 * e) (omega arith) (omega arith);
     }

@@ -28,6 +28,7 @@ use Rattle.two_color.proofs.Regions.{region-length, region-rest}
 use Rattle.evening.proofs.Pairs.{degree-load, sound-list}
 use Rattle.evening.proofs.EvenSteps.{Evens, next-done, next-left, next-none, next-right}
 use Rattle.evening.proofs.EvenOut.{keep}
+use Rattle.evening.proofs.TableLaws.{Table-same}
 use Rattle.evening.proofs.PlainLaws.{plain-is, Graph-kept, graph-kept, plain-kept, graph-kept-by}
 use Rattle.evening.specs.declared.Bases.{Bases}
 use Rattle.evening.specs.Filling.{Evens-at}
@@ -80,8 +81,7 @@ module _ (list : List ℕ) (d n : ℕ) (at : Bases) (u : ℕ) (first : List ℕ)
       pub new-full :
           (e : ℕ) → size first (at .g) ≤ e → e < size s (at .g) →
           (word s (u + word s (at .ends + 2 * e)) ≡ d) ⊎ (word s (u + word s (at .ends + 2 * e + 1)) ≡ d)
-      pub firsts : (e : ℕ) → e < size first (at .g) → word s (at .ends + 2 * e) ≡ word first (at .ends + 2 * e)
-      pub seconds : (e : ℕ) → e < size first (at .g) → word s (at .ends + 2 * e + 1) ≡ word first (at .ends + 2 * e + 1)
+      pub table : Table-same (at .ends) (size first (at .g)) first s
       pub changes : (mark : ℕ) → Changes-three (at .ends) (2 * (n * d + n)) (at .g) (2 + 2 * (n * d + n)) u (n + n) mark s₁ s
 
     start-few : size first (at .g) ≤ n * d
@@ -109,8 +109,7 @@ module _ (list : List ℕ) (d n : ℕ) (at : Bases) (u : ℕ) (first : List ℕ)
           evens = start-evens;
           grown = omega (arith, kept-1 .count);
           new-full = λ e a b. absurd (omega (arith, kept-1 .count));
-          firsts = λ e a. kept-1 .firsts e a;
-          seconds = λ e a. kept-1 .seconds e a;
+          table = kept-1 .table;
           changes = λ mark. three-refl (at .ends) (2 * (n * d + n)) (at .g) (2 + 2 * (n * d + n)) u (n + n) mark s₁;
         }
 
@@ -121,21 +120,21 @@ module _ (list : List ℕ) (d n : ℕ) (at : Bases) (u : ℕ) (first : List ℕ)
       abbrev r : ℕ
       r = word s (at .right + j)
 
-      left-word : (k : ℕ) → k < n → word s (at .left + k) ≡ word first (at .left + k)
-      left-word k a =
-          st .changes (at .left + k + 1) .under (at .left + k) (omega arith) (omega (arith, h .after-left))
-          ∙ x .keeps .same (at .left + k) (omega (arith, h .after-left, table-low, h .after-graph))
-
-      right-word : (k : ℕ) → k < n → word s (at .right + k) ≡ word first (at .right + k)
-      right-word k a =
-          st .changes (at .right + k + 1) .under (at .right + k) (omega arith) (omega (arith, h .after-right))
-          ∙ x .keeps .same (at .right + k) (omega (arith, h .after-right, table-low, h .after-graph))
+      -- of the parties at `base`, those from k on begin with the one at k
+      rest-cons :
+          (base k : ℕ) → base + n ≤ at .ends → k < n →
+          drop k (region first base n) ≡ word s (base + k) ∷ drop (k + 1) (region first base n)
+      rest-cons base k low a =
+          let same : word s (base + k) ≡ word first (base + k) =
+          st .changes (base + k + 1) .under (base + k) (omega arith) (omega arith)
+          ∙ x .keeps .same (base + k) (omega (arith, table-low, h .after-graph)) in
+          rw same (region-rest first base n k a)
 
       left-cons : i < n → E .left ≡ l ∷ drop (i + 1) lefts
-      left-cons a = st .left-rest ∙ rw (left-word i a) (region-rest first (at .left) n i a)
+      left-cons a = st .left-rest ∙ rest-cons (at .left) i (h .after-left) a
 
       right-cons : j < n → E .right ≡ r ∷ drop (j + 1) rights
-      right-cons a = st .right-rest ∙ rw (right-word j a) (region-rest first (at .right) n j a)
+      right-cons a = st .right-rest ∙ rest-cons (at .right) j (h .after-right) a
 
       l-side : i < n → (l < n + n) × (side l ≡ 0)
       l-side a = (rw (left-cons a) at (st .evens .lefts)) .0
@@ -207,8 +206,7 @@ module _ (list : List ℕ) (d n : ℕ) (at : Bases) (u : ℕ) (first : List ℕ)
             evens = known .evens;
             grown = st .grown;
             new-full = st .new-full;
-            firsts = st .firsts;
-            seconds = st .seconds;
+            table = st .table;
             changes = st .changes;
           }
 

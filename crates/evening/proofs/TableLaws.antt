@@ -4,7 +4,7 @@ use mathlib.Core.Path.{_≡_}
 use mathlib.Core.List.{List}
 use native.Mathlib.Omega.{arith}
 use Rattle.words.specs.Words.{word}
-use Rattle.multigraph.specs.Places.{Alike}
+use Rattle.multigraph.specs.Places.{Alike, Distinct-ends}
 use Rattle.evening.specs.Contract.{Has-ends}
 
 -- the first n rows of the table are the same
@@ -25,5 +25,9 @@ module _ (ends n : ℕ) (s t : List ℕ) (same : Table-same ends n s t) where
   pub has-ends-old : (e l r : ℕ) → e < n → Has-ends t ends e l r → Has-ends s ends e l r
   has-ends-old e l r a x = rw (first-same e a, second-same e a) at x
 
-  pub alike-old : (e f : ℕ) → e < n → f < n → Alike t ends e f → Alike s ends e f
+  alike-old : (e f : ℕ) → e < n → f < n → Alike t ends e f → Alike s ends e f
   alike-old e f a b x = rw (first-same e a, second-same e a, first-same f b, second-same f b) at x
+
+  -- pairs with different ends still have different ends
+  pub distinct-same : Distinct-ends ends n s → Distinct-ends ends n t
+  distinct-same h = record { distinct = λ e f a b x. h .distinct e f a b (alike-old e f a b x) }

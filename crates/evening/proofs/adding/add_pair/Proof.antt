@@ -3,9 +3,10 @@ use Prim.Native.Nat.{ℕ, _+_, _*_, _-_, _<_, _≤_, max}
 use native.Mathlib.Omega.{arith}
 use lib.ListN.{length}
 use Rattle.words.specs.Words.{word, put-word}
-use Rattle.multigraph.specs.Places.{size}
+use Rattle.multigraph.specs.Places.{size, copies-of}
+use Rattle.evening.proofs.Puts.{put-is}
 use Rattle.evening.specs.Adding.{pushed, Pair-fits, Pair-added}
-use Rattle.evening.proofs.PlainLaws.{bumped, pushed-words, Pushed, added-there, added-new}
+use Rattle.evening.proofs.PlainLaws.{pushed-words, Pushed, added-there, added-new}
 use borrow.Author.Needs.{needs}
 use Rattle.evening.proofs.adding.add_pair.Statement.{statement}
 use Rattle.evening.proofs.adding.add_pair.Tie as tie
@@ -15,7 +16,7 @@ returns c =
     let a = c .before .before .before .before .before .before .before .before .args in
     λ h.
     let k : a .e < size (a .s .now) (a .g) = omega arith in
-    added-there (a .ends) (a .g) (a .e) (a .l) (a .r) (a .copies) (a .s .now) h k (c .before .before .add-to .last .0) (bumped (a .g + 3 + 2 * a .e) (a .copies) (a .s .now) (c .before .before .add-to .last .0) (omega (arith, h .inside)) (h .light (a .e) k) (c .before .before .add-to .ensures))
+    added-there (a .ends) (a .g) (a .e) (a .l) (a .r) (a .copies) (a .s .now) h k (c .before .before .add-to .last .0) (put-is (a .g + 3 + 2 * a .e) (copies-of (a .s .now) (a .g) (a .e) + a .copies) (a .s .now) (c .before .before .add-to .last .0) (c .before .before .add-to .ensures) (omega (arith, h .inside)) (h .light (a .e) k))
 
 returns-2 : tie.Need-returns-2
 returns-2 c =
