@@ -18,10 +18,10 @@ use Rattle.multigraph.specs.Multigraph.{add-edge}
 use Rattle.multigraph.specs.Places.{size}
 use Rattle.multigraph.proofs.Ends.{same-ends-sym, same-ends-trans}
 use Rattle.evening.specs.Contract.{first-of, second-of, Has-ends}
-use Rattle.evening.specs.Adding.{Has-place, Pair-fits, Pair-added}
+use Rattle.evening.specs.Adding.{Has-place, Its-number, Pair-fits, Pair-added}
 use Rattle.evening.specs.Representatives.{Rep}
 use Rattle.evening.specs.FromList.{pair-of, Building, Built}
-use Rattle.evening.proofs.PlainLaws.{Graph-kept, graph-kept, plain-kept, graph-kept-by}
+use Rattle.evening.proofs.PlainLaws.{newest, Graph-kept, graph-kept, plain-kept, graph-kept-by}
 use Rattle.evening.proofs.TableLaws.{has-ends-new}
 use Rattle.evening.proofs.Listed.{add-appointments-more, copies-few}
 use Rattle.evening.specs.declared.Bases.{Bases}
@@ -70,7 +70,7 @@ module _ (list : List ℕ) (at : Bases) (k : ℕ) (s : List ℕ) (h : Building l
           let own : Has-ends s (at .ends) f (first-of list (i .0)) (second-of list (i .0)) = rw (i .2) at (h .ends-of (i .0) (i .1)) in
           rep .first (omega (arith, rep .le)) (i .0) (i .1) (same-ends-trans own (same-ends-sym z))
 
-  e-cases : ((e < size s (at .g)) × Has-ends s (at .ends) e x y) ⊎ ((e ≡ size s (at .g)) × ((f : ℕ) → f < size s (at .g) → Has-ends s (at .ends) f x y → ⊥))
+  e-cases : Its-number (at .ends) (at .g) e x y s
   e-cases = elim (decLt (word s (at .apair + k)) k) [ yes a ↦ inl (old-number a) | no a ↦ inr (new-number (omega arith)) ]
 
   -- the next pair has a place
@@ -85,9 +85,7 @@ module _ (list : List ℕ) (at : Bases) (k : ℕ) (s : List ℕ) (h : Building l
   fits sx sy =
       record {
         plain = h .plain;
-        there = λ a. ⊎-elim (λ c. c .1) (λ c. absurd (omega (arith, c .0))) e-cases;
-        new = λ a. ⊎-elim (λ c. absurd (omega (arith, c .0))) (λ c. c .1) e-cases;
-        next = ⊎-elim (λ c. omega (arith, c .0)) (λ c. omega (arith, c .0)) e-cases;
+        its = e-cases;
         after-ends = omega (arith, h .few, h .after-ends, h .after-apair);
         inside = omega (arith, h .few, h .inside);
         small = omega (arith, h .few, h .small);
@@ -100,7 +98,7 @@ module _ (list : List ℕ) (at : Bases) (k : ℕ) (s : List ℕ) (h : Building l
         few = omega arith;
       }
 
-  module _ (t u : List ℕ) (add : Pair-added (at .ends) (at .g) e x y 1 s t) (put : u ≡ put-word t (at .apair + k) e) where
+  module _ (fit : Pair-fits (at .ends) (at .g) e x y 1 s) (t u : List ℕ) (add : Pair-added (at .ends) (at .g) e x y 1 s t) (put : u ≡ put-word t (at .apair + k) e) where
     e-small : e < 4294967296
     e-small = omega (arith, add .its-number, add .by-one, h .few, h .small)
 
@@ -152,11 +150,7 @@ module _ (list : List ℕ) (at : Bases) (k : ℕ) (s : List ℕ) (h : Building l
               let i = h .every f z in
               (i .0, omega (arith, i .1), old-pair (i .0) (λ q. omega (arith, i .1)) (omega (arith, i .1)) ∙ i .2)
           | no z ↦
-              let e-is : e ≡ f =
-              ⊎-elim
-              (λ c. absurd (omega (arith, add .same-size (c .0), kept-t .count)))
-              (λ c. omega (arith, c .0, add .by-one, kept-t .count)) e-cases in
-              (k, omega arith, u-here ∙ e-is)
+              (k, omega arith, u-here ∙ newest (at .ends) (at .g) e x y 1 s fit t add f (omega arith) (omega (arith, kept-t .count)))
         ]
 
     building' : Building list at (k + 1) u

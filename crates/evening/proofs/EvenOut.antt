@@ -36,19 +36,21 @@ module _ (N : ℕ) (side : ℕ → ℕ) (D : ℕ) (start : Graph) where
       same : total (short D g) left₀ ≡ total (short D g) right₀
       same = shorts-same N side left₀ right₀ part g (e .sound .across) D (e .most)
 
+      -- parties of one side are full if none of that side is still to be filled
+      side-full :
+          (c : ℕ) (vs : List ℕ) → All (λ v. (v < N) × (side v ≡ c)) vs →
+          ((v : ℕ) → side v ≡ c → (count v left ≡ 0) × (count v right ≡ 0)) → All (λ v. degree v g ≡ D) vs
+      side-full c vs on none = all-map (λ v h. e .full v (h .0) (none v (h .1) .0) (none v (h .1) .1)) vs on
+
       lefts-full : length left ≡ 0 → All (λ v. degree v g ≡ D) left₀
-      lefts-full z = all-map full left₀ (part .left-side)
-        where
-          full : (v : ℕ) → (v < N) × (side v ≡ 0) → degree v g ≡ D
-          full v h =
-              e .full v (h .0) (omega (arith, count-le v left)) (off-side N side 1 v right (e .rights) (λ q. omega arith))
+      lefts-full z =
+          side-full 0 left₀ (part .left-side)
+          (λ v h. (omega (arith, count-le v left), off-side N side 1 v right (e .rights) (λ q. omega arith)))
 
       rights-full : length right ≡ 0 → All (λ v. degree v g ≡ D) right₀
-      rights-full z = all-map full right₀ (part .right-side)
-        where
-          full : (v : ℕ) → (v < N) × (side v ≡ 1) → degree v g ≡ D
-          full v h =
-              e .full v (h .0) (off-side N side 0 v left (e .lefts) (λ q. omega arith)) (omega (arith, count-le v right))
+      rights-full z =
+          side-full 1 right₀ (part .right-side)
+          (λ v h. (off-side N side 0 v left (e .lefts) (λ q. omega arith), omega (arith, count-le v right)))
 
       left-done : length left ≡ 0 → All (λ v. degree v g ≡ D) right₀
       left-done z =

@@ -18,13 +18,13 @@ use Rattle.multigraph.specs.Places.{size, number}
 use Rattle.multigraph.proofs.Ends.{same-ends-sym, same-ends-trans}
 use Rattle.evening.specs.Evening.{Evening, evening, even-out-step}
 use Rattle.evening.specs.Contract.{first-of, second-of, Has-ends}
-use Rattle.evening.specs.Adding.{plain-graph, Pair-fits, Pair-added}
+use Rattle.evening.specs.Adding.{plain-graph, Its-number, Pair-fits, Pair-added}
 use Rattle.evening.specs.Rows.{rows-from, row, Rows-filled}
 use Rattle.evening.specs.Ends.{Joins}
 use Rattle.evening.specs.Filling.{shortfall, Filled}
 use Rattle.evening.proofs.EvenSteps.{added-left, added-right, added-else, next-fill}
 use Rattle.evening.proofs.TableLaws.{Table-same, first-same, second-same, has-ends-new, has-ends-old}
-use Rattle.evening.proofs.PlainLaws.{Graph-kept, graph-kept, plain-kept, graph-kept-by}
+use Rattle.evening.proofs.PlainLaws.{newest, Graph-kept, graph-kept, plain-kept, graph-kept-by}
 use Rattle.evening.proofs.RepsLaws.{half-of}
 use Rattle.evening.proofs.FillingWords.{Raised, raised}
 use Rattle.evening.proofs.StageWords.{Stage, Known, known}
@@ -116,9 +116,7 @@ module _ (list : List ℕ) (d n : ℕ) (at : Bases) (u : ℕ) (first : List ℕ)
       (λ y. ⊎-elim (λ z. ne-l (rw (z .0) at y)) (λ z. ne-r (rw (z .0) at y)) q)
       (λ y. ⊎-elim (λ z. ne-r (rw (z .1) at y)) (λ z. ne-l (rw (z .1) at y)) q) (st .new-full e low below)
 
-  number-cases :
-      ((F .number < size s (at .g)) × Has-ends s (at .ends) (F .number) l r)
-      ⊎ ((F .number ≡ size s (at .g)) × ((e : ℕ) → e < size s (at .g) → Has-ends s (at .ends) e l r → ⊥))
+  number-cases : Its-number (at .ends) (at .g) (F .number) l r s
   number-cases =
       ⊎-elim
       (λ y. inl (rw (y .3) (pair-there (word s (u + (n + n) + d * l + y .0) / 2) (y .2))))
@@ -140,9 +138,7 @@ module _ (list : List ℕ) (d n : ℕ) (at : Bases) (u : ℕ) (first : List ℕ)
   fits =
       record {
         plain = st .plain;
-        there = λ y. ⊎-elim (λ z. z .1) (λ z. absurd (omega (arith, z .0))) number-cases;
-        new = λ y. ⊎-elim (λ z. absurd (omega (arith, z .0))) (λ z. z .1) number-cases;
-        next = ⊎-elim (λ z. omega (arith, z .0)) (λ z. omega (arith, z .0)) number-cases;
+        its = number-cases;
         after-ends = omega (arith, room, K .low);
         inside = omega (arith, room, h .after-graph, h .room, K .len);
         small = omega (arith, room, h .after-graph, h .low);
@@ -243,9 +239,7 @@ module _ (list : List ℕ) (d n : ℕ) (at : Bases) (u : ℕ) (first : List ℕ)
             (st .new-full e low y))
         | no y ↦
             let its : F .number ≡ e =
-            ⊎-elim
-            (λ z. absurd (omega (arith, A .same-size (z .0), kept-t .count)))
-            (λ z. omega (arith, z .0, A .by-one, kept-t .count)) number-cases in
+            newest (at .ends) (at .g) (F .number) l r more s fits (F .added) A e (omega arith) (omega (arith, kept-t .count)) in
             last-full e (rw its at (has-ends-new (at .ends) (size (F .added) (at .g)) (F .added) t (kept-t .table) (F .number) l r (A .its-number) (A .its-ends)))
       ]
 

@@ -102,14 +102,28 @@ module _ (ends g m l r copies : ℕ) (s : List ℕ) where
 -- ── what it is for the graph ──
 
 module _ (ends g e l r copies : ℕ) (s : List ℕ) (h : Pair-fits ends g e l r copies s) where
+  there : e < size s g → Has-ends s ends e l r
+  there a = ⊎-elim (λ c. c .1) (λ c. absurd (omega (arith, c .0))) (h .its)
+
+  new : size s g ≤ e → (f : ℕ) → f < size s g → Has-ends s ends f l r → ⊥
+  new a = ⊎-elim (λ c. absurd (omega (arith, c .0))) (λ c. c .1) (h .its)
+
+  next : e ≤ size s g
+  next = ⊎-elim (λ c. omega (arith, c .0)) (λ c. omega (arith, c .0)) (h .its)
+
+  -- a pair that the graph did not have is number e
+  pub newest : (t : List ℕ) → Pair-added ends g e l r copies s t → (f : ℕ) → size s g ≤ f → f < size t g → e ≡ f
+  newest t x f a b =
+      ⊎-elim (λ c. absurd (omega (arith, x .same-size (c .0)))) (λ c. omega (arith, c .0, x .by-one)) (h .its)
+
   -- only pair e can have the ends
   others : (f : ℕ) → e < size s g → f < size s g → (f ≡ e → ⊥) → joins l r (plain-pair s ends g f) ≡ false
   others f a b x =
       not-joins l r (plain-pair s ends g f)
-      (λ k. x (h .plain .distinct .distinct f e b a (same-ends-trans (same-ends-sym k) (h .there a))))
+      (λ k. x (h .plain .distinct .distinct f e b a (same-ends-trans (same-ends-sym k) (there a))))
 
   none : (f : ℕ) → size s g ≤ e → f < size s g → joins l r (plain-pair s ends g f) ≡ false
-  none f a b = not-joins l r (plain-pair s ends g f) (λ k. h .new a f b k)
+  none f a b = not-joins l r (plain-pair s ends g f) (λ k. new a f b k)
 
   module _ (a : e < size s g) (t : List ℕ) (b : Put (g + 3 + 2 * e) (copies-of s g e + copies) s t) where
     there-table : Table-same ends (size s g) s t
@@ -123,7 +137,7 @@ module _ (ends g e l r copies : ℕ) (s : List ℕ) (h : Pair-fits ends g e l r 
         rw there-size
         (sym
         (add-there l r copies 0 e (plain-pair s ends g) (plain-pair t ends g) 0 (size s g) (omega arith) (omega arith)
-        (true-joins l r (plain-pair s ends g e) (h .there a)) (λ f x y. others f a (omega arith) (λ q. omega arith))
+        (true-joins l r (plain-pair s ends g e) (there a)) (λ f x y. others f a (omega arith) (λ q. omega arith))
         (rw (first-same ends (size s g) s t there-table e a, second-same ends (size s g) s t there-table e a, b .new))
         (λ f x y z. pair-same ends g s t there-table f (omega arith) (b .else (g + 3 + 2 * f) (λ q. z (omega arith))))))
 
@@ -145,7 +159,7 @@ module _ (ends g e l r copies : ℕ) (s : List ℕ) (h : Pair-fits ends g e l r 
           same-size = λ x. there-size;
           new-size = λ x. absurd (omega arith);
           its-number = omega (arith, there-size);
-          its-ends = has-ends-new ends (size s g) s t there-table e l r a (h .there a);
+          its-ends = has-ends-new ends (size s g) s t there-table e l r a (there a);
           changes =
               record {
                 len = b .len;
@@ -157,7 +171,7 @@ module _ (ends g e l r copies : ℕ) (s : List ℕ) (h : Pair-fits ends g e l r 
 
   module _ (a : size s g ≤ e) (t : List ℕ) (b : Pushed ends g (size s g) l r copies s t) where
     its : e ≡ size s g
-    its = omega (arith, h .next)
+    its = omega (arith, next)
 
     old : (i : ℕ) → (i < ends + 2 * size s g) ⊎ (ends + 2 * (size s g + 1) ≤ i) → (i ≡ g + 1 → ⊥) → (i < g + 2 + 2 * size s g) ⊎ (g + 2 + 2 * (size s g + 1) ≤ i) → word t i ≡ word s i
     old i x y z =
@@ -185,7 +199,7 @@ module _ (ends g e l r copies : ℕ) (s : List ℕ) (h : Pair-fits ends g e l r 
 
     -- the last pair has ends that no other has
     not-last : (f : ℕ) → f < size s g → Has-ends t ends f l r → ⊥
-    not-last f x k = h .new a f x (has-ends-old ends (size s g) s t old-table f l r x k)
+    not-last f x k = new a f x (has-ends-old ends (size s g) s t old-table f l r x k)
 
     last-ends : Has-ends t ends (size s g) l r
     last-ends = inl (b .first, b .second)

@@ -5,6 +5,7 @@ use mathlib.Core.Path.{_≡_, refl, sym, _∙_, ap}
 use mathlib.Core.List.{List}
 use mathlib.Core.Logic.{inl, inr, ⊎-elim}
 use native.Mathlib.Omega.{arith}
+use native.Mathlib.Nat.{mul-le-mul-left}
 use native.Mathlib.Decide.{ℕ-discrete, decLt}
 use lib.ListN.{length}
 use Rattle.words.specs.Words.{word, put-word}
@@ -114,6 +115,12 @@ module _ (list : List ℕ) (rs : RowBases) (map apair : ℕ) (s₀ : List ℕ) (
   row-kept k t s a g =
       g .changes .between (rs .rows + rs .d * v + t) (omega (arith, fit .before, fit .after))
       (omega (arith, fit .after-rows, row-inside (rs .d) v t (rs .parties) party (omega (arith, fit .lens v party))))
+
+  -- the row begins below the map
+  pub row-low : rs .rows + rs .d * v ≤ map
+  row-low =
+      let less : v ≤ rs .parties = omega arith in
+      omega (arith, mul-le-mul-left (rs .d) less, fit .after-rows)
 
   -- the row lies within the words
   pub row-inside-words : (k t : ℕ) (s : List ℕ) → t < len → Going k s → rs .rows + rs .d * v + t < length s

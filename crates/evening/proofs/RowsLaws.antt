@@ -1,6 +1,6 @@
 -- The rows of half-edges: what one more half-edge does. Assumes nothing.
 use Prim.Native.Nat.{ℕ, zero, _+_, _*_, _≤_, _<_}
-use mathlib.Core.Path.{_≡_, _∙_, ap}
+use mathlib.Core.Path.{_≡_, refl, _∙_, ap}
 use mathlib.Core.List.{List}
 use native.Mathlib.Omega.{arith}
 use native.Mathlib.Decide.{ℕ-discrete}
@@ -139,37 +139,26 @@ module _ (list : List ℕ) (rs : RowBases) (s : List ℕ) (h : Rows-fit list rs 
           ]
 
       -- a place of a row is as before, or the new last one
-      below' : (w i : ℕ) → w < rs .parties → i < counter u rs w → row u rs w i < k + 1
-      below' w i a l =
+      each :
+          (P : ℕ → ℕ → Type 0) → P v k → ((w i : ℕ) → w < rs .parties → i < counter t rs w → P w (row t rs w i)) → (w i : ℕ) →
+          w < rs .parties → i < counter u rs w → P w (row u rs w i)
+      each P new old w i a l =
           elim (ℕ-discrete w v) [
             | yes y ↦
                 rw y
                 (elim (ℕ-discrete i (counter t rs v)) [
-                  | yes z ↦ rw (z, p .last) (omega arith)
+                  | yes z ↦ rw (z, p .last) new
                   | no z ↦
                       let i-old : i < counter t rs v = omega (arith, p .own-len, ap (λ n. counter u rs n) y) in
-                      rw (p .own-row i i-old) (omega (arith, x .filled .below v i v-party i-old))
+                      rw (p .own-row i i-old) (old v i v-party i-old)
                 ])
             | no y ↦
                 let i-old : i < counter t rs w = omega (arith, p .other-len w a y) in
-                rw (p .other-row w i a y (omega (arith, lens-le w a))) (omega (arith, x .filled .below w i a i-old))
+                rw (p .other-row w i a y (omega (arith, lens-le w a))) (old w i a i-old)
           ]
 
-      named' : (w i : ℕ) → w < rs .parties → i < counter u rs w → word list (row u rs w i) ≡ w
-      named' w i a l =
-          elim (ℕ-discrete w v) [
-            | yes y ↦
-                rw y
-                (elim (ℕ-discrete i (counter t rs v)) [
-                  | yes z ↦ rw (z, p .last)
-                  | no z ↦
-                      let i-old : i < counter t rs v = omega (arith, p .own-len, ap (λ n. counter u rs n) y) in
-                      rw (p .own-row i i-old) (x .filled .named v i v-party i-old)
-                ])
-            | no y ↦
-                let i-old : i < counter t rs w = omega (arith, p .other-len w a y) in
-                rw (p .other-row w i a y (omega (arith, lens-le w a))) (x .filled .named w i a i-old)
-          ]
+      below' : (w i : ℕ) → w < rs .parties → i < counter u rs w → row u rs w i < k + 1
+      below' = each (λ w f. f < k + 1) (omega arith) (λ w i a l. omega (arith, x .filled .below w i a l))
 
       order' : (w i j : ℕ) → w < rs .parties → i < j → j < counter u rs w → row u rs w i < row u rs w j
       order' w i j a l m =
@@ -211,6 +200,6 @@ module _ (list : List ℕ) (rs : RowBases) (s : List ℕ) (h : Rows-fit list rs 
       pub filled-more : Rows-filled list rs (k + 1) s u
       filled-more =
           record {
-            filled = record { lens = lens'; below = below'; named = named'; order = order'; there = there' };
+            filled = record { lens = lens'; below = below'; named = each (λ w f. word list f ≡ w) refl (x .filled .named); order = order'; there = there' };
             keeps = keeps-trans (x .keeps) (record { len = p .len; same = p .under });
           }

@@ -2,6 +2,7 @@
 use Prim.Native.Nat.{ℕ, _+_, _*_, _<_, _≤_}
 use mathlib.Core.Path.{_≡_}
 use mathlib.Core.List.{List}
+use mathlib.Core.Logic.{_⊎_}
 use lib.ListN.{length}
 use Rattle.words.specs.Frames.{Changes}
 use Rattle.words.specs.Words.{word, put-word}
@@ -30,12 +31,16 @@ pub record Has-place (ends g : ℕ) (s : List ℕ) : Type 0 where
   pub row : ends + 2 * size s g + 1 < length s
   pub entry : g + 3 + 2 * size s g < length s
 
--- There is room for one entry more, and e is the pair with the ends l and r, or, if there is none, the next number.
+-- e is the number of the pair with the ends l and r, or, if there is none, the next number
+abbrev pub Its-number : ℕ → ℕ → ℕ → ℕ → ℕ → List ℕ → Type 0
+Its-number ends g e l r s =
+    ((e < size s g) × Has-ends s ends e l r)
+    ⊎ ((e ≡ size s g) × ((f : ℕ) → f < size s g → Has-ends s ends f l r → ⊥))
+
+-- There is room for one entry more, and e is the number for the ends l and r.
 pub record Pair-fits (ends g e l r copies : ℕ) (s : List ℕ) : Type 0 where
   pub plain : Plain ends g s
-  pub there : e < size s g → Has-ends s ends e l r
-  pub new : size s g ≤ e → (f : ℕ) → f < size s g → Has-ends s ends f l r → ⊥
-  pub next : e ≤ size s g
+  pub its : Its-number ends g e l r s
   pub after-ends : ends + 2 * (size s g + 1) ≤ g
   pub inside : g + 2 + 2 * (size s g + 1) ≤ length s
   pub small : g + 2 + 2 * (size s g + 1) ≤ 4294967296

@@ -16,4 +16,4 @@ Joins list i l r = Same-ends l r (first-of list i) (second-of list i)
 
 -- appointment j is not later than i and has the ends v and w
 abbrev pub Earlier : List ℕ → ℕ → ℕ → ℕ → ℕ → Type 0
-Earlier list j i v w = (j ≤ i) × Same-ends v w (first-of list j) (second-of list j)
+Earlier list j i v w = (j ≤ i) × Joins list j v w

@@ -8,7 +8,7 @@ ghost use Rattle.evening.specs.Contract.{«Can-pad», «Sides-padded», 
 use crate::diagonal_places::diagonal_at;
 use crate::filling::even_at;
 use crate::from_list::pairs_at;
-use crate::sides::longer;
+use crate::sides::larger;
 use crate::sides::pad_side;
 use mark::Mark;
 
@@ -36,7 +36,7 @@ pub fn pad_sides(s: &mut [u32], p: usize, left: usize, l: usize, right: usize, r
     requires { ⌜ Can-pad p left l right r (now s) ⌝ }
     ensures { λ n. ⌜ Sides-padded p left l right r n (now (s .entry)) (now (s .exit)) ⌝ }
 {
-    let n = longer(l, r);
+    let n = larger(l, r);
     pad_side(s, left, l, n, p);
     pad_side(s, right, r, n, p);
     n

@@ -5,7 +5,7 @@ ghost use Rattle.evening.specs.Sides.{«Can-pad-side», Padding};
 use words::put;
 
 // The larger of two numbers.
-pub(crate) fn longer(a: usize, b: usize) -> usize
+pub(crate) fn larger(a: usize, b: usize) -> usize
     ensures { λ r. ⌜ r ≡ max a b ⌝ }
 {
     if a < b {

@@ -1,8 +1,3 @@
-use mathlib.Core.Path.{_≡_, refl, sym, _∙_, ap}
-use Prim.Native.Nat.{ℕ, _+_, _*_, _-_, _<_, _≤_, max}
-use native.Mathlib.Omega.{arith}
-use lib.ListN.{length}
-use Rattle.evening.specs.Sides.{Can-pad-side, Padding}
 use Rattle.evening.proofs.PaddingWords.{sides-padded}
 use borrow.Author.Needs.{needs}
 use Rattle.evening.proofs.pad_sides.Statement.{statement}
@@ -11,7 +6,7 @@ use Rattle.evening.proofs.pad_sides.Tie as tie
 returns : tie.Need-returns
 returns c =
     let a = c .before .before .before .before .before .before .before .before .before .before .args in
-    sides-padded (a .p) (a .left) (a .l) (a .right) (a .r) (a .s .now) (c .before .before .before .before .before .before .before .before .before .before .pre) (c .before .before .before .before .before .before .before .before .longer .result) (c .before .before .before .before .before .before .before .before .longer .ensures) (c .before .before .before .before .before .before .pad-side .last .0) (c .before .before .pad-side2 .last .0) (c .before .before .before .before .before .before .pad-side .ensures) (c .before .before .pad-side2 .ensures)
+    sides-padded (a .p) (a .left) (a .l) (a .right) (a .r) (a .s .now) (c .before .before .before .before .before .before .before .before .before .before .pre) (c .before .before .before .before .before .before .before .before .larger .result) (c .before .before .before .before .before .before .before .before .larger .ensures) (c .before .before .before .before .before .before .pad-side .last .0) (c .before .before .pad-side2 .last .0) (c .before .before .before .before .before .before .pad-side .ensures) (c .before .before .pad-side2 .ensures)
 
 pub pad-sides-spec : {M : Type 1} → statement M
 pad-sides-spec =

@@ -1,12 +1,10 @@
-use mathlib.Core.Path.{_≡_, refl, sym, _∙_, ap}
-use Prim.Native.Nat.{ℕ, _+_, _*_, _-_, _<_, _≤_, max}
+use mathlib.Core.Path.{_≡_}
+use Prim.Native.Nat.{_+_, _*_, _<_, _≤_}
 use native.Mathlib.Omega.{arith}
-use lib.ListN.{length}
-use Rattle.words.specs.Words.{word, put-word}
 use Rattle.multigraph.specs.Places.{size, copies-of}
 use Rattle.evening.proofs.Puts.{put-is}
-use Rattle.evening.specs.Adding.{pushed, Pair-fits, Pair-added}
-use Rattle.evening.proofs.PlainLaws.{pushed-words, Pushed, added-there, added-new}
+use Rattle.evening.specs.Adding.{pushed}
+use Rattle.evening.proofs.PlainLaws.{pushed-words, added-there, added-new}
 use borrow.Author.Needs.{needs}
 use Rattle.evening.proofs.adding.add_pair.Statement.{statement}
 use Rattle.evening.proofs.adding.add_pair.Tie as tie

@@ -1,9 +1,4 @@
-use mathlib.Core.Path.{_≡_, refl, sym, _∙_, ap}
-use Prim.Native.Nat.{ℕ, _+_, _*_, _-_, _<_, _≤_, max}
 use native.Mathlib.Omega.{arith}
-use lib.ListN.{length}
-use Rattle.words.specs.Words.{word, put-word}
-use Rattle.evening.specs.DiagonalPlaces.{begun}
 use borrow.Author.Needs.{needs}
 use Rattle.evening.proofs.diagonal_places.begin_place.Statement.{statement}
 use Rattle.evening.proofs.diagonal_places.begin_place.Tie as tie

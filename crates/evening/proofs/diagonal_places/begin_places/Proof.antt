@@ -1,9 +1,7 @@
-use mathlib.Core.Path.{_≡_, refl, sym, _∙_, ap}
-use Prim.Native.Nat.{ℕ, _+_, _*_, _-_, _<_, _≤_, max}
+use mathlib.Core.Path.{_≡_, refl}
+use Prim.Native.Nat.{_-_, _≤_}
 use native.Mathlib.Omega.{arith}
 use lib.ListN.{length}
-use Rattle.words.specs.Words.{word, put-word}
-use mathlib.Core.List.{List}
 use Rattle.evening.specs.DiagonalPlaces.{Diag-fit, Begun}
 use borrow.Author.Needs.{needs}
 use Rattle.evening.proofs.diagonal_places.begin_places.Statement.{statement}

@@ -1,11 +1,5 @@
-use mathlib.Core.Path.{_≡_, refl, sym, _∙_, ap}
-use Prim.Native.Nat.{ℕ, _+_, _*_, _-_, _<_, _≤_, max}
-use native.Mathlib.Omega.{arith}
-use lib.ListN.{length}
-use Rattle.words.specs.Words.{word, put-word}
-use mathlib.Core.List.{List}
 use Rattle.multigraph.specs.Places.{size}
-use Rattle.evening.specs.DiagonalPlaces.{Diag-fit, Begun, Diag-ready, Looked}
+use Rattle.evening.specs.DiagonalPlaces.{Begun, Looked}
 use Rattle.evening.proofs.DiagonalLaws.{diag-fit, diagonal-set}
 use borrow.Author.Needs.{needs}
 use Rattle.evening.proofs.diagonal_places.diagonal_at.Statement.{statement}

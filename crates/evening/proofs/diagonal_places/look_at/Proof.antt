@@ -1,8 +1,4 @@
-use mathlib.Core.Path.{_≡_, refl, sym, _∙_, ap}
-use Prim.Native.Nat.{ℕ, _+_, _*_, _-_, _<_, _≤_, max}
 use native.Mathlib.Omega.{arith}
-use lib.ListN.{length}
-use Rattle.words.specs.Words.{word, put-word}
 use borrow.Author.Needs.{needs}
 use Rattle.evening.proofs.diagonal_places.look_at.Statement.{statement}
 use Rattle.evening.proofs.diagonal_places.look_at.Tie as tie

@@ -1,7 +1,6 @@
 use mathlib.Core.Path.{refl}
 use native.Mathlib.Omega.{arith}
 use mathlib.Core.Logic.{inl, inr, ⊎-elim}
-use Rattle.multigraph.specs.Regular.{Same-ends}
 use Rattle.evening.specs.Ends.{Says, Joins}
 use borrow.Author.Needs.{needs}
 use Rattle.evening.proofs.ends.earlier.Statement.{statement}

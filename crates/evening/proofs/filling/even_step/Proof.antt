@@ -1,8 +1,5 @@
-use mathlib.Core.Path.{_≡_, refl, sym, _∙_, ap}
-use Prim.Native.Nat.{ℕ, _+_, _*_, _-_, _<_, _≤_, max}
+use mathlib.Core.Path.{_≡_, refl, sym, _∙_}
 use native.Mathlib.Omega.{arith}
-use lib.ListN.{length}
-use Rattle.words.specs.Words.{word, put-word}
 use Rattle.evening.specs.Rows.{counter}
 use Rattle.evening.specs.Filling.{next-left, next-right, all-passed, left-full, none-right, right-full, both-short}
 use borrow.Author.Needs.{needs}

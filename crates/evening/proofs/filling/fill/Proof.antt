@@ -1,8 +1,6 @@
-use mathlib.Core.Path.{_≡_, refl, sym, _∙_, ap}
-use Prim.Native.Nat.{ℕ, _+_, _*_, _-_, _<_, _≤_, max}
+use mathlib.Core.Path.{_≡_}
+use Prim.Native.Nat.{_-_}
 use native.Mathlib.Omega.{arith}
-use lib.ListN.{length}
-use Rattle.words.specs.Words.{word, put-word}
 use Prim.Native.Nat.{min}
 use Rattle.evening.proofs.FillingWords.{filled-by}
 use borrow.Author.Needs.{needs}

@@ -1,9 +1,5 @@
-use mathlib.Core.Path.{_≡_, refl, sym, _∙_, ap}
-use Prim.Native.Nat.{ℕ, _+_, _*_, _-_, _<_, _≤_, max}
+use Prim.Native.Nat.{_-_, _≤_}
 use native.Mathlib.Omega.{arith}
-use lib.ListN.{length}
-use Rattle.words.specs.Words.{word, put-word}
-use Prim.Native.Nat.{_/_}
 use Rattle.evening.proofs.FillingWords.{Missed, missed-none, missed-more, found-here, found-none, row-small}
 use borrow.Author.Needs.{needs}
 use Rattle.evening.proofs.filling.find_pair.Statement.{statement}

@@ -1,10 +1,7 @@
-use mathlib.Core.Path.{_≡_, refl, sym, _∙_, ap}
-use Prim.Native.Nat.{ℕ, _+_, _*_, _-_, _<_, _≤_, max}
+use mathlib.Core.Path.{_≡_}
 use native.Mathlib.Omega.{arith}
-use lib.ListN.{length}
-use Rattle.words.specs.Words.{word, put-word}
 use Rattle.evening.specs.Contract.{first-of, second-of}
-use Rattle.evening.specs.Adding.{Pair-fits, Pair-added}
+use Rattle.evening.specs.Adding.{Pair-added}
 use Rattle.evening.specs.FromList.{pair-of}
 use Rattle.evening.proofs.BuildingLaws.{has-place, fits, built}
 use borrow.Author.Needs.{needs}
@@ -23,8 +20,11 @@ returns c =
     let ee : c .before .before .before .before .before .before .before .before .before .before .before .pair-of .result ≡ pair-of (a .at .g) (a .at .apair) (a .i) (a .s .now) = c .before .before .before .before .before .before .before .before .before .before .before .pair-of .ensures in
     let ex : c .before .before .before .before .before .before .before .before .before .before .half-word-at .result ≡ first-of (a .list .now) (a .i) = c .before .before .before .before .before .before .before .before .before .before .half-word-at .ensures .0 in
     let ey : c .before .before .before .before .before .before .before .before .before .half-word-at2 .result ≡ second-of (a .list .now) (a .i) = c .before .before .before .before .before .before .before .before .before .half-word-at2 .ensures .0 in
-    let add : Pair-added (a .at .ends) (a .at .g) (pair-of (a .at .g) (a .at .apair) (a .i) (a .s .now)) (first-of (a .list .now) (a .i)) (second-of (a .list .now) (a .i)) 1 (a .s .now) (c .before .before .before .before .before .before .before .add-pair .last .0) = (rw (ee, ex, ey) at (c .before .before .before .before .before .before .before .add-pair .ensures)) (fits (a .list .now) (a .at) (a .i) (a .s .now) (c .before .before .before .before .before .before .before .before .before .before .before .before .before .before .before .pre .0) (c .before .before .before .before .before .before .before .before .before .before .before .before .before .before .before .pre .1) (omega (arith, ex)) (omega (arith, ey))) in
-    built (a .list .now) (a .at) (a .i) (a .s .now) (c .before .before .before .before .before .before .before .before .before .before .before .before .before .before .before .pre .0) (c .before .before .before .before .before .before .before .before .before .before .before .before .before .before .before .pre .1) (c .before .before .before .before .before .before .before .add-pair .last .0) (c .before .before .set-word .last .0) add (rw ee at (c .before .before .set-word .ensures))
+    let h = c .before .before .before .before .before .before .before .before .before .before .before .before .before .before .before .pre .0 in
+    let inside = c .before .before .before .before .before .before .before .before .before .before .before .before .before .before .before .pre .1 in
+    let fit = fits (a .list .now) (a .at) (a .i) (a .s .now) h inside (omega (arith, ex)) (omega (arith, ey)) in
+    let add : Pair-added (a .at .ends) (a .at .g) (pair-of (a .at .g) (a .at .apair) (a .i) (a .s .now)) (first-of (a .list .now) (a .i)) (second-of (a .list .now) (a .i)) 1 (a .s .now) (c .before .before .before .before .before .before .before .add-pair .last .0) = (rw (ee, ex, ey) at (c .before .before .before .before .before .before .before .add-pair .ensures)) fit in
+    built (a .list .now) (a .at) (a .i) (a .s .now) h inside fit (c .before .before .before .before .before .before .before .add-pair .last .0) (c .before .before .set-word .last .0) add (rw ee at (c .before .before .set-word .ensures))
 
 pub add-appointment-spec : {M : Type 1} → statement M
 add-appointment-spec =

@@ -1,9 +1,3 @@
-use mathlib.Core.Path.{_≡_, refl, sym, _∙_, ap}
-use Prim.Native.Nat.{ℕ, _+_, _*_, _-_, _<_, _≤_, max}
-use native.Mathlib.Omega.{arith}
-use lib.ListN.{length}
-use Rattle.words.specs.Words.{word, put-word}
-use mathlib.Core.List.{List}
 use borrow.Author.Needs.{needs}
 use Rattle.evening.proofs.from_list.pairs_at.Statement.{statement}
 use Rattle.evening.proofs.from_list.pairs_at.Tie as tie

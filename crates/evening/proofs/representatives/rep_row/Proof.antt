@@ -1,15 +1,11 @@
-use mathlib.Core.Path.{_≡_, refl, sym, _∙_, ap}
-use Prim.Native.Nat.{ℕ, _+_, _*_, _-_, _<_, _≤_, max}
+use mathlib.Core.Path.{_≡_, refl, _∙_}
+use Prim.Native.Nat.{_+_, _*_, _-_, _<_, _≤_}
 use native.Mathlib.Omega.{arith}
 use lib.ListN.{length}
-use Rattle.words.specs.Words.{word, put-word}
-use mathlib.Core.List.{List}
-use Prim.Native.Nat.{_/_}
-use native.Mathlib.Nat.{mul-le-mul-left}
 use Rattle.evening.specs.Rows.{row, counter}
 use Rattle.evening.specs.declared.rows.RowBases.{RowBases}
-use Rattle.evening.specs.Representatives.{Reps-fit, Row-done}
-use Rattle.evening.proofs.RepsLaws.{Going, going-none, going-more, row-kept, row-inside-words, finds, row-done}
+use Rattle.evening.specs.Representatives.{Reps-fit}
+use Rattle.evening.proofs.RepsLaws.{Going, going-none, going-more, row-kept, row-low, row-inside-words, finds, row-done}
 use borrow.Author.Needs.{needs}
 use Rattle.evening.proofs.representatives.rep_row.Statement.{statement}
 use Rattle.evening.proofs.representatives.rep_row.Tie as tie
@@ -26,14 +22,12 @@ abbrev μ-loop : tie.MeasureT-loop
 mul-from : tie.Need-mul-from Inv-loop μ-loop
 mul-from c =
     let a = c .before .before .before .before .before .before .args in
-    let less : a .v ≤ a .at .parties = omega (arith, c .before .before .before .before .before .before .pre .1) in
-    omega (arith, mul-le-mul-left (a .at .d) less, c .before .before .before .before .before .before .pre .0 .after-rows, c .before .before .before .before .before .before .pre .0 .small)
+    omega (arith, row-low (a .list .now) (a .at) (a .map) (a .apair) (a .s .now) (c .before .before .before .before .before .before .pre .0) (a .v) (c .before .before .before .before .before .before .pre .1), c .before .before .before .before .before .before .pre .0 .small)
 
 add-from : tie.Need-add-from Inv-loop μ-loop
 add-from c =
     let a = c .before .before .before .before .before .before .before .args in
-    let less : a .v ≤ a .at .parties = omega (arith, c .before .before .before .before .before .before .before .pre .1) in
-    omega (arith, mul-le-mul-left (a .at .d) less, c .before .before .before .before .before .before .before .pre .0 .after-rows, c .before .before .before .before .before .before .before .pre .0 .small)
+    omega (arith, row-low (a .list .now) (a .at) (a .map) (a .apair) (a .s .now) (c .before .before .before .before .before .before .before .pre .0) (a .v) (c .before .before .before .before .before .before .before .pre .1), c .before .before .before .before .before .before .before .pre .0 .small)
 
 loop-holds : tie.Need-loop-holds Inv-loop μ-loop
 loop-holds c =
@@ -43,8 +37,7 @@ loop-holds c =
 add-word-at-2 : tie.Need-add-word-at-2 Inv-loop μ-loop
 add-word-at-2 c =
     let a = c .before .before .before .before .before .before .before .before .before .before .args in
-    let less : a .v ≤ a .at .parties = omega (arith, c .before .before .before .before .before .before .before .before .before .before .pre .1) in
-    omega (arith, mul-le-mul-left (a .at .d) less, c .before .before .before .before .before .before .before .before .before .before .pre .0 .after-rows, c .before .before .before .before .before .before .before .before .before .before .pre .0 .small, c .before .before .before .before .before .word-at .ensures .1)
+    omega (arith, row-low (a .list .now) (a .at) (a .map) (a .apair) (a .s .now) (c .before .before .before .before .before .before .before .before .before .before .pre .0) (a .v) (c .before .before .before .before .before .before .before .before .before .before .pre .1), c .before .before .before .before .before .before .before .before .before .before .pre .0 .small, c .before .before .before .before .before .word-at .ensures .1)
 
 word-at-requires-2 : tie.Need-word-at-requires-2 Inv-loop μ-loop
 word-at-requires-2 c κs =

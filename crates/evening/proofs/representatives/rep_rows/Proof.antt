@@ -1,10 +1,8 @@
-use mathlib.Core.Path.{_≡_, refl, sym, _∙_, ap}
-use Prim.Native.Nat.{ℕ, _+_, _*_, _-_, _<_, _≤_, max}
+use mathlib.Core.Path.{_≡_, refl}
+use Prim.Native.Nat.{_-_, _≤_}
 use native.Mathlib.Omega.{arith}
 use lib.ListN.{length}
-use Rattle.words.specs.Words.{word, put-word}
-use mathlib.Core.List.{List}
-use Rattle.evening.specs.Representatives.{Reps-fit, Row-done, Reps-done}
+use Rattle.evening.specs.Representatives.{Reps-fit, Reps-done}
 use Rattle.evening.proofs.RepsLaws.{reps-none, reps-more, reps-fit-kept}
 use borrow.Author.Needs.{needs}
 use Rattle.evening.proofs.representatives.rep_rows.Statement.{statement}

@@ -1,9 +1,9 @@
-use mathlib.Core.Path.{_≡_, refl, sym, _∙_, ap}
-use Prim.Native.Nat.{ℕ, _+_, _*_, _-_, _<_, _≤_, max}
+use mathlib.Core.Path.{_≡_, refl}
+use Prim.Native.Nat.{ℕ, _-_, _<_, _≤_}
 use native.Mathlib.Omega.{arith}
 use native.Mathlib.Nat.{mul-le-mul-left}
 use lib.ListN.{length}
-use Rattle.words.specs.Words.{word, put-word}
+use Rattle.words.specs.Words.{word}
 use mathlib.Core.List.{List}
 use Rattle.evening.specs.Rows.{Rows-fit, Rows-filled}
 use Rattle.evening.proofs.RowsLaws.{filled-none, filled-more, pushes}
