@@ -1,4 +1,5 @@
-// Adding copies to a graph in which the entry at place i has number i, so that a pair's number is its place.
+// Copies are added to a pair, or the pair is new: `add_edge` of module 1, in a graph in which the entry at place i has number i, so
+// that a pair's number is its place. The graph at g: a header, how many pairs it has, and for each its number and its copies.
 ghost use mathlib.Core.Path.{_≡_};
 ghost use Prim.Native.Nat.{_+_, _*_, _<_};
 ghost use lib.ListN.{length};
@@ -7,7 +8,7 @@ ghost use Rattle.evening.specs.Adding.{pushed, «Has-place», «Adds-pai
 use words::set_word;
 use words::word_at;
 
-// Adds to the word at `at`.
+// Adds `more` to the word at `at`.
 fn add_to(s: &mut [u32], at: usize, more: usize)
     requires { ⌜ more < 4294967296 ⌝ }
     requires { ⌜ at < length (now s) ⌝ }
@@ -17,7 +18,8 @@ fn add_to(s: &mut [u32], at: usize, more: usize)
     set_word(s, at, c + more);
 }
 
-// A new pair, the last one of the graph at `g`, which has `m`.
+// A new pair with the ends `l` and `r`, the last one of the graph at `g`, which has `m`: its row in the table of ends, its entry, and
+// one pair more.
 fn push_pair(s: &mut [u32], ends: usize, g: usize, m: usize, l: usize, r: usize, copies: usize)
     requires { ⌜ ends < 4294967296 ⌝ }
     requires { ⌜ g < 4294967296 ⌝ }

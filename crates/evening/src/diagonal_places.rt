@@ -1,4 +1,6 @@
-// The diagonal: the pairs of left i and right i.
+// The diagonal: the pairs of left i and right i, to which the search for a matching (module 5) adds copies. Place i of the diagonal is
+// left i and right i; its pair's number goes to `diag + i`. Each party's place stands at `b` plus the party. Of a graph with m pairs
+// the numbers from m on are free: the row m + i of the table of ends is place i's own.
 ghost use mathlib.Core.Path.{_≡_};
 ghost use Prim.Native.Nat.{_+_, _<_};
 ghost use Rattle.words.specs.Words.{word};
@@ -10,7 +12,7 @@ use words::get;
 use words::set_word;
 use words::word_at;
 
-// Place `i`: both parties learn it, its number is `m + i` for now, and the row of that number has its ends.
+// Place `i` begins: both parties learn it, its number is `m + i` for now, and the row of that number has its ends.
 fn begin_place(s: &mut [u32], at: Bases, diag: usize, b: usize, m: usize, i: usize)
     requires { ⌜ Diag-small at diag b × (m < 4294967296) × (i < 4294967296) ⌝ }
     requires { ⌜ Begins at diag b m i (now s) ⌝ }
@@ -25,7 +27,7 @@ fn begin_place(s: &mut [u32], at: Bases, diag: usize, b: usize, m: usize, i: usi
     set_word(s, at.ends + 2 * (m + i) + 1, r);
 }
 
-// All places.
+// All `n` places begin.
 fn begin_places(s: &mut [u32], at: Bases, diag: usize, b: usize, m: usize, n: usize)
     requires { ⌜ Diag-fit n at diag b m (now s) ⌝ }
     ensures { λ x. ⌜ Begun n at diag b m n (now (s .entry)) (now (s .exit)) ⌝ }
@@ -59,7 +61,7 @@ fn look_at(s: &mut [u32], at: Bases, diag: usize, b: usize, n: usize, e: usize)
     set_word(s, diag + i, e);
 }
 
-// All pairs, of which there are `m`.
+// All pairs are looked at, of which there are `m`.
 fn look_at_pairs(s: &mut [u32], at: Bases, diag: usize, b: usize, n: usize, m: usize)
     requires { ⌜ Diag-ready n at diag b m (now s) ⌝ }
     ensures { λ x. ⌜ Looked n at diag m m (now (s .entry)) (now (s .exit)) ⌝ }

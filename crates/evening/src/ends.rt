@@ -1,4 +1,4 @@
-// Has an appointment, or a pair, two given ends, whichever way round?
+// Has an appointment, or a pair, two given ends, whichever way round? The answer is 1 or 0.
 ghost use Prim.Native.Nat.{_+_, _*_, _<_};
 ghost use lib.ListN.{length};
 ghost use Rattle.multigraph.specs.Regular.{«Same-ends»};
@@ -6,7 +6,7 @@ ghost use Rattle.evening.specs.Ends.{Says, Earlier, Joins};
 use words::get16;
 use words::half_word_at;
 
-// Are x and y the ends a and b, one way round or the other?
+// Are `x` and `y` the ends `a` and `b`, one way round or the other?
 pub(crate) fn same_ends(a: usize, b: usize, x: usize, y: usize) -> usize
     requires { ⌜ (a < 4294967296) × (b < 4294967296) × (x < 4294967296) × (y < 4294967296) ⌝ }
     ensures { λ r. ⌜ Says r (Same-ends a b x y) ⌝ }

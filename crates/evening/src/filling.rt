@@ -1,4 +1,5 @@
-// Evening out.
+// Evening out: module 8, "from the first left and first right party below D, the smaller shortfall is added as copies, moving on when
+// a party is full". A party's degree stands in its counter of the rows: at first that is how many half-edges it has.
 ghost use mathlib.Core.Path.{_≡_};
 ghost use Prim.Native.Nat.{_+_, _-_, _<_, min};
 ghost use Rattle.evening.specs.Contract.{«Can-even», «Evened-out»};
@@ -12,12 +13,13 @@ use crate::rows::fill_rows;
 use words::get;
 use words::put;
 
-// How many parties have been passed on the left and on the right.
+// How many parties have been passed on the left and on the right: the next ones are at these places of their sides.
 struct Passed {
     l: usize,
     r: usize,
 }
 
+// The smaller of two numbers.
 fn smaller(a: usize, b: usize) -> usize
     ensures { λ r. ⌜ r ≡ min a b ⌝ }
 {
@@ -27,7 +29,7 @@ fn smaller(a: usize, b: usize) -> usize
     b
 }
 
-// What x lacks of d.
+// What `x` lacks of `d`.
 fn lacks(d: usize, x: usize) -> usize
     ensures { λ r. ⌜ r ≡ d - x ⌝ }
 {
@@ -56,7 +58,7 @@ fn find_pair(s: &[u32], list: &[u16], at: Bases, rows: RowBases, l: usize, r: us
     get(s, at.g + 1)
 }
 
-// Adds the smaller shortfall of `l` and `r` as copies of their pair.
+// Adds the smaller shortfall of `l` and `r` as copies of their pair, and to both degrees.
 fn fill(s: &mut [u32], list: &[u16], at: Bases, rows: RowBases, l: usize, r: usize)
     requires { ⌜ Fill-small at rows × (l < 4294967296) × (r < 4294967296) ⌝ }
     requires { ⌜ Has-place (at .ends) (at .g) (now s) ⌝ }
@@ -73,35 +75,35 @@ fn fill(s: &mut [u32], list: &[u16], at: Bases, rows: RowBases, l: usize, r: usi
 
 // One step: a full party is passed, or the smaller shortfall of two short ones is added. After the last left party nothing
 // happens.
-fn even_step(s: &mut [u32], list: &[u16], at: Bases, rows: RowBases, n: usize, st: Passed) -> Passed
+fn even_step(s: &mut [u32], list: &[u16], at: Bases, rows: RowBases, n: usize, passed: Passed) -> Passed
     requires { ⌜ Fill-small at rows × (n < 4294967296) ⌝ }
-    requires { ⌜ (st .l < n → Has-place (at .ends) (at .g) (now s)) ⌝ }
-    ensures { λ x. ⌜ Step-taken (now (list .entry)) at rows n (now (s .entry)) (now (s .exit)) (st .l) (st .r) (x .l) (x .r) ⌝ }
+    requires { ⌜ (passed .l < n → Has-place (at .ends) (at .g) (now s)) ⌝ }
+    ensures { λ x. ⌜ Step-taken (now (list .entry)) at rows n (now (s .entry)) (now (s .exit)) (passed .l) (passed .r) (x .l) (x .r) ⌝ }
 {
-    if st.l >= n {
-        return st;
+    if passed.l >= n {
+        return passed;
     }
-    let l = get(s, at.left + st.l);
+    let l = get(s, at.left + passed.l);
     let dl = get(s, rows.counts + l);
     if dl == rows.d {
         return Passed {
-            l: st.l + 1,
-            r: st.r,
+            l: passed.l + 1,
+            r: passed.r,
         };
     }
-    if st.r >= n {
-        return st;
+    if passed.r >= n {
+        return passed;
     }
-    let r = get(s, at.right + st.r);
+    let r = get(s, at.right + passed.r);
     let dr = get(s, rows.counts + r);
     if dr == rows.d {
         return Passed {
-            l: st.l,
-            r: st.r + 1,
+            l: passed.l,
+            r: passed.r + 1,
         };
     }
     fill(s, list, at, rows, l, r);
-    st
+    passed
 }
 
 // The same as `even_out`, where the words from `u` on are free.
@@ -117,10 +119,10 @@ pub(crate) fn even_at(s: &mut [u32], u: usize, list: &[u16], d: usize, n: usize,
     };
     fill_rows(s, list, rows);
     let steps = 2 * (n + n);
-    let mut st = Passed { l: 0, r: 0 };
+    let mut passed = Passed { l: 0, r: 0 };
     let mut k = 0;
     while k < steps {
-        st = even_step(s, list, at, rows, n, st);
+        passed = even_step(s, list, at, rows, n, passed);
         k += 1;
     }
 }

@@ -1,4 +1,4 @@
-// The pairs of the list, one appointment after the other.
+// The pairs of the list, one appointment after the other: module 8, "pairs from the list".
 ghost use mathlib.Core.Path.{_≡_};
 ghost use Prim.Native.Nat.{_+_, _/_, _<_};
 ghost use lib.ListN.{length};
@@ -29,7 +29,7 @@ fn pair_of(s: &[u32], g: usize, apair: usize, i: usize) -> usize
     word_at(s, g + 1)
 }
 
-// One copy for appointment `i`.
+// One copy for appointment `i`: its pair gets it, and the pair's number takes the place of the representative.
 fn add_appointment(s: &mut [u32], list: &[u16], at: Bases, i: usize)
     requires { ⌜ Building (now list) at i (now s) ⌝ }
     requires { do ⌜ i < (← ⟦list.len()⟧) / 2 ⌝ }

@@ -1,5 +1,6 @@
 // The first half of module 8 of document 01, `bipartite_edge_color_given_partition`, over scratch words: the pairs of a list,
-// new parties on the shorter side, evening out, and the numbers of the pairs on the diagonal.
+// new parties on the shorter side, evening out, and the numbers of the pairs on the diagonal. Here stand the public steps; those
+// that need words take them from the mark and call a function `.._at`, which goes by numbers.
 //
 // In the graph built here the entry at place i has number i, so a pair's number is its place.
 ghost use mathlib.Core.Path.{_≡_};
@@ -12,16 +13,17 @@ use crate::sides::larger;
 use crate::sides::pad_side;
 use mark::Mark;
 
-mod sides;
-mod adding;
-mod rows;
-mod ends;
-mod representatives;
-mod from_list;
-mod filling;
-mod diagonal_places;
+mod adding; // copies are added to a pair, or the pair is new
+mod diagonal_places; // the diagonal: the pairs of left i and right i
+mod ends; // has an appointment or a pair these two ends?
+mod filling; // evening out
+mod from_list; // the pairs of the list
+mod representatives; // for each appointment an earlier one with its ends
+mod rows; // each party's half-edges side by side
+mod sides; // new parties on the shorter side
 
-// Where things lie: the parties of both sides, the table of ends, each appointment's pair, the graph.
+// Where things lie: the parties of the left and of the right side; the table of ends, two words for each pair; the number of each
+// appointment's pair; the graph. A contract that speaks of them calls the whole `at`.
 pub struct Bases {
     pub left: usize,
     pub right: usize,

@@ -1,6 +1,7 @@
-// Representatives. Appointments with the same ends are found in linear time: the rows are gone through one after the other, and
-// a map from parties to appointments has, for each other end met in the row, the first appointment with it. The map is never
-// cleared: what stands in it is looked at.
+// Representatives: for each appointment one that is not later and has the same ends, and an earlier one if there is any.
+// They are found in linear time: the rows are gone through one after the other, and a map from parties to appointments, at
+// `map`, has for each other end met in the row the first appointment with it. The map is never cleared: what stands in it is looked
+// at. The representative of appointment i goes to `apair + i`, where later its pair's number will stand.
 ghost use mathlib.Core.Path.{_≡_};
 ghost use Prim.Native.Nat.{_<_};
 ghost use Rattle.evening.specs.Representatives.{mate, Finds, «Rep-found», «Reps-fit», «Row-done», «Reps-done»};
@@ -10,7 +11,7 @@ use words::half_word_at;
 use words::set_word;
 use words::word_at;
 
-// The half-edge at the other end.
+// The half-edge at the other end of the same appointment.
 fn other_half(h: usize) -> usize
     requires { ⌜ h < 4294967296 ⌝ }
     ensures { λ r. ⌜ r ≡ mate h ⌝ }
@@ -18,7 +19,8 @@ fn other_half(h: usize) -> usize
     2 * (h / 2) + (1 - h % 2)
 }
 
-// The representative of the appointment of half-edge `h`.
+// The representative of the appointment of half-edge `h`: what the map has for the other end, if that is an earlier appointment with
+// its ends; else itself, and the map has it from now on.
 fn find_rep(s: &mut [u32], list: &[u16], map: usize, apair: usize, h: usize)
     requires { ⌜ (map < 4294967296) × (apair < 4294967296) × (h < 4294967296) ⌝ }
     requires { ⌜ Finds (now list) map apair h (now s) ⌝ }
@@ -38,7 +40,7 @@ fn find_rep(s: &mut [u32], list: &[u16], map: usize, apair: usize, h: usize)
     set_word(s, map + w, i);
 }
 
-// The representatives of the appointments of party `v`.
+// The representatives of the appointments of party `v`, whose row is gone through.
 fn rep_row(s: &mut [u32], list: &[u16], at: RowBases, map: usize, apair: usize, v: usize)
     requires { ⌜ Reps-fit (now list) at map apair (now s) ⌝ }
     requires { ⌜ v < at .parties ⌝ }

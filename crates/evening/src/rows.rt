@@ -1,5 +1,5 @@
-// Rows of half-edges. A position `h` of the flat list is a half-edge of the party that stands there. A party's half-edges lie
-// side by side in its row of d words; how many they are stands at `b` plus the party.
+// Rows of half-edges. A position `h` of the flat list is a half-edge of the party that stands there: appointment i has the half-edges
+// 2·i and 2·i + 1. A party's half-edges lie side by side in its row, in list order, and a counter says how many they are.
 ghost use mathlib.Core.Path.{_≡_};
 ghost use Prim.Native.Nat.{_+_, _*_, _<_, _≤_};
 ghost use lib.ListN.{length};
@@ -9,8 +9,8 @@ use words::half_word_at;
 use words::set_word;
 use words::word_at;
 
-// Where the rows lie: how many parties have one, the words of each, where the counters stand (the party's number further is how
-// many half-edges are in its row), and where the rows stand, party 0's first.
+// Where the rows lie: how many parties have one; the words of each, d; where the counters stand, one for each party; and where the
+// rows stand, that of party 0 first.
 pub(crate) struct RowBases {
     pub parties: usize,
     pub d: usize,
@@ -18,6 +18,7 @@ pub(crate) struct RowBases {
     pub rows: usize,
 }
 
+// Sets the `n` words at `b` to 0.
 fn clear_words(s: &mut [u32], b: usize, n: usize)
     requires { do ⌜ b + n ≤ (← ⟦s.len()⟧) ⌝ }
     ensures { λ r. ⌜ Cleared b n (now (s .entry)) (now (s .exit)) ⌝ }

@@ -11,11 +11,11 @@ use Rattle.evening.proofs.filling.even_at.Statement.{statement}
 use Rattle.evening.proofs.filling.even_at.Tie as tie
 
 abbrev Inv-loop : tie.InvT-loop
-Inv-loop s₀ u list d n at rows steps st₀ k₀ s st k =
-    (k ≤ steps) × (length s ≡ length s₀) × ((first : List ℕ) (h : Evens-at list d n at u first) (x : Rows-filled list (rows-from (n + n) d u) (length list) first s₀) → At list d n at u first h s₀ x k (st .l) (st .r) s)
+Inv-loop s₀ u list d n at rows steps passed₀ k₀ s passed k =
+    (k ≤ steps) × (length s ≡ length s₀) × ((first : List ℕ) (h : Evens-at list d n at u first) (x : Rows-filled list (rows-from (n + n) d u) (length list) first s₀) → At list d n at u first h s₀ x k (passed .l) (passed .r) s)
 
 abbrev μ-loop : tie.MeasureT-loop
-μ-loop s₀ u list d n at rows steps st₀ k₀ s st k = steps - k
+μ-loop s₀ u list d n at rows steps passed₀ k₀ s passed k = steps - k
 
 fill-rows-requires : tie.Need-fill-rows-requires Inv-loop μ-loop
 fill-rows-requires c κs =
@@ -34,14 +34,14 @@ even-step-requires c κs =
     let lp = c .before .before .loop in
     let x = c .before .before .before .before .before .fill-rows .ensures in (
       (fill-small (a .list .now) (a .d) (a .n) (a .at) (a .u) (a .s .now) h, omega (arith, h .low)),
-      λ below. at-place (a .list .now) (a .d) (a .n) (a .at) (a .u) (a .s .now) h (c .before .before .before .before .before .fill-rows .last .0) x (lp .k) (lp .st .l) (lp .st .r) (lp .s) (lp .inv .2 (a .s .now) h x) (omega arith),
+      λ below. at-place (a .list .now) (a .d) (a .n) (a .at) (a .u) (a .s .now) h (c .before .before .before .before .before .fill-rows .last .0) x (lp .k) (lp .passed .l) (lp .passed .r) (lp .s) (lp .inv .2 (a .s .now) h x) (omega arith),
     )
 
 loop-again : tie.Need-loop-again Inv-loop μ-loop
 loop-again c =
     let a = c .before .before .before .before .before .before .before .before .before .before .before .before .args in
     let lp = c .before .before .before .before .before .loop in
-    (search needs, search needs, λ first h x. at-more (a .list .now) (a .d) (a .n) (a .at) (a .u) first h (c .before .before .before .before .before .before .before .before .fill-rows .last .0) x (lp .k) (lp .st .l) (lp .st .r) (c .before .before .even-step .result .l) (c .before .before .even-step .result .r) (lp .s) (c .before .before .even-step .last .0) (lp .inv .2 first h x) (c .before .before .even-step .ensures))
+    (search needs, search needs, λ first h x. at-more (a .list .now) (a .d) (a .n) (a .at) (a .u) first h (c .before .before .before .before .before .before .before .before .fill-rows .last .0) x (lp .k) (lp .passed .l) (lp .passed .r) (c .before .before .even-step .result .l) (c .before .before .even-step .result .r) (lp .s) (c .before .before .even-step .last .0) (lp .inv .2 first h x) (c .before .before .even-step .ensures))
 
 returns : tie.Need-returns Inv-loop μ-loop
 returns c =
@@ -49,7 +49,7 @@ returns c =
     let lp = c .before .loop in
     let x = c .before .before .before .before .fill-rows .ensures in
     let e : lp .k ≡ 2 * (a .n + a .n) = omega arith in
-    evened-out (a .list .now) (a .d) (a .n) (a .at) (a .u) (a .s .now) (c .before .before .before .before .before .before .before .before .pre) (c .before .before .before .before .fill-rows .last .0) x (lp .st .l) (lp .st .r) (lp .s) (rw e at (lp .inv .2 (a .s .now) (c .before .before .before .before .before .before .before .before .pre) x))
+    evened-out (a .list .now) (a .d) (a .n) (a .at) (a .u) (a .s .now) (c .before .before .before .before .before .before .before .before .pre) (c .before .before .before .before .fill-rows .last .0) x (lp .passed .l) (lp .passed .r) (lp .s) (rw e at (lp .inv .2 (a .s .now) (c .before .before .before .before .before .before .before .before .pre) x))
 
 pub even-at-spec : {M : Type 1} → statement M
 even-at-spec =

@@ -12,13 +12,13 @@ returns c = all-passed (omega arith) refl refl refl
 returns-2 : tie.Need-returns-2
 returns-2 c =
     let a = c .before .before .before .before .before .before .before .before .before .before .before .before .before .before .args in
-    let e : counter (a .s .now) (a .rows) (next-left (a .at) (a .s .now) (a .st .l)) ≡ c .before .before .before .get2 .result = rw (c .before .before .before .before .before .before .get .ensures .0) at (sym (c .before .before .before .get2 .ensures .0)) in
+    let e : counter (a .s .now) (a .rows) (next-left (a .at) (a .s .now) (a .passed .l)) ≡ c .before .before .before .get2 .result = rw (c .before .before .before .before .before .before .get .ensures .0) at (sym (c .before .before .before .get2 .ensures .0)) in
     left-full (omega (arith, c .before .before .before .before .before .before .before .before .before .before .if1 .left)) (e ∙ c .before .if2 .taken) refl refl refl
 
 returns-3 : tie.Need-returns-3
 returns-3 c =
     let a = c .before .before .before .before .before .before .before .before .before .before .before .before .before .before .before .args in
-    let e : counter (a .s .now) (a .rows) (next-left (a .at) (a .s .now) (a .st .l)) ≡ c .before .before .before .before .get2 .result = rw (c .before .before .before .before .before .before .before .get .ensures .0) at (sym (c .before .before .before .before .get2 .ensures .0)) in
+    let e : counter (a .s .now) (a .rows) (next-left (a .at) (a .s .now) (a .passed .l)) ≡ c .before .before .before .before .get2 .result = rw (c .before .before .before .before .before .before .before .get .ensures .0) at (sym (c .before .before .before .before .get2 .ensures .0)) in
     none-right (omega (arith, c .before .before .before .before .before .before .before .before .before .before .before .if1 .left)) (λ q. c .before .before .if2 .left (sym e ∙ q)) (omega arith) refl refl refl
 
 add-get-4 : tie.Need-add-get-4
@@ -30,8 +30,8 @@ add-t22 c = omega (arith, c .before .before .before .before .before .before .bef
 returns-4 : tie.Need-returns-4
 returns-4 c =
     let a = c .before .before .before .before .before .before .before .before .before .before .before .before .before .before .before .before .before .before .before .before .before .before .before .before .before .args in
-    let e : counter (a .s .now) (a .rows) (next-left (a .at) (a .s .now) (a .st .l)) ≡ c .before .before .before .before .before .before .before .before .before .before .before .before .before .before .get2 .result = rw (c .before .before .before .before .before .before .before .before .before .before .before .before .before .before .before .before .before .get .ensures .0) at (sym (c .before .before .before .before .before .before .before .before .before .before .before .before .before .before .get2 .ensures .0)) in
-    let f : counter (a .s .now) (a .rows) (next-right (a .at) (a .s .now) (a .st .r)) ≡ c .before .before .before .get4 .result = rw (c .before .before .before .before .before .before .get3 .ensures .0) at (sym (c .before .before .before .get4 .ensures .0)) in
+    let e : counter (a .s .now) (a .rows) (next-left (a .at) (a .s .now) (a .passed .l)) ≡ c .before .before .before .before .before .before .before .before .before .before .before .before .before .before .get2 .result = rw (c .before .before .before .before .before .before .before .before .before .before .before .before .before .before .before .before .before .get .ensures .0) at (sym (c .before .before .before .before .before .before .before .before .before .before .before .before .before .before .get2 .ensures .0)) in
+    let f : counter (a .s .now) (a .rows) (next-right (a .at) (a .s .now) (a .passed .r)) ≡ c .before .before .before .get4 .result = rw (c .before .before .before .before .before .before .get3 .ensures .0) at (sym (c .before .before .before .get4 .ensures .0)) in
     right-full (omega (arith, c .before .before .before .before .before .before .before .before .before .before .before .before .before .before .before .before .before .before .before .before .before .if1 .left)) (λ q. c .before .before .before .before .before .before .before .before .before .before .before .before .if2 .left (sym e ∙ q)) (omega (arith, c .before .before .before .before .before .before .before .before .before .before .if3 .left)) (f ∙ c .before .if4 .taken) refl refl refl
 
 fill-requires : tie.Need-fill-requires
@@ -40,8 +40,8 @@ fill-requires c κs = ((c .before .before .before .before .before .before .befor
 returns-5 : tie.Need-returns-5
 returns-5 c =
     let a = c .before .before .before .before .before .before .before .before .before .before .before .before .before .before .before .before .before .before .before .before .before .before .before .before .before .before .before .before .args in
-    let e : counter (a .s .now) (a .rows) (next-left (a .at) (a .s .now) (a .st .l)) ≡ c .before .before .before .before .before .before .before .before .before .before .before .before .before .before .before .before .before .get2 .result = rw (c .before .before .before .before .before .before .before .before .before .before .before .before .before .before .before .before .before .before .before .before .get .ensures .0) at (sym (c .before .before .before .before .before .before .before .before .before .before .before .before .before .before .before .before .before .get2 .ensures .0)) in
-    let f : counter (a .s .now) (a .rows) (next-right (a .at) (a .s .now) (a .st .r)) ≡ c .before .before .before .before .before .before .get4 .result = rw (c .before .before .before .before .before .before .before .before .before .get3 .ensures .0) at (sym (c .before .before .before .before .before .before .get4 .ensures .0)) in
+    let e : counter (a .s .now) (a .rows) (next-left (a .at) (a .s .now) (a .passed .l)) ≡ c .before .before .before .before .before .before .before .before .before .before .before .before .before .before .before .before .before .get2 .result = rw (c .before .before .before .before .before .before .before .before .before .before .before .before .before .before .before .before .before .before .before .before .get .ensures .0) at (sym (c .before .before .before .before .before .before .before .before .before .before .before .before .before .before .before .before .before .get2 .ensures .0)) in
+    let f : counter (a .s .now) (a .rows) (next-right (a .at) (a .s .now) (a .passed .r)) ≡ c .before .before .before .before .before .before .get4 .result = rw (c .before .before .before .before .before .before .before .before .before .get3 .ensures .0) at (sym (c .before .before .before .before .before .before .get4 .ensures .0)) in
     both-short (omega (arith, c .before .before .before .before .before .before .before .before .before .before .before .before .before .before .before .before .before .before .before .before .before .before .before .before .if1 .left)) (λ q. c .before .before .before .before .before .before .before .before .before .before .before .before .before .before .before .if2 .left (sym e ∙ q)) (omega (arith, c .before .before .before .before .before .before .before .before .before .before .before .before .before .if3 .left)) (λ q. c .before .before .before .before .if4 .left (sym f ∙ q)) (rw (c .before .before .before .before .before .before .before .before .before .before .before .before .before .before .before .before .before .before .before .before .get .ensures .0, c .before .before .before .before .before .before .before .before .before .get3 .ensures .0) at (c .before .before .fill .ensures)) refl refl
 
 pub even-step-spec : {M : Type 1} → statement M
