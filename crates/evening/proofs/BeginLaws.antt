@@ -65,6 +65,7 @@ module _ (ends diag b m i l r : ℕ) (s : List ℕ) where
         elsewhere = λ k a c d e f. p5 .else k f ∙ p4 .else k e ∙ p3 .else k d ∙ p2 .else k c ∙ p1 .else k a;
       }
 
+-- all places are below the end of the scratch
 pub diag-small : (n : ℕ) (at : Bases) (diag b m : ℕ) (s : List ℕ) → Diag-room n at diag b m s → Diag-small at diag b
 diag-small n at diag b m s h =
     let table : at .ends < 4294967296 = omega (arith, h .after-ends, h .low) in
@@ -81,6 +82,7 @@ module _ (n : ℕ) (at : Bases) (diag b m : ℕ) (s : List ℕ) (h : Diag-fit n 
   lies : Diag-room n at diag b m s
   lies = h .lies
 
+  -- no place has begun
   pub begun-none : Begun n at diag b m 0 s s
   begun-none =
       record {
@@ -98,9 +100,11 @@ module _ (n : ℕ) (at : Bases) (diag b m : ℕ) (s : List ℕ) (h : Diag-fit n 
       word t (base + i) ≡ word s (base + i)
   party-same k t x base low i a = x .changes (base + i + 1) .under (base + i) (omega arith) (omega arith)
 
+  -- the parties of the left side stay
   pub left-same : (k : ℕ) (t : List ℕ) → Begun n at diag b m k s t → (i : ℕ) → i < n → word t (at .left + i) ≡ word s (at .left + i)
   left-same k t x = party-same k t x (at .left) (lies .after-left)
 
+  -- and those of the right side
   pub right-same : (k : ℕ) (t : List ℕ) → Begun n at diag b m k s t → (i : ℕ) → i < n → word t (at .right + i) ≡ word s (at .right + i)
   right-same k t x = party-same k t x (at .right) (lies .after-right)
 
@@ -138,7 +142,8 @@ module _ (n : ℕ) (at : Bases) (diag b m : ℕ) (s : List ℕ) (h : Diag-fit n 
     o : One-begun (at .ends) diag b m k l r t v
     o =
         rw (e, l-is, r-is)
-        (one-begun (at .ends) diag b m k l r t (h .apart k k inside inside) (omega (arith, lies .after-diag)) (omega (arith, lies .after-ends))
+        (one-begun (at .ends) diag b m k l r t (h .apart k k inside inside) (omega (arith, lies .after-diag))
+        (omega (arith, lies .after-ends))
         (omega (arith, h .left-below k inside, lies .room, t-len)) (omega (arith, h .right-below k inside, lies .room, t-len))
         (omega (arith, h .left-below k inside, lies .low)) (omega (arith, h .right-below k inside, lies .low)))
 
@@ -167,12 +172,14 @@ module _ (n : ℕ) (at : Bases) (diag b m : ℕ) (s : List ℕ) (h : Diag-fit n 
     row-kept i w a low high =
         low-kept w (omega (arith, lies .after-ends)) (λ p. omega (arith, lies .after-diag)) (λ p. omega arith) (λ p. omega arith)
 
+    -- one place more has begun
     pub begun-more : Begun n at diag b m (k + 1) s v
     begun-more =
         record {
           left-place =
               one-more (λ i. b + word s (at .left + i)) (λ i. i) (o .left-place)
-              (λ i a. place-kept (word s (at .left + i)) (λ p. omega (arith, h .left-once i k (omega arith) inside p)) (h .apart i k (omega arith) inside))
+              (λ i a. place-kept (word s (at .left + i)) (λ p. omega (arith, h .left-once i k (omega arith) inside p))
+              (h .apart i k (omega arith) inside))
               (x .left-place);
           right-place =
               one-more (λ i. b + word s (at .right + i)) (λ i. i) (o .right-place)
@@ -183,17 +190,19 @@ module _ (n : ℕ) (at : Bases) (diag b m : ℕ) (s : List ℕ) (h : Diag-fit n 
           numbers =
               one-more (λ i. diag + i) (λ i. m + i) (o .number)
               (λ i a.
-              low-kept (diag + i) (omega (arith, lies .after-diag, lies .after-ends)) (λ p. omega arith) (λ p. omega (arith, lies .after-diag))
+              low-kept (diag + i) (omega (arith, lies .after-diag, lies .after-ends)) (λ p. omega arith)
+              (λ p. omega (arith, lies .after-diag))
               (λ p. omega (arith, lies .after-diag)))
               (x .numbers);
-          firsts = one-more (λ i. at .ends + 2 * (m + i)) (λ i. word s (at .left + i)) (o .first) 
+          firsts = one-more (λ i. at .ends + 2 * (m + i)) (λ i. word s (at .left + i)) (o .first)
               (λ i a. row-kept i (at .ends + 2 * (m + i)) a (omega arith) (omega arith)) (x .firsts);
-          seconds = one-more (λ i. at .ends + 2 * (m + i) + 1) (λ i. word s (at .right + i)) (o .second) 
+          seconds = one-more (λ i. at .ends + 2 * (m + i) + 1) (λ i. word s (at .right + i)) (o .second)
               (λ i a. row-kept i (at .ends + 2 * (m + i) + 1) a (omega arith) (omega arith)) (x .seconds);
           changes =
               λ mark.
               three-trans (x .changes mark)
-              (three-within diag n (at .ends + 2 * m) (2 * n) b (n + n) mark t v (omega (arith, lies .after-diag)) (omega (arith, lies .after-ends)) (o .len)
+              (three-within diag n (at .ends + 2 * m) (2 * n) b (n + n) mark t v (omega (arith, lies .after-diag))
+              (omega (arith, lies .after-ends)) (o .len)
               (λ w a c d f.
               o .elsewhere w (λ q. f (omega arith) (omega (arith, h .left-below k inside)))
               (λ q. f (omega arith) (omega (arith, h .right-below k inside))) (λ q. c (omega arith) (omega arith))

@@ -9,7 +9,6 @@ use borrow.Author.Tests.{lt-ltb, le-ltb}
 use lib.ListN.{length, take, length-take}
 use Rattle.words.specs.Basics.{count}
 use Rattle.words.specs.Words.{word, put-word}
-use Rattle.words.specs.Frames.{Changes-three}
 use Rattle.words.proofs.Ranges.{three-refl, three-trans, three-within, three-outer}
 use Rattle.words.proofs.Frames.{here, away, length-put}
 use Rattle.appointments.specs.Appointments.{appts}
@@ -20,7 +19,7 @@ use Rattle.multigraph.proofs.Ends.{same-ends-sym, same-ends-trans}
 use Rattle.evening.specs.Contract.{first-of, second-of, Has-ends}
 use Rattle.evening.specs.Adding.{Has-place, Its-number, Pair-fits, Pair-added}
 use Rattle.evening.specs.Representatives.{Rep}
-use Rattle.evening.specs.FromList.{pair-of, Building, Built}
+use Rattle.evening.specs.FromList.{pair-of, Pairs-change, Building, Built}
 use Rattle.evening.proofs.PlainLaws.{newest, Graph-kept, graph-kept, plain-kept, graph-kept-by}
 use Rattle.evening.proofs.TableLaws.{has-ends-new}
 use Rattle.evening.proofs.Listed.{add-appointments-more, copies-few}
@@ -29,11 +28,13 @@ use Rattle.evening.specs.declared.Bases.{Bases}
 -- ── one appointment more ──
 
 module _ (g apair i : ℕ) (s : List ℕ) (j r : ℕ) (is-j : j ≡ word s (apair + i)) where
+  -- what `pair_of` gives, by what it has read: the number of an earlier appointment's pair
   pub pair-of-old : j < i → r ≡ word s (apair + j) → r ≡ pair-of g apair i s
   pair-of-old a e =
       let b : word s (apair + i) < i = omega arith in
       rw (lt-ltb (word s (apair + i)) i b) (e ∙ ap (λ n. word s (apair + n)) is-j)
 
+  -- or the next number
   pub pair-of-new : i ≤ j → r ≡ size s g → r ≡ pair-of g apair i s
   pair-of-new a e =
       let b : i ≤ word s (apair + i) = omega arith in
@@ -81,6 +82,7 @@ module _ (list : List ℕ) (at : Bases) (k : ℕ) (s : List ℕ) (h : Building l
         entry = omega (arith, h .few, h .inside);
       }
 
+  -- the next copy can be added
   pub fits : x < 4294967296 → y < 4294967296 → Pair-fits (at .ends) (at .g) e x y 1 s
   fits sx sy =
       record {
@@ -93,12 +95,18 @@ module _ (list : List ℕ) (at : Bases) (k : ℕ) (s : List ℕ) (h : Building l
         right-small = sy;
         light =
             λ f a.
-            omega
-            (arith, copies-few (at .ends) (at .g) s (take k (appts list)) (h .graph) f a, length-take k (appts list), appts-count list, h .short);
+            omega (
+              arith,
+              copies-few (at .ends) (at .g) s (take k (appts list)) (h .graph) f a,
+              length-take k (appts list),
+              appts-count list,
+              h .short,
+            );
         few = omega arith;
       }
 
-  module _ (fit : Pair-fits (at .ends) (at .g) e x y 1 s) (t u : List ℕ) (add : Pair-added (at .ends) (at .g) e x y 1 s t) (put : u ≡ put-word t (at .apair + k) e) where
+  module _ (fit : Pair-fits (at .ends) (at .g) e x y 1 s) (t u : List ℕ) (add : Pair-added (at .ends) (at .g) e x y 1 s t)
+      (put : u ≡ put-word t (at .apair + k) e) where
     e-small : e < 4294967296
     e-small = omega (arith, add .its-number, add .by-one, h .few, h .small)
 
@@ -140,7 +148,8 @@ module _ (list : List ℕ) (at : Bases) (k : ℕ) (s : List ℕ) (h : Building l
           | yes z ↦ rw (z, u-here) (has-ends-new (at .ends) (size t (at .g)) t u (kept-t .table) e x y (add .its-number) (add .its-ends))
           | no z ↦
               rw (old-pair i z (omega arith))
-              (old-ends (word s (at .apair + i)) (first-of list i) (second-of list i) (h .number-of i (omega arith)) (h .ends-of i (omega arith)))
+              (old-ends (word s (at .apair + i)) (first-of list i) (second-of list i) (h .number-of i (omega arith))
+              (h .ends-of i (omega arith)))
         ]
 
     every' : (f : ℕ) → f < size u (at .g) → (i : ℕ) × (i < k + 1) × (word u (at .apair + i) ≡ f)
@@ -156,7 +165,8 @@ module _ (list : List ℕ) (at : Bases) (k : ℕ) (s : List ℕ) (h : Building l
     building' : Building list at (k + 1) u
     building' =
         record {
-          graph = graph-kept (at .ends) (at .g) t u kept-t ∙ add .graph ∙ ap (λ l. add-edge l x y 1 0) (h .graph) ∙ sym (add-appointments-more list k inside);
+          graph = graph-kept (at .ends) (at .g) t u kept-t ∙ add .graph ∙ ap (λ l. add-edge l x y 1 0) (h .graph)
+              ∙ sym (add-appointments-more list k inside);
           plain = plain-kept (at .ends) (at .g) t u kept-t (add .plain);
           few = omega (arith, kept-t .count, t-few);
           number-of = number-of';
@@ -170,26 +180,32 @@ module _ (list : List ℕ) (at : Bases) (k : ℕ) (s : List ℕ) (h : Building l
           short = h .short;
         }
 
-    changed : (mark : ℕ) → Changes-three (at .ends) (2 * (length list / 2)) (at .apair) (length list / 2) (at .g) (2 + 2 * (length list / 2)) mark s u
+    changed : (mark : ℕ) → Pairs-change list at mark s u
     changed mark =
         three-trans
-        (three-outer (at .ends) (2 * (length list / 2)) (at .apair) (length list / 2) (at .g) (2 + 2 * (length list / 2)) mark (omega arith)
+        (three-outer (at .ends) (2 * (length list / 2)) (at .apair) (length list / 2) (at .g) (2 + 2 * (length list / 2)) mark
+        (omega arith)
         (omega (arith, h .few)) (h .after-ends) (h .after-apair) (omega arith) (omega (arith, h .few)) (add .changes))
-        (three-within (at .ends) (2 * (length list / 2)) (at .apair) (length list / 2) (at .g) (2 + 2 * (length list / 2)) mark t u (h .after-ends)
+        (three-within (at .ends) (2 * (length list / 2)) (at .apair) (length list / 2) (at .g)
+        (2 + 2 * (length list / 2)) mark t u (h .after-ends)
         (h .after-apair) (ap length put ∙ length-put t (at .apair + k) e) (λ i m a b c. u-away i (λ q. b (omega arith) (omega arith))))
 
+    -- and then one appointment more has its pair
     pub built : Built list at (k + 1) s u
     built = record { building = building'; changes = changed }
 
 -- ── all appointments ──
 
+-- no appointment has its pair yet
 pub built-none : (list : List ℕ) (at : Bases) (s : List ℕ) → Building list at 0 s → Built list at 0 s s
 built-none list at s h =
     record {
       building = h;
-      changes = λ mark. three-refl (at .ends) (2 * (length list / 2)) (at .apair) (length list / 2) (at .g) (2 + 2 * (length list / 2)) mark s;
+      changes = λ mark. three-refl (at .ends) (2 * (length list / 2)) (at .apair) (length list / 2) (at .g)
+          (2 + 2 * (length list / 2)) mark s;
     }
 
+-- one appointment after the others
 pub built-more :
     (list : List ℕ) (at : Bases) (k : ℕ) (s t u : List ℕ) → Built list at k s t → Built list at (k + 1) t u →
     Built list at (k + 1) s u

@@ -23,16 +23,18 @@ module _ (n : ℕ) (at : Bases) (diag u : ℕ) (s : List ℕ)
   right-of : (i : ℕ) → i < n → (word s (at .right + i) < n + n) × (h .side (word s (at .right + i)) ≡ 1)
   right-of = region-all (λ v. (v < n + n) × (h .side v ≡ 1)) s (at .right) n (h .partition .right-side)
 
+  -- what is known of a partition is what the places ask for
   pub diag-fit : Diag-fit n at diag u (size s (at .g)) s
   diag-fit =
       record {
         left-once =
             λ i j a b e.
-            region-once (word s (at .left + j)) s (at .left) n (omega (arith, h .partition .once (word s (at .left + j)) (left-of j b .0))) i j a b e refl;
+            region-once (word s (at .left + j)) s (at .left) n
+            (omega (arith, h .partition .once (word s (at .left + j)) (left-of j b .0))) i j a b e refl;
         right-once =
             λ i j a b e.
-            region-once (word s (at .right + j)) s (at .right) n (omega (arith, h .partition .once (word s (at .right + j)) (right-of j b .0))) i j a b e
-            refl;
+            region-once (word s (at .right + j)) s (at .right) n
+            (omega (arith, h .partition .once (word s (at .right + j)) (right-of j b .0))) i j a b e refl;
         apart = λ i j a b e. omega (arith, left-of i a .1, right-of j b .1, ap (h .side) e);
         left-below = λ i a. left-of i a .0;
         right-below = λ i a. right-of i a .0;
@@ -49,6 +51,7 @@ module _ (n : ℕ) (at : Bases) (diag u : ℕ) (s : List ℕ)
 
 module _ (n : ℕ) (at : Bases) (diag u : ℕ) (s : List ℕ)
     (h : Can-diagonal n (at .left) (at .right) (at .ends) (at .g) diag u s) where
+  -- all places begun and all pairs looked at: the diagonal is set
   pub diagonal-set :
       (t v : List ℕ) → Begun n at diag u (size s (at .g)) n s t → Looked n at diag (size s (at .g)) (size s (at .g)) t v →
       Diagonal-set n (at .left) (at .right) (at .ends) (at .g) diag u s u v

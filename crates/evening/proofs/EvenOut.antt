@@ -102,6 +102,7 @@ module _ (N : ℕ) (side : ℕ → ℕ) (D : ℕ) (start : Graph) where
           | no n ↦ rw (ne-eqb (degree l g) D n) (turn-pair g l left right e n)
         ]
 
+    -- what holds is kept by every step
     pub keep :
         (g : Graph) (left right : List ℕ) → Evens N side D start (evening g left right) →
         Evens N side D start (even-out-next D g left right)

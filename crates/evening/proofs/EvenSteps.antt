@@ -40,6 +40,7 @@ steps D s =
     2 * (length (s .left) + length (s .right))
     - max (head-full D (s .graph) (s .left)) (head-full D (s .graph) (s .right))
 
+-- two steps for each party suffice
 pub steps-le : (D : ℕ) (s : Evening) → steps D s ≤ 2 * (length (s .left) + length (s .right))
 unfolding steps
 steps-le D s = omega arith
@@ -55,11 +56,13 @@ pub pass-left-less :
 unfolding steps
 pass-left-less D g l left right = omega (arith, head-full-le D g (l ∷ left), head-full-le D g right)
 
+-- a party passed on the right
 pub pass-right-less :
     (D : ℕ) (g : Graph) (r : ℕ) (left right : List ℕ) → steps D (evening g left right) < steps D (evening g left (r ∷ right))
 unfolding steps
 pass-right-less D g r left right = omega (arith, head-full-le D g left, head-full-le D g (r ∷ right))
 
+-- two short parties, one of which is full then
 pub fill-less :
     (D : ℕ) (g h : Graph) (l r : ℕ) (left right : List ℕ) → degree l g < D → degree r g < D →
     1 ≤ max (is (degree l h) D) (is (degree r h) D) →
@@ -91,12 +94,15 @@ shortfall-fills D a b h k =
     ]
 
 module _ (g : Graph) (l r m : ℕ) (apart : l ≡ r → ⊥) where
+  -- the degrees after m copies more between l and r: that of l
   pub added-left : degree l (add-edge g l r m 0) ≡ degree l g + m
   added-left = degree-added l g l r m 0 ∙ rw (is-same l, is-ne {u = l} {v = r} apart) (omega arith)
 
+  -- that of r
   pub added-right : degree r (add-edge g l r m 0) ≡ degree r g + m
   added-right = degree-added r g l r m 0 ∙ rw (is-same r, is-ne {u = r} {v = l} (λ e. apart (sym e))) (omega arith)
 
+  -- that of any other party
   pub added-else : (v : ℕ) → (v ≡ l → ⊥) → (v ≡ r → ⊥) → degree v (add-edge g l r m 0) ≡ degree v g
   added-else v a b = degree-added v g l r m 0 ∙ rw (is-ne {u = v} {v = l} a, is-ne {u = v} {v = r} b) (omega arith)
 
@@ -116,6 +122,7 @@ module _ (N : ℕ) (side : ℕ → ℕ) (D : ℕ) (start : Graph) where
   pass-left g l left right e d =
       fewer g (l ∷ left) right left right e (λ v h cl cr. passed D g l left d v (λ c. e .full v h c cr) cl) (e .lefts .1) (e .rights)
 
+  -- the same on the right
   pub pass-right :
       (g : Graph) (r : ℕ) (left right : List ℕ) → Evens N side D start (evening g left (r ∷ right)) → degree r g ≡ D →
       Evens N side D start (evening g left right)
@@ -126,9 +133,11 @@ module _ (N : ℕ) (side : ℕ → ℕ) (D : ℕ) (start : Graph) where
   module _
       (g : Graph) (l r : ℕ) (left right : List ℕ) (e : Evens N side D start (evening g (l ∷ left) (r ∷ right)))
       (short-l : degree l g < D) (short-r : degree r g < D) where
+    -- the smaller shortfall
     abbrev pub m : ℕ
     m = min (D - degree l g) (D - degree r g)
 
+    -- the graph with that many copies more
     abbrev pub g' : Graph
     g' = add-edge g l r m 0
 
@@ -159,6 +168,7 @@ module _ (N : ℕ) (side : ℕ → ℕ) (D : ℕ) (start : Graph) where
         let b : v ≡ r → ⊥ = λ q. omega (arith, is-eq q) in
         added-else g l r m ends-apart v a b ∙ e .full v h cl cr
 
+    -- what holds is kept
     pub fill : Evens N side D start (evening g' (l ∷ left) (r ∷ right))
     fill =
         record {
@@ -189,26 +199,31 @@ module _ (N : ℕ) (side : ℕ → ℕ) (D : ℕ) (start : Graph) where
 
 -- ── the five cases of a step ──
 
+-- all left parties are passed
 pub next-done : (D : ℕ) (g : Graph) (right : List ℕ) → even-out-next D g [] right ≡ evening g [] right
 unfolding even-out-next
 next-done D g right = refl
 
+-- the next left party is full
 pub next-left :
     (D : ℕ) (g : Graph) (l : ℕ) (left right : List ℕ) → degree l g ≡ D → even-out-next D g (l ∷ left) right ≡ evening g left right
 unfolding even-out-next
 next-left D g l left right e = rw (eq-eqb (degree l g) D e)
 
+-- it is short, and there is no right party left
 pub next-none :
     (D : ℕ) (g : Graph) (l : ℕ) (left : List ℕ) → (degree l g ≡ D → ⊥) → even-out-next D g (l ∷ left) [] ≡ evening g (l ∷ left) []
 unfolding even-out-next even-out-pair
 next-none D g l left n = rw (ne-eqb (degree l g) D n)
 
+-- the next right party is full
 pub next-right :
     (D : ℕ) (g : Graph) (l : ℕ) (left : List ℕ) (r : ℕ) (right : List ℕ) → (degree l g ≡ D → ⊥) → degree r g ≡ D →
     even-out-next D g (l ∷ left) (r ∷ right) ≡ evening g (l ∷ left) right
 unfolding even-out-next even-out-pair
 next-right D g l left r right n e = rw (ne-eqb (degree l g) D n, eq-eqb (degree r g) D e)
 
+-- both are short
 pub next-fill :
     (D : ℕ) (g : Graph) (l : ℕ) (left : List ℕ) (r : ℕ) (right : List ℕ) → (degree l g ≡ D → ⊥) → (degree r g ≡ D → ⊥) →
     even-out-next D g (l ∷ left) (r ∷ right)

@@ -56,6 +56,7 @@ evened-ran P E [] h = refl
 evened-ran P E (l ∷ left) h = absurd h
 
 module _ (list : List ℕ) (d n : ℕ) (at : Bases) (u : ℕ) (first : List ℕ) (h : Evens-at list d n at u first) where
+  -- there is room for the rows of all parties
   pub rows-fit-even : Rows-fit list (rows-from (n + n) d u) first
   rows-fit-even =
       record {
@@ -84,34 +85,40 @@ module _ (list : List ℕ) (d n : ℕ) (at : Bases) (u : ℕ) (first : List ℕ)
         degree = h .few;
       }
 
+  -- the graph and the sides at the start
+  abbrev start : Graph
+  start = plain-graph first (at .ends) (at .g)
+
+  abbrev lefts : List ℕ
+  lefts = region first (at .left) n
+
+  abbrev rights : List ℕ
+  rights = region first (at .right) n
+
   -- the state after k steps
   abbrev pub after : ℕ → Evening
-  after k =
-      iterate k (even-out-step d) (evening (plain-graph first (at .ends) (at .g)) (region first (at .left) n) (region first (at .right) n))
+  after k = iterate k (even-out-step d) (evening start lefts rights)
 
   after-more : (k : ℕ) → after (k + 1) ≡ even-out-step d (after k)
-  after-more k =
-      rw add-one
-      (iterate-suc-out k (even-out-step d) (evening (plain-graph first (at .ends) (at .g)) (region first (at .left) n) (region first (at .right) n)))
+  after-more k = rw add-one (iterate-suc-out k (even-out-step d) (evening start lefts rights))
 
   -- the steps suffice
-  enough : even-out d (plain-graph first (at .ends) (at .g)) (region first (at .left) n) (region first (at .right) n) ≡ ran (after (2 * (n + n)) .graph)
+  enough : even-out d start lefts rights ≡ ran (after (2 * (n + n)) .graph)
   unfolding even-out
   enough =
-      let ran-law : Ran (Evened (n + n) (h .side) d (plain-graph first (at .ends) (at .g))) (even-out d (plain-graph first (at .ends) (at .g)) (region first (at .left) n) (region first (at .right) n)) =
-      even-out-law (n + n) (h .side) d (plain-graph first (at .ends) (at .g)) (region first (at .left) n) (region first (at .right) n) (h .partition)
-      (start-sound list d n at u first h) (start-most list d n at u first h) in
-      let e : after (2 * (length (region first (at .left) n) + length (region first (at .right) n))) ≡ after (2 * (n + n)) =
-      rw (region-length first (at .left) n, region-length first (at .right) n) in
-      evened-ran (Evened (n + n) (h .side) d (plain-graph first (at .ends) (at .g)))
-      (after (2 * (length (region first (at .left) n) + length (region first (at .right) n))))
-      (after (2 * (length (region first (at .left) n) + length (region first (at .right) n))) .left) ran-law
-      ∙ ap (λ (E : Evening). ran (E .graph)) e
+      let steps : ℕ = 2 * (length lefts + length rights) in
+      let ran-law : Ran (Evened (n + n) (h .side) d start) (even-out d start lefts rights) =
+      even-out-law (n + n) (h .side) d start lefts rights (h .partition) (start-sound list d n at u first h)
+      (start-most list d n at u first h) in
+      let e : after steps ≡ after (2 * (n + n)) = rw (region-length first (at .left) n, region-length first (at .right) n) in
+      evened-ran (Evened (n + n) (h .side) d start) (after steps) (after steps .left) ran-law ∙ ap (λ (E : Evening). ran (E .graph)) e
 
   module _ (s₁ : List ℕ) (x : Rows-filled list (rows-from (n + n) d u) (length list) first s₁) where
+    -- k steps have been taken, i left and j right parties are passed, and the words are s
     abbrev pub At : ℕ → ℕ → ℕ → List ℕ → Type 0
     At k i j s = Stage list d n at u first h s₁ x (after k) i j s
 
+    -- no step has been taken
     pub at-none : At 0 0 0 s₁
     unfolding iterate
     at-none = stage-none list d n at u first h s₁ x
@@ -125,18 +132,26 @@ module _ (list : List ℕ) (d n : ℕ) (at : Bases) (u : ℕ) (first : List ℕ)
           entry = omega (arith, K .few, K .len, h .after-graph, h .room);
         }
 
+    -- one step more
     pub at-more :
         (k i j i' j' : ℕ) (s t : List ℕ) → At k i j s → Step-taken list at (rows-from (n + n) d u) n s t i j i' j' →
         At (k + 1) i' j' t
     at-more k i j i' j' s t st step =
         rw (after-more k) (stage-more list d n at u first h s₁ x (after k) i j s st t i' j' step)
 
-    pub evened-out : (i j : ℕ) (t : List ℕ) → At (2 * (n + n)) i j t → Evened-out list d n (at .left) (at .right) (at .ends) (at .apair) (at .g) u first u t
+    -- after all steps the graph is evened out
+    pub evened-out :
+        (i j : ℕ) (t : List ℕ) → At (2 * (n + n)) i j t →
+        Evened-out list d n (at .left) (at .right) (at .ends) (at .apair) (at .g) u first u t
     evened-out i j t st =
         record {
           graph =
               λ pairs few.
-              rw (plain-is (at .ends) pairs (at .g) first (h .paired .plain) (omega (arith, st .grown)), plain-is (at .ends) pairs (at .g) t (st .plain) few, st .graph)
+              rw (
+                plain-is (at .ends) pairs (at .g) first (h .paired .plain) (omega (arith, st .grown)),
+                plain-is (at .ends) pairs (at .g) t (st .plain) few,
+                st .graph,
+              )
               enough;
           plain = st .plain;
           grown = st .grown;
@@ -147,8 +162,8 @@ module _ (list : List ℕ) (d n : ℕ) (at : Bases) (u : ℕ) (first : List ℕ)
               λ k a.
               let below : word first (at .apair + k) < size first (at .g) = h .paired .number-of k a in
               rw (word-same k a)
-              (has-ends-new (at .ends) (size first (at .g)) first t (st .table) (word first (at .apair + k)) (first-of list k) (second-of list k)
-              below (h .paired .ends-of k a));
+              (has-ends-new (at .ends) (size first (at .g)) first t (st .table) (word first (at .apair + k)) (first-of list k)
+              (second-of list k) below (h .paired .ends-of k a));
           mark = refl;
           changes =
               record {

@@ -89,8 +89,10 @@ module _ (list : List ℕ) (d n : ℕ) (at : Bases) (u : ℕ) (first : List ℕ)
       let inside : k < length list / 2 = joined-inside k q in
       let below : word first (at .apair + k) < size first (at .g) = h .paired .number-of k inside in
       let own : Has-ends first (at .ends) (word first (at .apair + k)) l r = same-ends-trans q (h .paired .ends-of k inside) in
-      rw (K .pair-of k inside)
-      (omega (arith, st .grown), has-ends-new (at .ends) (size first (at .g)) first s (st .table) (word first (at .apair + k)) l r below own)
+      rw (K .pair-of k inside) (
+        omega (arith, st .grown),
+        has-ends-new (at .ends) (size first (at .g)) first s (st .table) (word first (at .apair + k)) l r below own,
+      )
 
   -- a pair of the list with these ends has an appointment among the half-edges of l
   old-joined :
@@ -99,7 +101,8 @@ module _ (list : List ℕ) (d n : ℕ) (at : Bases) (u : ℕ) (first : List ℕ)
   old-joined e below q =
       let own : Has-ends first (at .ends) e l r = has-ends-old (at .ends) (size first (at .g)) first s (st .table) e l r below q in
       let k = h .paired .every e below in
-      let its : Has-ends first (at .ends) e (first-of list (k .0)) (second-of list (k .0)) = rw (k .2) at (h .paired .ends-of (k .0) (k .1)) in
+      let its : Has-ends first (at .ends) e (first-of list (k .0)) (second-of list (k .0)) =
+      rw (k .2) at (h .paired .ends-of (k .0) (k .1)) in
       let joins : Joins list (k .0) l r = same-ends-trans own (same-ends-sym its) in
       let f = half-of list (k .0) l r joins in
       let f-below : f .0 < length list = omega (arith, f .1 .of, k .1, h .even) in
@@ -176,7 +179,8 @@ module _ (list : List ℕ) (d n : ℕ) (at : Bases) (u : ℕ) (first : List ℕ)
   step-is : even-out-step d E ≡ evening bigger (l ∷ drop (i + 1) lefts) (r ∷ drop (j + 1) rights)
   step-is =
       rw (K .lefts-are a, K .rights-are b)
-      (next-fill d G l (drop (i + 1) lefts) r (drop (j + 1) rights) (λ q. ne-l (K .left-degree a ∙ q)) (λ q. ne-r (K .right-degree b ∙ q)))
+      (next-fill d G l (drop (i + 1) lefts) r (drop (j + 1) rights) (λ q. ne-l (K .left-degree a ∙ q))
+      (λ q. ne-r (K .right-degree b ∙ q)))
 
   graph-is : even-out-step d E .graph ≡ bigger
   graph-is = ap (λ (z : Evening). z .graph) step-is
@@ -240,18 +244,22 @@ module _ (list : List ℕ) (d n : ℕ) (at : Bases) (u : ℕ) (first : List ℕ)
         | no y ↦
             let its : F .number ≡ e =
             newest (at .ends) (at .g) (F .number) l r more s fits (F .added) A e (omega arith) (omega (arith, kept-t .count)) in
-            last-full e (rw its at (has-ends-new (at .ends) (size (F .added) (at .g)) (F .added) t (kept-t .table) (F .number) l r (A .its-number) (A .its-ends)))
+            last-full e (rw its at (has-ends-new (at .ends) (size (F .added) (at .g)) (F .added) t (kept-t .table)
+            (F .number) l r (A .its-number) (A .its-ends)))
       ]
 
   changes' : (mark : ℕ) → Changes-three (at .ends) (2 * (n * d + n)) (at .g) (2 + 2 * (n * d + n)) u (n + n) mark s t
   changes' mark =
       three-trans
-      (three-low (at .ends) (2 * (n * d + n)) (at .g) (2 + 2 * (n * d + n)) u (n + n) mark (omega arith) (omega (arith, room)) (K .low) (omega arith)
+      (three-low (at .ends) (2 * (n * d + n)) (at .g) (2 + 2 * (n * d + n)) u (n + n) mark (omega arith) (omega (arith, room))
+      (K .low) (omega arith)
       (omega (arith, room)) (omega (arith, h .after-graph)) (A .changes))
-      (three-within (at .ends) (2 * (n * d + n)) (at .g) (2 + 2 * (n * d + n)) u (n + n) mark (F .added) t (K .low) (omega (arith, h .after-graph))
+      (three-within (at .ends) (2 * (n * d + n)) (at .g) (2 + 2 * (n * d + n)) u (n + n) mark (F .added) t (K .low)
+      (omega (arith, h .after-graph))
       (R .len)
       (λ k m y z w. R .elsewhere k (λ q. w (omega arith) (omega (arith, l-below))) (λ q. w (omega arith) (omega (arith, r-below)))))
 
+  -- the words after the copies are added are those of the next state
   pub stage-fill : Stage list d n at u first h s₁ x (even-out-step d E) i j t
   stage-fill =
       record {

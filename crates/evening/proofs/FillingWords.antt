@@ -17,9 +17,11 @@ use Rattle.evening.specs.Rows.{row, counter}
 use Rattle.evening.specs.declared.Bases.{Bases}
 use Rattle.evening.specs.declared.rows.RowBases.{RowBases}
 
+-- what an answer 1 or 0 says
 pub says-yes : (r : ℕ) (P : Type 0) → Says r P → r ≡ 1 → P
 says-yes r P h e = ⊎-elim (λ x. x .0) (λ x. absurd (omega (arith, x .1))) h
 
+-- an answer that is not 1 says no
 pub says-no : (r : ℕ) (P : Type 0) → Says r P → (r ≡ 1 → ⊥) → P → ⊥
 says-no r P h e = ⊎-elim (λ x y. e (x .1)) (λ x. x .0) h
 
@@ -28,9 +30,11 @@ module _ (list : List ℕ) (at : Bases) (rs : RowBases) (l r : ℕ) (s : List �
   abbrev pub Missed : ℕ → Type 0
   Missed t = (x : ℕ) → x < t → Joins list (row s rs l x / 2) l r → ⊥
 
+  -- none looked at
   pub missed-none : Missed 0
   missed-none x a j = omega arith
 
+  -- one half-edge more that is not
   pub missed-more :
       (t h q : ℕ) → Missed t → h ≡ row s rs l t → Says q (Joins list (h / 2) l r) → (q ≡ 1 → ⊥) → Missed (t + 1)
   missed-more t h q m e says other x a j =
@@ -41,15 +45,18 @@ module _ (list : List ℕ) (at : Bases) (rs : RowBases) (l r : ℕ) (s : List �
         | no z ↦ m x (omega arith) j
       ]
 
+  -- one that is: the number of its pair
   pub found-here :
       (t h q e : ℕ) → t < rs .d → h ≡ row s rs l t → Says q (Joins list (h / 2) l r) → q ≡ 1 → e ≡ word s (at .apair + h / 2) →
       Pair-found list at rs l r s e
   found-here t h q e a is says agrees its =
       inl (t, a, rw is at (says-yes q (Joins list (h / 2) l r) says agrees), rw is at its)
 
+  -- none in the whole row: the next number
   pub found-none : (t e : ℕ) → t ≡ rs .d → Missed t → e ≡ size s (at .g) → Pair-found list at rs l r s e
   found-none t e is m last = inr (rw is at m, last)
 
+  -- what `fill` does, by what it has read and written
   pub filled-by :
       (t u v : List ℕ) (dl dr more e : ℕ) → dl ≡ counter s rs l → dr ≡ counter s rs r → more ≡ min (rs .d - dl) (rs .d - dr) →
       Pair-found list at rs l r s e → Adds-pair (at .ends) (at .g) e l r more s u → v ≡ put-word u (rs .counts + l) (dl + more) →
@@ -81,6 +88,7 @@ pub record Raised (b l r more : ℕ) (s a t : List ℕ) : Type 0 where
   pub right : word t (b + r) ≡ word s (b + r) + more
   pub elsewhere : (k : ℕ) → (k ≡ b + l → ⊥) → (k ≡ b + r → ⊥) → word t k ≡ word a k
 
+-- two words written, of which neither is the other
 pub raised :
     (b l r more : ℕ) (s a t : List ℕ) → t ≡ put-word (put-word a (b + l) (word s (b + l) + more)) (b + r) (word s (b + r) + more) →
     (l ≡ r → ⊥) → b + l < length a → b + r < length a → word s (b + l) + more < 4294967296 → word s (b + r) + more < 4294967296 →

@@ -23,6 +23,7 @@ use Rattle.evening.specs.Contract.{first-of, second-of}
 use Rattle.evening.specs.Adding.{plain-pair, plain-graph}
 use Rattle.evening.proofs.Pairs.{weigh-appts, weigh-list}
 
+-- appointment i of the list
 pub appt-at :
     (list : List ℕ) (i : ℕ) → i < length list / 2 → getD (appts list) i (appt 0 0) ≡ appt (first-of list i) (second-of list i)
 appt-at list i h =
@@ -49,6 +50,7 @@ unfolding add-appointments
 add-appointments-append g [] ys = refl
 add-appointments-append g (x ∷ xs) ys = add-appointments-append (add-edge g (x .first) (x .second) 1 0) xs ys
 
+-- one appointment more is one copy more
 pub add-appointments-more :
     (list : List ℕ) (k : ℕ) → k < length list / 2 →
     add-appointments [] (take (k + 1) (appts list))
@@ -69,12 +71,14 @@ all-weigh-one : (xs : List Appt) → weigh one (add-appointments [] xs) ≡ leng
 unfolding weigh-appts one
 all-weigh-one xs = weigh-list one (λ a b. refl) xs ∙ total-const 1 xs ∙ mul-one (length xs)
 
+-- so no pair of the stored graph has more
 pub copies-few :
     (ends g : ℕ) (s : List ℕ) (xs : List Appt) → plain-graph s ends g ≡ add-appointments [] xs →
     (e : ℕ) → e < size s g → copies-of s g e ≤ length xs
 unfolding one
 copies-few ends g s xs is e a =
-    let part : (w : ℕ → ℕ → ℕ) → copies-of s g e * w (word s (ends + 2 * e)) (word s (ends + 2 * e + 1)) ≤ weigh w (plain-graph s ends g) =
+    let part : (w : ℕ → ℕ → ℕ) →
+    copies-of s g e * w (word s (ends + 2 * e)) (word s (ends + 2 * e + 1)) ≤ weigh w (plain-graph s ends g) =
     all-span (λ (p : Pair). (w : ℕ → ℕ → ℕ) → p .copies * w (p .first) (p .second) ≤ weigh w (plain-graph s ends g))
     (plain-pair s ends g) 0 (size s g) (part-of-weight (plain-graph s ends g)) e (omega arith) (omega arith) in
     omega (arith, part one, ap (weigh one) is, all-weigh-one xs, mul-one (copies-of s g e))

@@ -19,10 +19,12 @@ use Rattle.evening.proofs.TableLaws.{Table-same, first-same, has-ends-o
 module _ (n k : ℕ) (at : Bases) (s t : List ℕ) (table : Table-same (at .ends) k s t)
     (lefts : (i : ℕ) → i < n → word t (at .left + i) ≡ word s (at .left + i))
     (rights : (i : ℕ) → i < n → word t (at .right + i) ≡ word s (at .right + i)) where
+  -- a place whose parties are the ends of pair e was one before
   pub at-place-old : (e i : ℕ) → e < k → i < n → At-place at t e i → At-place at s e i
   at-place-old e i a b x =
       rw (lefts i b, rights i b) at (has-ends-old (at .ends) k s t table e (word t (at .left + i)) (word t (at .right + i)) a x)
 
+  -- and a place that was one is one
   pub at-place-new : (e i : ℕ) → e < k → i < n → At-place at s e i → At-place at t e i
   at-place-new e i a b x =
       rw (lefts i b, rights i b) (has-ends-new (at .ends) k s t table e (word s (at .left + i)) (word s (at .right + i)) a x)
@@ -30,21 +32,26 @@ module _ (n k : ℕ) (at : Bases) (s t : List ℕ) (table : Table-same (at .ends
 -- ── one pair ──
 
 -- what one look does, by what it has read
-module _ (n : ℕ) (at : Bases) (diag b e : ℕ) (s : List ℕ) (x y i : ℕ) (ex : x ≡ word s (at .ends + 2 * e)) (ey : y ≡ word s (at .ends + 2 * e + 1))
+module _ (n : ℕ) (at : Bases) (diag b e : ℕ) (s : List ℕ) (x y i : ℕ) (ex : x ≡ word s (at .ends + 2 * e))
+    (ey : y ≡ word s (at .ends + 2 * e + 1))
     (ei : i ≡ word s (b + x)) where
   place-is : i ≡ place-of (at .ends) b e s
   place-is = rw ex at ei
 
+  -- a party without a place
   pub look-none : n ≤ i → Looked-at n at diag b e s s
   look-none a = inr (λ q. omega (arith, place-is, q .0), refl)
 
-  module _ (inside : i < n) (l r q : ℕ) (el : l ≡ word s (at .left + i)) (er : r ≡ word s (at .right + i)) (says : Says q (Same-ends l r x y)) where
+  module _ (inside : i < n) (l r q : ℕ) (el : l ≡ word s (at .left + i)) (er : r ≡ word s (at .right + i))
+      (says : Says q (Same-ends l r x y)) where
     same-is : Says q (At-place at s e (place-of (at .ends) b e s))
     same-is = rw (el, er, place-is, ex, ey) at says
 
+    -- a place with another party
     pub look-other : q ≡ 0 → Looked-at n at diag b e s s
     look-other z = inr (λ p. ⊎-elim (λ k. omega (arith, k .1)) (λ k. k .0 (p .1)) same-is, refl)
 
+    -- the place of both ends
     pub look-hit : (t : List ℕ) → (q ≡ 0 → ⊥) → t ≡ put-word s (diag + i) e → Looked-at n at diag b e s t
     look-hit t z w =
         ⊎-elim
@@ -52,6 +59,7 @@ module _ (n : ℕ) (at : Bases) (diag b e : ℕ) (s : List ℕ) (x y i : ℕ) (e
         (λ k. absurd (z (k .1))) same-is
 
 module _ (n : ℕ) (at : Bases) (diag b m : ℕ) (s : List ℕ) (h : Diag-ready n at diag b m s) where
+  -- no pair has been looked at
   pub looked-none : Looked n at diag m 0 s s
   looked-none =
       record {
@@ -155,5 +163,6 @@ module _ (n : ℕ) (at : Bases) (diag b m : ℕ) (s : List ℕ) (h : Diag-ready 
           over = x .over;
         })
 
+    -- one pair more has been looked at
     pub looked-more : Looked n at diag m (k + 1) s v
     looked-more = ⊎-elim (λ z. looked-hit (z .0) (z .1)) (λ z. looked-miss (z .0) (z .1)) w

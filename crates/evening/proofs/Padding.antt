@@ -19,6 +19,7 @@ use Rattle.evening.proofs.Pairs.{Crosses}
 
 -- ── new parties ──
 
+-- there are k of them
 pub new-parties-length : (v k : ℕ) → length (new-parties v k) ≡ k
 unfolding new-parties
 new-parties-length v zero = refl
@@ -37,6 +38,7 @@ pub new-parties-off : (u v k : ℕ) → u < v → count u (new-parties v k) ≡ 
 new-parties-off u v k h =
     zero-count u (new-parties v k) (all-map (λ w b e. omega arith) (new-parties v k) (new-parties-all v k))
 
+-- a number that is among them is there once
 pub new-parties-once : (u v k : ℕ) → v ≤ u → u < v + k → count u (new-parties v k) ≡ 1
 unfolding new-parties count
 new-parties-once u v zero h l = absurd (omega arith)
@@ -67,20 +69,24 @@ unfoldable pub padded-side : ℕ → List ℕ → List ℕ → (ℕ → ℕ) →
 padded-side P left right side v = pick (ltb v P) (side v) (pick (ltb (length left) (length right)) 0 1)
 
 module _ (P : ℕ) (left right : List ℕ) (side : ℕ → ℕ) where
+  -- an old party stays on its side
   pub padded-side-old : (v : ℕ) → v < P → padded-side P left right side v ≡ side v
   unfolding padded-side
   padded-side-old v h = rw (lt-ltb v P h)
 
+  -- a new one is left if the left side was shorter
   pub padded-side-left : (v : ℕ) → P ≤ v → length left < length right → padded-side P left right side v ≡ 0
   unfolding padded-side
   padded-side-left v h l = rw (le-ltb v P h, lt-ltb (length left) (length right) l)
 
+  -- and right if it was not
   pub padded-side-right : (v : ℕ) → P ≤ v → length right ≤ length left → padded-side P left right side v ≡ 1
   unfolding padded-side
   padded-side-right v h l = rw (le-ltb v P h, le-ltb (length left) (length right) l)
 
 -- ── both sides ──
 
+-- a padded side has n parties
 pub padded-length : (P n : ℕ) (side : List ℕ) → length side ≤ n → length (padded P n side) ≡ n
 padded-length P n side h =
     omega (arith, length-append side (new-parties P (n - length side)), new-parties-length P (n - length side))
@@ -101,6 +107,7 @@ padded-count-new P n v side h below =
       zero-count v side (all-map (λ u l e. omega arith) side below),
     )
 
+-- what holds of the old parties and of the new ones holds of all
 pub padded-all :
     (Q : ℕ → Type 0) (P n : ℕ) (side : List ℕ) → All Q side → ((v : ℕ) → (P ≤ v) × (v < P + (n - length side)) → Q v) →
     All Q (padded P n side)
@@ -112,6 +119,7 @@ padded-all Q P n side old new =
 abbrev pub even-length : List ℕ → List ℕ → ℕ
 even-length left right = max (length left) (length right)
 
+-- all parties of both sides
 abbrev pub even-parties : List ℕ → List ℕ → ℕ
 even-parties left right = even-length left right + even-length left right
 

@@ -13,6 +13,7 @@ use Rattle.evening.specs.Sides.{Can-pad-side, Padding}
 
 -- ── one side ──
 
+-- one new party more comes last
 pub new-parties-more : (v k : ℕ) → new-parties v (k + 1) ≡ new-parties v k ++ ((v + k) ∷ [])
 unfolding new-parties
 new-parties-more v zero = ap (λ x. x ∷ []) (omega arith)
@@ -22,6 +23,7 @@ new-parties-more v (suc k) =
     rw n (ap (λ l. v ∷ l) (rw e at (new-parties-more (v + 1) k)))
 
 module _ (at k n p : ℕ) (s : List ℕ) (h : Can-pad-side at k n p s) where
+  -- no party has been appended
   pub padding-none : Padding at k k p s s
   unfolding new-parties
   padding-none =
@@ -33,6 +35,7 @@ module _ (at k n p : ℕ) (s : List ℕ) (h : Can-pad-side at k n p s) where
         over = λ j a. refl;
       }
 
+  -- one party more has been appended
   pub padding-more :
       (i : ℕ) (t u : List ℕ) → k ≤ i → i < n → Padding at k i p s t → u ≡ put-word t (at + i) (p + (i - k)) →
       Padding at k (i + 1) p s u
@@ -63,6 +66,7 @@ module _ (p left l right r : ℕ) (s : List ℕ) (h : Can-pad p left l right r s
     padded-is : (t u : List ℕ) (at k : ℕ) → Padding at k n p t u → region u at n ≡ padded p n (region t at k)
     padded-is t u at k x = rw (region-length t at k) (x .side)
 
+    -- both sides padded, one after the other
     pub sides-padded :
         (t u : List ℕ) → Padding left l n p s t → Padding right r n p t u → Sides-padded p left l right r n s u
     sides-padded t u x y =

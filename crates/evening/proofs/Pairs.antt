@@ -23,10 +23,12 @@ weigh-appts w xs = total (λ x. w (x .first) (x .second)) xs
 abbrev pub appts-between : ℕ → ℕ → List Appt → ℕ
 appts-between u v xs = weigh-appts (between u v) xs
 
+-- no appointments weigh nothing
 pub weigh-appts-none : (w : ℕ → ℕ → ℕ) → weigh-appts w [] ≡ 0
 unfolding weigh-appts total
 weigh-appts-none w = refl
 
+-- one more adds its weight
 pub weigh-appts-cons :
     (w : ℕ → ℕ → ℕ) (x : Appt) (xs : List Appt) → weigh-appts w (x ∷ xs) ≡ w (x .first) (x .second) + weigh-appts w xs
 unfolding weigh-appts total
@@ -46,6 +48,7 @@ weigh-add-appointments w s g (x ∷ xs) =
       weigh-appts-cons w x xs,
     )
 
+-- So the pairs of a list weigh what its appointments weigh.
 pub weigh-list : (w : ℕ → ℕ → ℕ) → Symmetric w → (xs : List Appt) → weigh w (add-appointments [] xs) ≡ weigh-appts w xs
 weigh-list w s xs = omega (arith, weigh-add-appointments w s [] xs, weigh-none w)
 
@@ -77,5 +80,6 @@ sound-add-appointments N side g (x ∷ xs) h k =
     })
     (k .1)
 
+-- and so are those of the whole list
 pub sound-list : (N : ℕ) (side : ℕ → ℕ) (xs : List Appt) → All (Crosses N side) xs → Sound N side (add-appointments [] xs)
 sound-list N side xs = sound-add-appointments N side [] xs (record { across = tt; apart = tt; positive = tt })

@@ -8,7 +8,6 @@ use lib.ListN.{length, take}
 use lib.Seq.{take-all}
 use Rattle.words.specs.Basics.{count}
 use Rattle.words.specs.Words.{word, put-word}
-use Rattle.words.specs.Frames.{Changes-three}
 use Rattle.words.proofs.Ranges.{changes-stays, three-trans, three-keeps, three-within, three-middle}
 use Rattle.words.proofs.Frames.{here, away, length-put}
 use Rattle.appointments.specs.Appointments.{appts}
@@ -19,7 +18,7 @@ use Rattle.evening.specs.Evening.{add-appointments}
 use Rattle.evening.specs.Contract.{Can-pair, Pairs-made}
 use Rattle.evening.specs.Rows.{rows-from, Rows-fit, Rows-filled}
 use Rattle.evening.specs.Representatives.{Reps-fit, Reps-done}
-use Rattle.evening.specs.FromList.{Building, Built}
+use Rattle.evening.specs.FromList.{Pairs-change, Building, Built}
 use Rattle.evening.proofs.PlainLaws.{plain-is}
 use Rattle.evening.proofs.RepsLaws.{rep-of}
 use Rattle.evening.proofs.Listed.{listed-half}
@@ -33,6 +32,7 @@ module _ (list : List ℕ) (p d : ℕ) (at : Bases) (u : ℕ) (s : List ℕ)
   counts : (v : ℕ) → v < p → count v list ≤ d
   counts v a = omega (arith, h .loads v a, load-count v list (h .even))
 
+  -- there is room for the rows
   pub rows-fit : Rows-fit list (rows-from p d u) s
   rows-fit =
       record {
@@ -44,7 +44,10 @@ module _ (list : List ℕ) (p d : ℕ) (at : Bases) (u : ℕ) (s : List ℕ)
         short = h .short;
       }
 
-  pub reps-fit : (t : List ℕ) → Rows-filled list (rows-from p d u) (length list) s t → Reps-fit list (rows-from p d u) (u + p + d * p) (at .apair) t
+  -- with the rows filled the representatives can be found
+  pub reps-fit :
+      (t : List ℕ) → Rows-filled list (rows-from p d u) (length list) s t →
+      Reps-fit list (rows-from p d u) (u + p + d * p) (at .apair) t
   reps-fit t x =
       record {
         in-rows = x .filled;
@@ -59,7 +62,8 @@ module _ (list : List ℕ) (p d : ℕ) (at : Bases) (u : ℕ) (s : List ℕ)
         small = omega (arith, h .low);
       }
 
-  module _ (t r o : List ℕ) (x : Rows-filled list (rows-from p d u) (length list) s t) (y : Reps-done list p (u + p + d * p) (at .apair) p t r)
+  module _ (t r o : List ℕ) (x : Rows-filled list (rows-from p d u) (length list) s t)
+      (y : Reps-done list p (u + p + d * p) (at .apair) p t r)
       (z : o ≡ put-word (put-word r (at .g) (at .g)) (at .g + 1) 0) where
     mid : List ℕ
     mid = put-word r (at .g) (at .g)
@@ -77,14 +81,17 @@ module _ (list : List ℕ) (p d : ℕ) (at : Bases) (u : ℕ) (s : List ℕ)
     o-header =
         rw z
         (away mid (at .g + 1) (at .g) 0 (λ q. omega arith)
-        ∙ here r (at .g) (at .g) (omega (arith, h .after-graph, h .room, y .changes .len, x .keeps .len)) (omega (arith, h .after-graph, h .low)))
+        ∙ here r (at .g) (at .g) (omega (arith, h .after-graph, h .room, y .changes .len, x .keeps .len))
+        (omega (arith, h .after-graph, h .low)))
 
     o-size : size o (at .g) ≡ 0
     unfolding mid
     o-size =
         rw z
-        (here mid (at .g + 1) 0 (omega (arith, h .after-graph, h .room, y .changes .len, x .keeps .len, length-put r (at .g) (at .g))) (omega arith))
+        (here mid (at .g + 1) 0
+        (omega (arith, h .after-graph, h .room, y .changes .len, x .keeps .len, length-put r (at .g) (at .g))) (omega arith))
 
+    -- with the representatives found and a graph without pairs, the first appointment is next
     pub started : Building list at 0 o
     unfolding span add-appointments
     started =
@@ -112,22 +119,26 @@ module _ (list : List ℕ) (p d : ℕ) (at : Bases) (u : ℕ) (s : List ℕ)
         }
 
     -- up to here
-    prepared : Changes-three (at .ends) (2 * (length list / 2)) (at .apair) (length list / 2) (at .g) (2 + 2 * (length list / 2)) u s o
+    prepared : Pairs-change list at u s o
     prepared =
-        three-trans (three-keeps (at .ends) (2 * (length list / 2)) (at .apair) (length list / 2) (at .g) (2 + 2 * (length list / 2)) (x .keeps))
+        three-trans (three-keeps (at .ends) (2 * (length list / 2)) (at .apair) (length list / 2) (at .g)
+        (2 + 2 * (length list / 2)) (x .keeps))
         (three-trans
         (three-middle (at .ends) (2 * (length list / 2)) (at .g) (2 + 2 * (length list / 2)) (h .after-ends) (h .after-apair)
         (changes-stays u (omega arith) (y .changes)))
-        (three-within (at .ends) (2 * (length list / 2)) (at .apair) (length list / 2) (at .g) (2 + 2 * (length list / 2)) u r o (h .after-ends) (h .after-apair)
+        (three-within (at .ends) (2 * (length list / 2)) (at .apair) (length list / 2) (at .g)
+        (2 + 2 * (length list / 2)) u r o (h .after-ends) (h .after-apair)
         (o-len ∙ sym (y .changes .len ∙ x .keeps .len))
         (λ i m a b c. o-away i (λ q. c (omega arith) (omega arith)) (λ q. c (omega arith) (omega arith)))))
 
+    -- after the last appointment the pairs are made
     pub pairs-made : (e : List ℕ) → Built list at (length list / 2) o e → Pairs-made list (at .ends) (at .apair) (at .g) u s u e
     pairs-made e b =
         record {
           paired =
               record {
-                graph = λ pairs few. plain-is (at .ends) pairs (at .g) e (b .building .plain) few ∙ b .building .graph ∙ ap (add-appointments []) whole;
+                graph = λ pairs few. plain-is (at .ends) pairs (at .g) e (b .building .plain) few ∙ b .building .graph
+                    ∙ ap (add-appointments []) whole;
                 plain = b .building .plain;
                 few = b .building .few;
                 number-of = b .building .number-of;

@@ -37,14 +37,17 @@ pair-same :
 pair-same ends g s t table e a k =
     rw (first-same ends (size s g) s t table e a, second-same ends (size s g) s t table e a, k)
 
+-- and the same graph
 pub plain-same :
     (ends g : ℕ) (s t : List ℕ) → size t g ≡ size s g → Table-same ends (size s g) s t →
     ((e : ℕ) → e < size s g → copies-of t g e ≡ copies-of s g e) → plain-graph t ends g ≡ plain-graph s ends g
 plain-same ends g s t n table k =
-    rw n (span-same (plain-pair s ends g) (plain-pair t ends g) 0 (size s g) (λ e x y. pair-same ends g s t table e (omega arith) (k e (omega arith))))
+    rw n (span-same (plain-pair s ends g) (plain-pair t ends g) 0 (size s g)
+    (λ e x y. pair-same ends g s t table e (omega arith) (k e (omega arith))))
 
 -- ── what is written ──
 
+-- the words after a new pair m with the ends l and r
 pub record Pushed (ends g m l r copies : ℕ) (s t : List ℕ) : Type 0 where
   pub len : length t ≡ length s
   pub first : word t (ends + 2 * m) ≡ l
@@ -72,6 +75,7 @@ module _ (ends g m l r copies : ℕ) (s : List ℕ) where
   u5 : List ℕ
   u5 = put-word u4 (g + 1) (m + 1)
 
+  -- five words written
   pub pushed-words :
       ends + 2 * (m + 1) ≤ g → g + 2 + 2 * (m + 1) ≤ length s → g + 2 + 2 * (m + 1) ≤ 4294967296 → l < 4294967296 → r < 4294967296 →
       copies < 4294967296 → Pushed ends g m l r copies s (pushed ends g m l r copies s)
@@ -144,6 +148,7 @@ module _ (ends g e l r copies : ℕ) (s : List ℕ) (h : Pair-fits ends g e l r 
     there-distinct : Distinct-ends ends (size t g) t
     there-distinct = rw there-size (distinct-same ends (size s g) s t there-table (h .plain .distinct))
 
+    -- Pair e is there: its copies have grown.
     pub added-there : Pair-added ends g e l r copies s t
     added-there =
         record {
@@ -173,7 +178,9 @@ module _ (ends g e l r copies : ℕ) (s : List ℕ) (h : Pair-fits ends g e l r 
     its : e ≡ size s g
     its = omega (arith, next)
 
-    old : (i : ℕ) → (i < ends + 2 * size s g) ⊎ (ends + 2 * (size s g + 1) ≤ i) → (i ≡ g + 1 → ⊥) → (i < g + 2 + 2 * size s g) ⊎ (g + 2 + 2 * (size s g + 1) ≤ i) → word t i ≡ word s i
+    old :
+        (i : ℕ) → (i < ends + 2 * size s g) ⊎ (ends + 2 * (size s g + 1) ≤ i) → (i ≡ g + 1 → ⊥) →
+        (i < g + 2 + 2 * size s g) ⊎ (g + 2 + 2 * (size s g + 1) ≤ i) → word t i ≡ word s i
     old i x y z =
         b .elsewhere i (λ q. ⊎-elim (λ k. omega arith) (λ k. omega arith) x) (λ q. ⊎-elim (λ k. omega arith) (λ k. omega arith) x)
         (λ q. ⊎-elim (λ k. omega arith) (λ k. omega arith) z) (λ q. ⊎-elim (λ k. omega arith) (λ k. omega arith) z) y
@@ -223,6 +230,7 @@ module _ (ends g e l r copies : ℕ) (s : List ℕ) (h : Pair-fits ends g e l r 
     new-numbers f x =
         elim (ℕ-discrete f (size s g)) [ yes p ↦ rw p (b .its-number) | no p ↦ old-number f (omega arith) ]
 
+    -- Pair e is new: it is the last one.
     pub added-new : Pair-added ends g e l r copies s t
     added-new =
         record {
@@ -259,9 +267,11 @@ pub record Graph-kept (ends g : ℕ) (s t : List ℕ) : Type 0 where
   pub copies : (e : ℕ) → e < size s g → copies-of t g e ≡ copies-of s g e
 
 module _ (ends g : ℕ) (s t : List ℕ) (k : Graph-kept ends g s t) where
+  -- the graph is the same
   pub graph-kept : plain-graph t ends g ≡ plain-graph s ends g
   graph-kept = plain-same ends g s t (k .count) (k .table) (k .copies)
 
+  -- and numbers are still places
   pub plain-kept : Plain ends g s → Plain ends g t
   plain-kept h =
       record {

@@ -44,6 +44,7 @@ pub record Half (list : List ℕ) (k v w h : ℕ) : Type 0 where
   pub own : word list h ≡ v
   pub other : word list (mate h) ≡ w
 
+-- that half-edge
 pub half-of :
     (list : List ℕ) (k v w : ℕ) → Same-ends v w (first-of list k) (second-of list k) → (h : ℕ) × Half list k v w h
 half-of list k v w e =
@@ -60,22 +61,26 @@ half-of list k v w e =
 
 module _ (list : List ℕ) (map apair h : ℕ) (s t : List ℕ) (v w j r : ℕ) (ev : v ≡ word list h) (ew : w ≡ word list (mate h))
     (ej : j ≡ word s (map + w)) (says : Says r (Earlier list j (h / 2) v w)) where
+  -- the candidate is an earlier appointment with these ends
   pub rep-old : r ≡ 1 → t ≡ put-word s (apair + h / 2) j → Rep-found list map apair h s t
   rep-old one e =
       ⊎-elim (λ x. inl (rw (ej, ev, ew) at (x .0), rw (ej, ew) at e)) (λ x. absurd (omega (arith, x .1))) says
 
+  -- it is not
   pub rep-new : (r ≡ 1 → ⊥) → t ≡ put-word (put-word s (apair + h / 2) (h / 2)) (map + w) (h / 2) → Rep-found list map apair h s t
   rep-new other e =
       ⊎-elim (λ x. absurd (other (x .1))) (λ x. inr (rw (ej, ev, ew) at (x .0), rw ew at e)) says
 
 -- ── what is written ──
 
+-- the words after it: representative j for appointment i, candidate c for party w
 pub record Rep-written (map apair w i j c : ℕ) (s t : List ℕ) : Type 0 where
   pub rep : word t (apair + i) ≡ j
   pub its-map : word t (map + w) ≡ c
   pub elsewhere : (n : ℕ) → (n ≡ apair + i → ⊥) → (n ≡ map + w → ⊥) → word t n ≡ word s n
 
-module _ (list : List ℕ) (rs : RowBases) (map apair : ℕ) (s₀ : List ℕ) (fit : Reps-fit list rs map apair s₀) (v : ℕ) (party : v < rs .parties) where
+module _ (list : List ℕ) (rs : RowBases) (map apair : ℕ) (s₀ : List ℕ) (fit : Reps-fit list rs map apair s₀) (v : ℕ)
+    (party : v < rs .parties) where
   abbrev h-at : ℕ → ℕ
   h-at t = row s₀ rs v t
 
@@ -88,11 +93,13 @@ module _ (list : List ℕ) (rs : RowBases) (map apair : ℕ) (s₀ : List ℕ) (
     pub le : candidate list map h s ≤ h / 2
     pub same : Same list (candidate list map h s) (h / 2)
 
+  -- The first k half-edges of the row have been passed, and representatives found before are kept.
   pub record Going (k : ℕ) (s : List ℕ) : Type 0 where
     pub passed : (t : ℕ) → t < k → Passed (h-at t) s
     pub kept : (i : ℕ) → i < length list / 2 → Rep list i (word s₀ (apair + i)) → Rep list i (word s (apair + i))
     pub changes : Changes apair (length list / 2) map (rs .parties) s₀ s
 
+  -- none has been passed
   pub going-none : Going 0 s₀
   going-none =
       record {
@@ -125,7 +132,13 @@ module _ (list : List ℕ) (rs : RowBases) (map apair : ℕ) (s₀ : List ℕ) (
   -- the row lies within the words
   pub row-inside-words : (k t : ℕ) (s : List ℕ) → t < len → Going k s → rs .rows + rs .d * v + t < length s
   row-inside-words k t s a g =
-      omega (arith, row-inside (rs .d) v t (rs .parties) party (omega (arith, fit .lens v party)), fit .after-rows, fit .inside, g .changes .len)
+      omega (
+        arith,
+        row-inside (rs .d) v t (rs .parties) party (omega (arith, fit .lens v party)),
+        fit .after-rows,
+        fit .inside,
+        g .changes .len,
+      )
 
   module _ (k : ℕ) (s : List ℕ) (inside : k < len) (g : Going k s) where
     abbrev h : ℕ
@@ -255,7 +268,8 @@ module _ (list : List ℕ) (rs : RowBases) (map apair : ℕ) (s₀ : List ℕ) (
           its-map = away s (apair + i) (map + w) c (λ x. omega (arith, apair-low, i-below));
           elsewhere = λ n x y. away s (apair + i) n c x;
         }))
-        (rw q (changes-put-low apair (length list / 2) map (rs .parties) s (apair + i) c apair-low (omega arith) (omega (arith, i-below))))
+        (rw q (changes-put-low apair (length list / 2) map (rs .parties) s (apair + i) c apair-low (omega arith)
+        (omega (arith, i-below))))
 
     -- a half-edge passed before with the same other end would have given a candidate
     not-met : (Earlier list (word s (map + w)) i (word list h) w → ⊥) → (x : ℕ) → x < k → word list (mate (h-at x)) ≡ w → ⊥
@@ -296,6 +310,7 @@ module _ (list : List ℕ) (rs : RowBases) (map apair : ℕ) (s₀ : List ℕ) (
         (changes-put-low apair (length list / 2) map (rs .parties) s (apair + i) i apair-low (omega arith) (omega (arith, i-below)))
         (changes-put apair (length list / 2) map (rs .parties) u (map + w) i apair-low (omega arith) (omega (arith, w-party)))))
 
+    -- one half-edge more
     pub going-more : (t : List ℕ) → Rep-found list map apair h s t → Going (k + 1) t
     going-more t f = ⊎-elim (λ x. going-found t (x .0) (x .1)) (λ x. going-new t (x .0) (x .1)) f
 
@@ -319,6 +334,7 @@ module _ (list : List ℕ) (rs : RowBases) (map apair : ℕ) (s₀ : List ℕ) (
 -- ── all rows ──
 
 module _ (list : List ℕ) (rs : RowBases) (map apair : ℕ) (s₀ : List ℕ) (fit : Reps-fit list rs map apair s₀) where
+  -- no row has been gone through
   pub reps-none : Reps-done list (rs .parties) map apair 0 s₀ s₀
   reps-none = record { reps = λ h a e. absurd (omega arith); changes = changes-refl apair (length list / 2) map (rs .parties) s₀ }
 
@@ -366,8 +382,10 @@ module _ (list : List ℕ) (rs : RowBases) (map apair : ℕ) (s₀ : List ℕ) (
           let party : word list h < rs .parties = fit .ends h a in
           (x .0, omega (arith, x .1, len-same (word list h) party), row-same (word list h) (x .0) party (x .1) ∙ x .2)
 
+  -- one row more
   pub reps-more :
-      (v : ℕ) (s t : List ℕ) → v < rs .parties → Reps-done list (rs .parties) map apair v s₀ s → Row-done list (rs .parties) map apair v s t →
+      (v : ℕ) (s t : List ℕ) → v < rs .parties → Reps-done list (rs .parties) map apair v s₀ s →
+      Row-done list (rs .parties) map apair v s t →
       Reps-done list (rs .parties) map apair (v + 1) s₀ t
   reps-more v s t a x y =
       record {
@@ -383,7 +401,9 @@ module _ (list : List ℕ) (rs : RowBases) (map apair : ℕ) (s₀ : List ℕ) (
           ]
 
   -- every appointment has its representative
-  pub rep-of : (t : List ℕ) → Reps-done list (rs .parties) map apair (rs .parties) s₀ t → (i : ℕ) → i < length list / 2 → Rep list i (word t (apair + i))
+  pub rep-of :
+      (t : List ℕ) → Reps-done list (rs .parties) map apair (rs .parties) s₀ t → (i : ℕ) → i < length list / 2 →
+      Rep list i (word t (apair + i))
   rep-of t x i a =
       let h : 2 * i < length list = omega arith in
       let e : 2 * i / 2 ≡ i = omega arith in

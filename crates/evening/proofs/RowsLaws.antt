@@ -16,9 +16,11 @@ use Rattle.evening.specs.Rows.{row, counter, Cleared, Pushes, row-pushed
 
 -- ── clearing ──
 
+-- no word
 pub cleared-none : (b : ℕ) (s : List ℕ) → Cleared b 0 s s
 cleared-none b s = record { zero = λ v a. absurd (omega arith); keeps = keeps-refl b s }
 
+-- one word more
 pub cleared-more :
     (b n : ℕ) (s t u : List ℕ) → b + n < length s → Cleared b n s t → u ≡ put-word t (b + n) 0 → Cleared b (n + 1) s u
 cleared-more b n s t u inside h e =
@@ -36,6 +38,7 @@ cleared-more b n s t u inside h e =
 
 -- ── one half-edge more ──
 
+-- the words after half-edge h has gone to the end of the row of v
 pub record Row-pushed (rs : RowBases) (v h : ℕ) (s t : List ℕ) : Type 0 where
   pub len : length t ≡ length s
   pub under : (i : ℕ) → i < rs .counts → word t i ≡ word s i
@@ -45,8 +48,10 @@ pub record Row-pushed (rs : RowBases) (v h : ℕ) (s t : List ℕ) : Type 0 wher
   pub own-row : (x : ℕ) → x < counter s rs v → row t rs v x ≡ row s rs v x
   pub other-row : (w x : ℕ) → w < rs .parties → (w ≡ v → ⊥) → x < rs .d → row t rs w x ≡ row s rs w x
 
+-- where the row has a place left
 pub row-pushed-is :
-    (rs : RowBases) (v h : ℕ) (s t : List ℕ) → v < rs .parties → counter s rs v < rs .d → rs .counts + rs .parties ≤ rs .rows → rs .rows + rs .d * rs .parties ≤ length s →
+    (rs : RowBases) (v h : ℕ) (s t : List ℕ) → v < rs .parties → counter s rs v < rs .d → rs .counts + rs .parties ≤ rs .rows →
+    rs .rows + rs .d * rs .parties ≤ length s →
     rs .rows + rs .d * rs .parties ≤ 4294967296 → h < 4294967296 →
     t ≡ row-pushed rs v h s → Row-pushed rs v h s t
 row-pushed-is rs v h s t party short after inside small fits e =
@@ -83,6 +88,7 @@ row-pushed-is rs v h s t party short after inside small fits e =
     past i x = away u (rs .counts + v) i (l + 1) x
 
 module _ (list : List ℕ) (rs : RowBases) (s : List ℕ) (h : Rows-fit list rs s) where
+  -- with all counters 0 no half-edge is in a row
   pub filled-none : (t : List ℕ) → Cleared (rs .counts) (rs .parties) s t → Rows-filled list rs 0 s t
   unfolding count
   filled-none t x =
@@ -197,6 +203,7 @@ module _ (list : List ℕ) (rs : RowBases) (s : List ℕ) (h : Rows-fit list rs 
                 ]
           ]
 
+      -- one half-edge more is in its row
       pub filled-more : Rows-filled list rs (k + 1) s u
       filled-more =
           record {

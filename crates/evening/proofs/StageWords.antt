@@ -47,14 +47,18 @@ module _ (list : List ℕ) (d n : ℕ) (at : Bases) (u : ℕ) (first : List ℕ)
   start = plain-graph first (at .ends) (at .g)
 
   start-is : start ≡ add-appointments [] (appts list)
-  start-is = sym (plain-is (at .ends) (size first (at .g)) (at .g) first (h .paired .plain) (omega arith)) ∙ h .paired .graph (size first (at .g)) (omega arith)
+  start-is =
+      sym (plain-is (at .ends) (size first (at .g)) (at .g) first (h .paired .plain) (omega arith))
+      ∙ h .paired .graph (size first (at .g)) (omega arith)
 
+  -- the graph at the start is sound
   pub start-sound : Sound (n + n) side start
   start-sound = rw start-is (sound-list (n + n) side (appts list) (h .crosses))
 
   start-degree : (v : ℕ) → degree v start ≡ load v (appts list)
   start-degree v = ap (degree v) start-is ∙ degree-load v (appts list)
 
+  -- and no degree is above d
   pub start-most : (v : ℕ) → v < n + n → degree v start ≤ d
   start-most v a = omega (arith, start-degree v, h .loads v a)
 
@@ -70,6 +74,8 @@ module _ (list : List ℕ) (d n : ℕ) (at : Bases) (u : ℕ) (first : List ℕ)
       }
 
   module _ (s₁ : List ℕ) (x : Rows-filled list (rows-from (n + n) d u) (length list) first s₁) where
+    -- The words s hold the state E: i left and j right parties have been passed, the counters hold the degrees, and each pair added since
+    -- the start has a full end.
     pub record Stage (E : Evening) (i j : ℕ) (s : List ℕ) : Type 0 where
       pub left-rest : E .left ≡ drop i lefts
       pub right-rest : E .right ≡ drop j rights
@@ -85,8 +91,14 @@ module _ (list : List ℕ) (d n : ℕ) (at : Bases) (u : ℕ) (first : List ℕ)
       pub changes : (mark : ℕ) → Changes-three (at .ends) (2 * (n * d + n)) (at .g) (2 + 2 * (n * d + n)) u (n + n) mark s₁ s
 
     start-few : size first (at .g) ≤ n * d
-    start-few = omega (arith, pairs-le n side d start (start-sound .across) (start-sound .positive) start-most, span-length (plain-pair first (at .ends) (at .g)) 0 (size first (at .g)))
+    start-few =
+        omega (
+          arith,
+          pairs-le n side d start (start-sound .across) (start-sound .positive) start-most,
+          span-length (plain-pair first (at .ends) (at .g)) 0 (size first (at .g)),
+        )
 
+    -- the table of ends lies below the graph
     pub table-low : at .ends + 2 * (n * d + n) ≤ at .g
     table-low = omega (arith, h .after-ends, h .after-apair)
 
@@ -95,6 +107,7 @@ module _ (list : List ℕ) (d n : ℕ) (at : Bases) (u : ℕ) (first : List ℕ)
         graph-kept-by (at .ends) (at .g) (n * d + n) first s₁ (omega (arith, start-few)) table-low
         (λ i a b. x .keeps .same i (omega (arith, table-low, h .after-graph))) (λ i a b. x .keeps .same i (omega (arith, h .after-graph)))
 
+    -- no step has been taken
     pub stage-none : Stage (evening start lefts rights) 0 0 s₁
     stage-none =
         record {
@@ -159,13 +172,15 @@ module _ (list : List ℕ) (d n : ℕ) (at : Bases) (u : ℕ) (first : List ℕ)
         pub left-degree : i < n → word s (u + l) ≡ degree l (E .graph)
         pub right-degree : j < n → word s (u + r) ≡ degree r (E .graph)
 
+      -- all that follows from a stage
       pub known : Known
       known =
           record {
             len = st .changes 0 .len ∙ x .keeps .len;
             pair-of =
                 λ k a.
-                st .changes (at .apair + k + 1) .after-first (at .apair + k) (omega arith) (omega (arith, h .after-ends)) (omega (arith, h .after-apair))
+                st .changes (at .apair + k + 1) .after-first (at .apair + k) (omega arith) (omega (arith, h .after-ends))
+                (omega (arith, h .after-apair))
                 ∙ x .keeps .same (at .apair + k) (omega (arith, h .after-apair, h .after-graph));
             row-of =
                 λ v k. st .changes (u + (n + n) + d * v + k + 1) .after-third (u + (n + n) + d * v + k) (omega arith) (omega arith);
@@ -210,26 +225,33 @@ module _ (list : List ℕ) (d n : ℕ) (at : Bases) (u : ℕ) (first : List ℕ)
             changes = st .changes;
           }
 
+      -- all left parties are passed
       pub stage-done : n ≤ i → Stage (even-out-step d E) i j s
       stage-done a =
           let none : E .left ≡ [] = st .left-rest ∙ drop-of-length-le lefts {i = i} (omega (arith, region-length first (at .left) n)) in
           stage-same i j [] (E .right) (rw none (next-done d (E .graph) (E .right))) (sym none ∙ st .left-rest) (st .right-rest)
 
+      -- the next left party is full
       pub stage-left : i < n → word s (u + l) ≡ d → Stage (even-out-step d E) (i + 1) j s
       stage-left a e =
           stage-same (i + 1) j (drop (i + 1) lefts) (E .right)
-          (rw (left-cons a) (next-left d (E .graph) l (drop (i + 1) lefts) (E .right) (sym (known .left-degree a) ∙ e))) refl (st .right-rest)
+          (rw (left-cons a) (next-left d (E .graph) l (drop (i + 1) lefts) (E .right) (sym (known .left-degree a) ∙ e))) refl
+          (st .right-rest)
 
+      -- no right party is left
       pub stage-none-right : i < n → (word s (u + l) ≡ d → ⊥) → n ≤ j → Stage (even-out-step d E) i j s
       stage-none-right a e b =
-          let none : E .right ≡ [] = st .right-rest ∙ drop-of-length-le rights {i = j} (omega (arith, region-length first (at .right) n)) in
+          let none : E .right ≡ [] =
+          st .right-rest ∙ drop-of-length-le rights {i = j} (omega (arith, region-length first (at .right) n)) in
           stage-same i j (l ∷ drop (i + 1) lefts) []
           (rw (left-cons a, none) (next-none d (E .graph) l (drop (i + 1) lefts) (λ q. e (known .left-degree a ∙ q))))
           (sym (left-cons a) ∙ st .left-rest) (sym none ∙ st .right-rest)
 
+      -- the next right party is full
       pub stage-right : i < n → (word s (u + l) ≡ d → ⊥) → j < n → word s (u + r) ≡ d → Stage (even-out-step d E) i (j + 1) s
       stage-right a e b f =
           stage-same i (j + 1) (l ∷ drop (i + 1) lefts) (drop (j + 1) rights)
           (rw (left-cons a, right-cons b)
-          (next-right d (E .graph) l (drop (i + 1) lefts) r (drop (j + 1) rights) (λ q. e (known .left-degree a ∙ q)) (sym (known .right-degree b) ∙ f)))
+          (next-right d (E .graph) l (drop (i + 1) lefts) r (drop (j + 1) rights) (λ q. e (known .left-degree a ∙ q))
+          (sym (known .right-degree b) ∙ f)))
           (sym (left-cons a) ∙ st .left-rest) refl

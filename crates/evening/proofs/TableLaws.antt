@@ -12,9 +12,11 @@ abbrev pub Table-same : ℕ → ℕ → List ℕ → List ℕ → Type 0
 Table-same ends n s t = (i : ℕ) → ends ≤ i → i < ends + 2 * n → word t i ≡ word s i
 
 module _ (ends n : ℕ) (s t : List ℕ) (same : Table-same ends n s t) where
+  -- a pair's first end
   pub first-same : (e : ℕ) → e < n → word t (ends + 2 * e) ≡ word s (ends + 2 * e)
   first-same e a = same (ends + 2 * e) (omega arith) (omega arith)
 
+  -- and its second end
   pub second-same : (e : ℕ) → e < n → word t (ends + 2 * e + 1) ≡ word s (ends + 2 * e + 1)
   second-same e a = same (ends + 2 * e + 1) (omega arith) (omega arith)
 
@@ -22,6 +24,7 @@ module _ (ends n : ℕ) (s t : List ℕ) (same : Table-same ends n s t) where
   pub has-ends-new : (e l r : ℕ) → e < n → Has-ends s ends e l r → Has-ends t ends e l r
   has-ends-new e l r a x = rw (first-same e a, second-same e a) x
 
+  -- and back
   pub has-ends-old : (e l r : ℕ) → e < n → Has-ends t ends e l r → Has-ends s ends e l r
   has-ends-old e l r a x = rw (first-same e a, second-same e a) at x
 

@@ -12,10 +12,11 @@ use Rattle.multigraph.specs.Steps.{span}
 use Rattle.evening.specs.Contract.{Has-ends, Plain}
 use Rattle.evening.specs.Rows.{row}
 
--- the pair at place e, by its number; the whole graph
+-- the pair at place e, which is its number
 abbrev pub plain-pair : List ℕ → ℕ → ℕ → ℕ → Pair
 plain-pair s ends g e = pair (word s (ends + 2 * e)) (word s (ends + 2 * e + 1)) (copies-of s g e) 0
 
+-- the whole graph
 abbrev pub plain-graph : List ℕ → ℕ → ℕ → Graph
 plain-graph s ends g = span (plain-pair s ends g) 0 (size s g)
 
@@ -49,6 +50,7 @@ pub record Pair-fits (ends g e l r copies : ℕ) (s : List ℕ) : Type 0 where
   pub light : (f : ℕ) → f < size s g → copies-of s g f + copies < 4294967296
   pub few : copies < 4294967296
 
+-- Copies have been added to the pair with the ends l and r, which has number e.
 pub record Pair-added (ends g e l r copies : ℕ) (s t : List ℕ) : Type 0 where
   pub graph : plain-graph t ends g ≡ add-edge (plain-graph s ends g) l r copies 0
   pub plain : Plain ends g t
@@ -60,5 +62,6 @@ pub record Pair-added (ends g e l r copies : ℕ) (s t : List ℕ) : Type 0 wher
   pub its-ends : Has-ends t ends e l r
   pub changes : Changes (ends + 2 * size s g) 2 g (2 + 2 * (size s g + 1)) s t
 
+-- what `add_pair` gives where the pair fits
 abbrev pub Adds-pair : ℕ → ℕ → ℕ → ℕ → ℕ → ℕ → List ℕ → List ℕ → Type 0
 Adds-pair ends g e l r copies s t = Pair-fits ends g e l r copies s → Pair-added ends g e l r copies s t

@@ -27,10 +27,11 @@ pub record Plain (ends g : ℕ) (s : List ℕ) : Type 0 where
   pub numbers : (e : ℕ) → e < size s g → number s g e ≡ e
   pub distinct : Distinct-ends ends (size s g) s
 
--- the two ends of appointment i
+-- the first end of appointment i
 abbrev pub first-of : List ℕ → ℕ → ℕ
 first-of list i = word list (2 * i)
 
+-- its second end
 abbrev pub second-of : List ℕ → ℕ → ℕ
 second-of list i = word list (2 * i + 1)
 
@@ -74,6 +75,7 @@ pub record Paired (list : List ℕ) (ends apair g : ℕ) (s : List ℕ) : Type 0
   pub ends-of : (i : ℕ) → i < length list / 2 → Has-ends s ends (word s (apair + i)) (first-of list i) (second-of list i)
   pub every : (e : ℕ) → e < size s g → (i : ℕ) × (i < length list / 2) × (word s (apair + i) ≡ e)
 
+-- The pairs of the list are made, and the mark is where it was.
 pub record Pairs-made (list : List ℕ) (ends apair g u : ℕ) (s : List ℕ) (u' : ℕ) (t : List ℕ) : Type 0 where
   pub paired : Paired list ends apair g t
   pub mark : u' ≡ u

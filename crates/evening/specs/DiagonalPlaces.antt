@@ -83,6 +83,7 @@ pub record Looks (n : ℕ) (at : Bases) (diag e : ℕ) (s : List ℕ) : Type 0 w
   pub rights : at .right + n ≤ length s
   pub numbers : diag + n ≤ length s
 
+-- that place learns the number e, if there is one
 abbrev pub Looked-at : ℕ → Bases → ℕ → ℕ → ℕ → List ℕ → List ℕ → Type 0
 Looked-at n at diag b e s t =
     (On-diagonal n at b e s × (t ≡ put-word s (diag + place-of (at .ends) b e s) e))

@@ -29,6 +29,7 @@ pub record Evening : Type 0 where
   pub left : List ℕ
   pub right : List ℕ
 
+-- a state by its three parts
 abbrev pub evening : Graph → List ℕ → List ℕ → Evening
 evening g left right = record { graph = g; left = left; right = right }
 
@@ -40,11 +41,13 @@ even-out-pair D g l left (r ∷ right) =
     pick (eqb (degree r g) D) (evening g (l ∷ left) right)
     (evening (add-edge g l r (min (D - degree l g) (D - degree r g)) 0) (l ∷ left) (r ∷ right))
 
+-- The next left party is passed if it is full, else filled.
 unfoldable pub even-out-next : ℕ → Graph → List ℕ → List ℕ → Evening
 even-out-next D g [] right = evening g [] right
 even-out-next D g (l ∷ left) right =
     pick (eqb (degree l g) D) (evening g left right) (even-out-pair D g l left right)
 
+-- one step
 abbrev pub even-out-step : ℕ → Evening → Evening
 even-out-step D s = even-out-next D (s .graph) (s .left) (s .right)
 

@@ -48,10 +48,11 @@ pub record Filled (list : List ℕ) (at : Bases) (rs : RowBases) (l r : ℕ) (s 
       ≡ put-word (put-word added (rs .counts + l) (counter s rs l + shortfall rs l r s)) (rs .counts + r)
       (counter s rs r + shortfall rs l r s)
 
--- the next parties on the left and on the right, of whom i and j have been passed
+-- the next party on the left, where i have been passed
 abbrev pub next-left : Bases → List ℕ → ℕ → ℕ
 next-left at s i = word s (at .left + i)
 
+-- and on the right, where j have been
 abbrev pub next-right : Bases → List ℕ → ℕ → ℕ
 next-right at s j = word s (at .right + j)
 

@@ -35,6 +35,12 @@ pub record Building (list : List ℕ) (at : Bases) (k : ℕ) (s : List ℕ) : Ty
   pub small : at .g + 2 + 2 * (length list / 2) < 4294967296
   pub short : length list ≤ 8192
 
+-- below the mark nothing changes but the table of ends, the appointments' pairs and the graph, as long as the list can make them
+abbrev pub Pairs-change : List ℕ → Bases → ℕ → List ℕ → List ℕ → Type 0
+Pairs-change list at mark s t =
+    Changes-three (at .ends) (2 * (length list / 2)) (at .apair) (length list / 2) (at .g) (2 + 2 * (length list / 2)) mark s t
+
+-- The first k appointments have their pairs, and nothing else below the mark has changed.
 pub record Built (list : List ℕ) (at : Bases) (k : ℕ) (s t : List ℕ) : Type 0 where
   pub building : Building list at k t
-  pub changes : (mark : ℕ) → Changes-three (at .ends) (2 * (length list / 2)) (at .apair) (length list / 2) (at .g) (2 + 2 * (length list / 2)) mark s t
+  pub changes : (mark : ℕ) → Pairs-change list at mark s t

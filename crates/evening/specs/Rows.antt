@@ -35,6 +35,7 @@ abbrev pub row-pushed : RowBases → ℕ → ℕ → List ℕ → List ℕ
 row-pushed rs v h s =
     put-word (put-word s (rs .rows + rs .d * v + counter s rs v) h) (rs .counts + v) (counter s rs v + 1)
 
+-- There is a row for each party that the list names, long enough for its load.
 pub record Rows-fit (list : List ℕ) (rs : RowBases) (s : List ℕ) : Type 0 where
   pub ends : (h : ℕ) → h < length list → word list h < rs .parties
   pub loads : (v : ℕ) → v < rs .parties → count v list ≤ rs .d
@@ -53,6 +54,7 @@ pub record Rows (list : List ℕ) (rs : RowBases) (k : ℕ) (s : List ℕ) : Typ
       (h : ℕ) → h < k →
       (t : ℕ) × (t < counter s rs (word list h)) × (row s rs (word list h) t ≡ h)
 
+-- The first k half-edges are in the rows, and the words below them stay.
 pub record Rows-filled (list : List ℕ) (rs : RowBases) (k : ℕ) (s t : List ℕ) : Type 0 where
   pub filled : Rows list rs k t
   pub keeps : Keeps (rs .counts) s t

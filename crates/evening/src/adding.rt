@@ -35,7 +35,15 @@ fn push_pair(s: &mut [u32], ends: usize, g: usize, m: usize, l: usize, r: usize,
 }
 
 // `add_edge` where the pair's number is known: pair `e` gets the copies, or is new if it is the next number.
-pub(crate) fn add_pair(s: &mut [u32], ends: usize, g: usize, e: usize, l: usize, r: usize, copies: usize)
+pub(crate) fn add_pair(
+    s: &mut [u32],
+    ends: usize,
+    g: usize,
+    e: usize,
+    l: usize,
+    r: usize,
+    copies: usize,
+)
     requires { ⌜ ends < 4294967296 ⌝ }
     requires { ⌜ g < 4294967296 ⌝ }
     requires { ⌜ copies < 4294967296 ⌝ }

@@ -75,7 +75,14 @@ fn fill(s: &mut [u32], list: &[u16], at: Bases, rows: RowBases, l: usize, r: usi
 
 // One step: a full party is passed, or the smaller shortfall of two short ones is added. After the last left party nothing
 // happens.
-fn even_step(s: &mut [u32], list: &[u16], at: Bases, rows: RowBases, n: usize, passed: Passed) -> Passed
+fn even_step(
+    s: &mut [u32],
+    list: &[u16],
+    at: Bases,
+    rows: RowBases,
+    n: usize,
+    passed: Passed,
+) -> Passed
     requires { ⌜ Fill-small at rows × (n < 4294967296) ⌝ }
     requires { ⌜ (passed .l < n → Has-place (at .ends) (at .g) (now s)) ⌝ }
     ensures { λ x. ⌜ Step-taken (now (list .entry)) at rows n (now (s .entry)) (now (s .exit)) (passed .l) (passed .r) (x .l) (x .r) ⌝ }

@@ -25,8 +25,7 @@ begin-place-requires c κs =
     let a = c .before .before .before .before .args in
     let h = c .before .before .before .before .pre in
     let lp = c .before .before .loop in
-    let small = diag-small (a .n) (a .at) (a .diag) (a .b) (a .m) (a .s .now) (h .lies) in
-    (
+    let small = diag-small (a .n) (a .at) (a .diag) (a .b) (a .m) (a .s .now) (h .lies) in (
       (small, omega (arith, h .lies .after-ends, h .lies .low), omega (arith, h .lies .low)),
       begins (a .n) (a .at) (a .diag) (a .b) (a .m) (a .s .now) h (lp .i) (lp .s) (omega arith) (lp .inv .2 h),
     )

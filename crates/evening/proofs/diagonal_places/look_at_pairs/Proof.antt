@@ -26,8 +26,7 @@ look-at-requires c κs =
     let a = c .before .before .before .before .args in
     let h = c .before .before .before .before .pre in
     let lp = c .before .before .loop in
-    let small = diag-small (a .n) (a .at) (a .diag) (a .b) (a .m) (a .s .now) (h .lies) in
-    (
+    let small = diag-small (a .n) (a .at) (a .diag) (a .b) (a .m) (a .s .now) (h .lies) in (
       (small, omega (arith, h .lies .after-ends, h .lies .low)),
       looks (a .n) (a .at) (a .diag) (a .b) (a .m) (a .s .now) h (lp .e) (lp .s) (omega arith) (lp .inv .1),
     )

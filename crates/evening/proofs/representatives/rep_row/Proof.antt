@@ -61,8 +61,7 @@ find-rep-requires c κs =
 loop-again : tie.Need-loop-again Inv-loop μ-loop
 loop-again c =
     let a = c .before .before .before .before .before .before .before .before .before .before .before .before .before .before .before .args in
-    let lp = c .before .before .before .before .before .before .before .loop in
-    (
+    let lp = c .before .before .before .before .before .before .before .loop in (
       search needs,
       search needs,
       λ at fit party is-n is-from.
