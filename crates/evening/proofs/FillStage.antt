@@ -109,7 +109,7 @@ module _ (list : List ℕ) (d n : ℕ) (at : Bases) (u : ℕ) (first : List ℕ)
       let place = x .filled .there (f .0) f-below in
       let below-end : place .0 < word s₁ (u + l) = rw (f .1 .own) at (place .1) in
       let place-is : row s₁ (rows-from (n + n) d u) l (place .0) ≡ f .0 = rw (f .1 .own) at (place .2) in
-      let is : word s (u + (n + n) + d * l + place .0) ≡ f .0 = K .row-of l (place .0) ∙ place-is in
+      let is : word s (u + (n + n) + d * l + place .0) ≡ f .0 = rw (K .row-of l (place .0)) place-is in
       (place .0, omega (arith, below-end, K .row-end l l-below), rw (is, f .1 .of) joins)
 
   -- a pair that was added since has a full end

@@ -1,4 +1,5 @@
--- What the public steps of this crate require and what they do. Assumes nothing.
+-- What the public steps of this crate require and what they do. Throughout this crate s are the words before a step and t those
+-- after it, and u is the mark: from there on words are free. Assumes nothing.
 use Prim.Native.Nat.{ℕ, _+_, _*_, _/_, _%_, _<_, _≤_, max}
 use mathlib.Core.Path.{_≡_}
 use mathlib.Core.List.{List, []}

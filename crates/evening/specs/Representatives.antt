@@ -46,7 +46,7 @@ pub record Finds (list : List ℕ) (map apair h : ℕ) (s : List ℕ) : Type 0 w
   pub rep : apair + h / 2 < length s
   pub candidate : map + word list (mate h) < length s
 
--- Pairs numbers go to `apair`, below the rows; the map lies above them.
+-- The rows are filled. Representatives go to `apair`, below the rows; the map lies above them.
 pub record Reps-fit (list : List ℕ) (rs : RowBases) (map apair : ℕ) (s : List ℕ) : Type 0 where
   pub in-rows : Rows list rs (length list) s
   pub lens : (v : ℕ) → v < rs .parties → counter s rs v ≤ rs .d

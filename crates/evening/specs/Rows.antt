@@ -1,4 +1,5 @@
--- Rows of half-edges: what they hold, and what filling them asks and gives (`src/rows.rt`). Assumes nothing.
+-- Rows of half-edges: what they hold, and what filling them asks and gives (`src/rows.rt`). Where they lie is called rs. Assumes
+-- nothing.
 use Prim.Native.Nat.{ℕ, _+_, _*_, _<_, _≤_}
 use mathlib.Core.Path.{_≡_}
 use mathlib.Core.List.{List}
