@@ -10,7 +10,6 @@ use lib.ListN.{length, take, length-take}
 use Rattle.words.specs.Basics.{count}
 use Rattle.words.specs.Words.{word, put-word}
 use Rattle.words.proofs.Ranges.{three-refl, three-trans, three-within, three-outer}
-use Rattle.words.proofs.Frames.{here, away, length-put}
 use Rattle.appointments.specs.Appointments.{appts}
 use Rattle.appointments.proofs.Flat.{appts-count}
 use Rattle.multigraph.specs.Multigraph.{add-edge}
@@ -24,6 +23,7 @@ use Rattle.evening.proofs.PlainLaws.{newest, Graph-kept, graph-kept, pl
 use Rattle.evening.proofs.TableLaws.{has-ends-new}
 use Rattle.evening.proofs.Listed.{add-appointments-more, copies-few}
 use Rattle.evening.specs.declared.Bases.{Bases}
+use Rattle.evening.proofs.Puts.{Put, put-is}
 
 -- ── one appointment more ──
 
@@ -106,15 +106,12 @@ module _ (list : List ℕ) (at : Bases) (k : ℕ) (s : List ℕ) (h : Building l
       }
 
   module _ (fit : Pair-fits (at .ends) (at .g) e x y 1 s) (t u : List ℕ) (add : Pair-added (at .ends) (at .g) e x y 1 s t)
-      (put : u ≡ put-word t (at .apair + k) e) where
+      (written : u ≡ put-word t (at .apair + k) e) where
     e-small : e < 4294967296
     e-small = omega (arith, add .its-number, add .by-one, h .few, h .small)
 
-    u-here : word u (at .apair + k) ≡ e
-    u-here = rw put (here t (at .apair + k) e (omega (arith, add .changes .len, h .inside, h .after-apair)) e-small)
-
-    u-away : (i : ℕ) → (i ≡ at .apair + k → ⊥) → word u i ≡ word t i
-    u-away i z = rw put (away t (at .apair + k) i e z)
+    put : Put (at .apair + k) e t u
+    put = put-is (at .apair + k) e t u written (omega (arith, add .changes .len, h .inside, h .after-apair)) e-small
 
     t-few : size t (at .g) ≤ k + 1
     t-few = omega (arith, add .by-one, h .few)
@@ -122,13 +119,13 @@ module _ (list : List ℕ) (at : Bases) (k : ℕ) (s : List ℕ) (h : Building l
     -- the pairs of the earlier appointments stay
     old-pair : (i : ℕ) → (i ≡ k → ⊥) → i < length list / 2 → word u (at .apair + i) ≡ word s (at .apair + i)
     old-pair i z b =
-        u-away (at .apair + i) (λ q. z (omega arith))
+        put .else (at .apair + i) (λ q. z (omega arith))
         ∙ add .changes .between (at .apair + i) (omega (arith, h .few, h .after-ends)) (omega (arith, h .after-apair))
 
     kept-t : Graph-kept (at .ends) (at .g) t u
     kept-t =
         graph-kept-by (at .ends) (at .g) (k + 1) t u t-few (omega (arith, h .after-ends, h .after-apair))
-        (λ i a b. u-away i (λ q. omega (arith, h .after-ends))) (λ i a b. u-away i (λ q. omega (arith, h .after-apair)))
+        (λ i a b. put .else i (λ q. omega (arith, h .after-ends))) (λ i a b. put .else i (λ q. omega (arith, h .after-apair)))
 
     old-ends : (f l r : ℕ) → f < size s (at .g) → Has-ends s (at .ends) f l r → Has-ends u (at .ends) f l r
     old-ends f l r a z =
@@ -138,14 +135,14 @@ module _ (list : List ℕ) (at : Bases) (k : ℕ) (s : List ℕ) (h : Building l
     number-of' : (i : ℕ) → i < k + 1 → word u (at .apair + i) < size u (at .g)
     number-of' i a =
         elim (ℕ-discrete i k) [
-          | yes z ↦ rw z (omega (arith, u-here, add .its-number, kept-t .count))
+          | yes z ↦ rw z (omega (arith, put .new, add .its-number, kept-t .count))
           | no z ↦ omega (arith, old-pair i z (omega arith), h .number-of i (omega arith), add .grown, kept-t .count)
         ]
 
     ends-of' : (i : ℕ) → i < k + 1 → Has-ends u (at .ends) (word u (at .apair + i)) (first-of list i) (second-of list i)
     ends-of' i a =
         elim (ℕ-discrete i k) [
-          | yes z ↦ rw (z, u-here) (has-ends-new (at .ends) (size t (at .g)) t u (kept-t .table) e x y (add .its-number) (add .its-ends))
+          | yes z ↦ rw (z, put .new) (has-ends-new (at .ends) (size t (at .g)) t u (kept-t .table) e x y (add .its-number) (add .its-ends))
           | no z ↦
               rw (old-pair i z (omega arith))
               (old-ends (word s (at .apair + i)) (first-of list i) (second-of list i) (h .number-of i (omega arith))
@@ -159,7 +156,7 @@ module _ (list : List ℕ) (at : Bases) (k : ℕ) (s : List ℕ) (h : Building l
               let i = h .every f z in
               (i .0, omega (arith, i .1), old-pair (i .0) (λ q. omega (arith, i .1)) (omega (arith, i .1)) ∙ i .2)
           | no z ↦
-              (k, omega arith, u-here ∙ newest (at .ends) (at .g) e x y 1 s fit t add f (omega arith) (omega (arith, kept-t .count)))
+              (k, omega arith, put .new ∙ newest (at .ends) (at .g) e x y 1 s fit t add f (omega arith) (omega (arith, kept-t .count)))
         ]
 
     building' : Building list at (k + 1) u
@@ -175,7 +172,7 @@ module _ (list : List ℕ) (at : Bases) (k : ℕ) (s : List ℕ) (h : Building l
           reps = λ i a b. rw (old-pair i (λ q. omega arith) b) (h .reps i (omega arith) b);
           after-ends = h .after-ends;
           after-apair = h .after-apair;
-          inside = omega (arith, h .inside, add .changes .len, ap length put, length-put t (at .apair + k) e);
+          inside = omega (arith, h .inside, add .changes .len, put .len);
           small = h .small;
           short = h .short;
         }
@@ -188,7 +185,7 @@ module _ (list : List ℕ) (at : Bases) (k : ℕ) (s : List ℕ) (h : Building l
         (omega (arith, h .few)) (h .after-ends) (h .after-apair) (omega arith) (omega (arith, h .few)) (add .changes))
         (three-within (at .ends) (2 * (length list / 2)) (at .apair) (length list / 2) (at .g)
         (2 + 2 * (length list / 2)) mark t u (h .after-ends)
-        (h .after-apair) (ap length put ∙ length-put t (at .apair + k) e) (λ i m a b c. u-away i (λ q. b (omega arith) (omega arith))))
+        (h .after-apair) (put .len) (λ i m a b c. put .else i (λ q. b (omega arith) (omega arith))))
 
     -- and then one appointment more has its pair
     pub built : Built list at (k + 1) s u

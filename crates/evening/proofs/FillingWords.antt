@@ -1,6 +1,6 @@
 -- What the steps of evening out do, by what they have read, and two counters raised. Assumes nothing.
 use Prim.Native.Nat.{ℕ, _+_, _*_, _-_, _/_, _<_, _≤_, min}
-use mathlib.Core.Path.{_≡_, sym, _∙_}
+use mathlib.Core.Path.{_≡_, refl, sym, _∙_}
 use mathlib.Core.List.{List}
 use mathlib.Core.Logic.{inl, inr, ⊎-elim}
 use native.Mathlib.Omega.{arith}
@@ -8,7 +8,6 @@ use native.Mathlib.Decide.{ℕ-discrete}
 use native.Mathlib.Nat.{mul-le-mul}
 use lib.ListN.{length}
 use Rattle.words.specs.Words.{word, put-word}
-use Rattle.words.proofs.Frames.{here, away, length-put}
 use Rattle.multigraph.specs.Places.{size}
 use Rattle.evening.specs.Adding.{Adds-pair}
 use Rattle.evening.specs.Ends.{Says, Joins}
@@ -16,6 +15,7 @@ use Rattle.evening.specs.Filling.{Fill-small, Pair-found, shortfall, Fil
 use Rattle.evening.specs.Rows.{row, counter}
 use Rattle.evening.specs.declared.Bases.{Bases}
 use Rattle.evening.specs.declared.rows.RowBases.{RowBases}
+use Rattle.evening.proofs.Puts.{Put, put-is}
 
 -- what an answer 1 or 0 says
 pub says-yes : (r : ℕ) (P : Type 0) → Says r P → r ≡ 1 → P
@@ -94,22 +94,12 @@ pub raised :
     (l ≡ r → ⊥) → b + l < length a → b + r < length a → word s (b + l) + more < 4294967296 → word s (b + r) + more < 4294967296 →
     Raised b l r more s a t
 raised b l r more s a t e apart il ir sl sr =
-    rw e
-    (record {
-      len = length-put mid (b + r) y ∙ mid-len;
-      left = away mid (b + r) (b + l) y (λ q. apart (omega arith)) ∙ here a (b + l) x il sl;
-      right = here mid (b + r) y (omega (arith, mid-len)) sr;
-      elsewhere = λ k p q. away mid (b + r) k y q ∙ away a (b + l) k x p;
-    })
-  where
-    x : ℕ
-    x = word s (b + l) + more
-
-    y : ℕ
-    y = word s (b + r) + more
-
-    mid : List ℕ
-    mid = put-word a (b + l) x
-
-    mid-len : length mid ≡ length a
-    mid-len = length-put a (b + l) x
+    let mid : List ℕ = put-word a (b + l) (word s (b + l) + more) in
+    let p : Put (b + l) (word s (b + l) + more) a mid = put-is (b + l) (word s (b + l) + more) a mid refl il sl in
+    let q : Put (b + r) (word s (b + r) + more) mid t = put-is (b + r) (word s (b + r) + more) mid t e (omega (arith, p .len)) sr in
+    record {
+      len = q .len ∙ p .len;
+      left = q .else (b + l) (λ z. apart (omega arith)) ∙ p .new;
+      right = q .new;
+      elsewhere = λ k x y. q .else k y ∙ p .else k x;
+    }

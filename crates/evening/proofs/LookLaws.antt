@@ -7,12 +7,12 @@ use native.Mathlib.Omega.{arith}
 use native.Mathlib.Decide.{ℕ-discrete}
 use lib.ListN.{length}
 use Rattle.words.specs.Words.{word, put-word}
-use Rattle.words.proofs.Frames.{here, away, length-put}
 use Rattle.multigraph.specs.Regular.{Same-ends}
 use Rattle.evening.specs.Ends.{Says}
 use Rattle.evening.specs.DiagonalPlaces.{place-of, At-place, On-diagonal, Looks, Looked-at, Diag-ready, Looked}
 use Rattle.evening.specs.declared.Bases.{Bases}
 use Rattle.evening.proofs.TableLaws.{Table-same, first-same, has-ends-old, has-ends-new}
+use Rattle.evening.proofs.Puts.{Put, put-is}
 
 -- ── where the table and the sides are the same ──
 
@@ -129,28 +129,24 @@ module _ (n : ℕ) (at : Bases) (diag b m : ℕ) (s : List ℕ) (h : Diag-ready 
     looked-hit on e =
         record {
           numbers = numbers';
-          len = ap length e ∙ length-put t (diag + p) k ∙ x .len;
-          under = λ i a. other i (λ q. omega arith) ∙ x .under i a;
-          over = λ i a. other i (λ q. omega (arith, on .0)) ∙ x .over i a;
+          len = put .len ∙ x .len;
+          under = λ i a. put .else i (λ q. omega arith) ∙ x .under i a;
+          over = λ i a. put .else i (λ q. omega (arith, on .0)) ∙ x .over i a;
         }
       where
         p : ℕ
         p = place-of (at .ends) b k t
 
-        other : (i : ℕ) → (i ≡ diag + p → ⊥) → word v i ≡ word t i
-        other i q = rw e (away t (diag + p) i k q)
-
-        own : word v (diag + p) ≡ k
-        own =
-            rw e
-            (here t (diag + p) k (omega (arith, on .0, h .lies .after-diag, h .lies .after-ends, h .lies .room, x .len))
-            (omega (arith, h .lies .after-diag, h .lies .after-ends, h .lies .low)))
+        put : Put (diag + p) k t v
+        put =
+            put-is (diag + p) k t v e (omega (arith, on .0, h .lies .after-diag, h .lies .after-ends, h .lies .room, x .len))
+            (omega (arith, h .lies .after-diag, h .lies .after-ends, h .lies .low))
 
         numbers' : (i : ℕ) → i < n → Numbered (word v (diag + i)) i
         numbers' i a =
             elim (ℕ-discrete i p) [
-              | yes q ↦ rw (q, own) (inl (omega arith, at-place-old n m at s t table left-same right-same k p inside (on .0) (on .1)))
-              | no q ↦ rw (other (diag + i) (λ z. q (omega arith))) (number-kept i a (λ z. q (sym (place-found i a z))))
+              | yes q ↦ rw (q, put .new) (inl (omega arith, at-place-old n m at s t table left-same right-same k p inside (on .0) (on .1)))
+              | no q ↦ rw (put .else (diag + i) (λ z. q (omega arith))) (number-kept i a (λ z. q (sym (place-found i a z))))
             ]
 
     looked-miss : (On-diagonal n at b k t → ⊥) → v ≡ t → Looked n at diag m (k + 1) s v

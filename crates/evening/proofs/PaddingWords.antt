@@ -3,13 +3,13 @@ use Prim.Native.Nat.{ℕ, zero, suc, _+_, _-_, _≤_, _<_, max}
 use mathlib.Core.Path.{_≡_, refl, _∙_, ap}
 use mathlib.Core.List.{List, [], _∷_, _++_, append-assoc, append-nil}
 use native.Mathlib.Omega.{arith}
-use Rattle.words.specs.Words.{word, put-word}
-use Rattle.words.proofs.Frames.{here, away, length-put}
+use Rattle.words.specs.Words.{put-word}
 use Rattle.two_color.specs.Contract.{region}
 use Rattle.two_color.proofs.Regions.{region-length, region-more, region-same}
 use Rattle.evening.specs.Evening.{new-parties, padded}
 use Rattle.evening.specs.Contract.{Can-pad, Sides-padded}
 use Rattle.evening.specs.Sides.{Can-pad-side, Padding}
+use Rattle.evening.proofs.Puts.{Put, put-is}
 
 -- ── one side ──
 
@@ -41,20 +41,17 @@ module _ (at k n p : ℕ) (s : List ℕ) (h : Can-pad-side at k n p s) where
       Padding at k (i + 1) p s u
   padding-more i t u low inside x e =
       record {
-        side = rw (region-more u at i, same, new, x .side, append-assoc, one, new-parties-more p (i - k));
-        len = rw e (length-put t (at + i) (p + (i - k)) ∙ x .len);
-        under = λ j a. other j (omega arith) ∙ x .under j a;
-        over = λ j a. other j (omega arith) ∙ x .over j (omega arith);
+        side = rw (region-more u at i, same, put .new, x .side, append-assoc, one, new-parties-more p (i - k));
+        len = put .len ∙ x .len;
+        under = λ j a. put .else j (omega arith) ∙ x .under j a;
+        over = λ j a. put .else j (omega arith) ∙ x .over j (omega arith);
       }
     where
-      other : (j : ℕ) → (j ≡ at + i → ⊥) → word u j ≡ word t j
-      other j d = rw e (away t (at + i) j (p + (i - k)) d)
+      put : Put (at + i) (p + (i - k)) t u
+      put = put-is (at + i) (p + (i - k)) t u e (omega (arith, x .len, h .room)) (omega (arith, h .few))
 
       same : region u at i ≡ region t at i
-      same = region-same t u at i (λ j lo hi. other j (λ q. omega arith))
-
-      new : word u (at + i) ≡ p + (i - k)
-      new = rw e (here t (at + i) (p + (i - k)) (omega (arith, x .len, h .room)) (omega (arith, h .few)))
+      same = region-same t u at i (λ j lo hi. put .else j (λ q. omega arith))
 
       one : i + 1 - k ≡ i - k + 1
       one = omega arith

@@ -9,10 +9,8 @@ use lib.Seq.{take-all}
 use Rattle.words.specs.Basics.{count}
 use Rattle.words.specs.Words.{word, put-word}
 use Rattle.words.proofs.Ranges.{changes-stays, three-trans, three-keeps, three-within, three-middle}
-use Rattle.words.proofs.Frames.{here, away, length-put}
 use Rattle.appointments.specs.Appointments.{appts}
 use Rattle.appointments.proofs.Flat.{appts-count, load-count}
-use Rattle.multigraph.specs.Places.{size}
 use Rattle.multigraph.specs.Steps.{span}
 use Rattle.evening.specs.Evening.{add-appointments}
 use Rattle.evening.specs.Contract.{Can-pair, Pairs-made}
@@ -23,6 +21,7 @@ use Rattle.evening.proofs.PlainLaws.{plain-is}
 use Rattle.evening.proofs.RepsLaws.{rep-of}
 use Rattle.evening.proofs.Listed.{listed-half}
 use Rattle.evening.specs.declared.Bases.{Bases}
+use Rattle.evening.proofs.Puts.{Put, put-is}
 
 module _ (list : List ℕ) (p d : ℕ) (at : Bases) (u : ℕ) (s : List ℕ)
     (h : Can-pair list p d (at .ends) (at .apair) (at .g) u s) where
@@ -68,45 +67,41 @@ module _ (list : List ℕ) (p d : ℕ) (at : Bases) (u : ℕ) (s : List ℕ)
     mid : List ℕ
     mid = put-word r (at .g) (at .g)
 
-    o-len : length o ≡ length s
+    r-len : length r ≡ length s
+    r-len = y .changes .len ∙ x .keeps .len
+
+    -- the graph's header and its size are written
+    header : Put (at .g) (at .g) r mid
     unfolding mid
-    o-len = ap length z ∙ length-put mid (at .g + 1) 0 ∙ length-put r (at .g) (at .g) ∙ y .changes .len ∙ x .keeps .len
+    header =
+        put-is (at .g) (at .g) r mid refl (omega (arith, h .after-graph, h .room, r-len)) (omega (arith, h .after-graph, h .low))
+
+    no-size : Put (at .g + 1) 0 mid o
+    unfolding mid
+    no-size = put-is (at .g + 1) 0 mid o z (omega (arith, h .after-graph, h .room, r-len, header .len)) (omega arith)
+
+    o-len : length o ≡ length s
+    o-len = no-size .len ∙ header .len ∙ r-len
 
     o-away : (i : ℕ) → (i ≡ at .g → ⊥) → (i ≡ at .g + 1 → ⊥) → word o i ≡ word r i
-    unfolding mid
-    o-away i a b = rw z (away mid (at .g + 1) i 0 b ∙ away r (at .g) i (at .g) a)
-
-    o-header : word o (at .g) ≡ at .g
-    unfolding mid
-    o-header =
-        rw z
-        (away mid (at .g + 1) (at .g) 0 (λ q. omega arith)
-        ∙ here r (at .g) (at .g) (omega (arith, h .after-graph, h .room, y .changes .len, x .keeps .len))
-        (omega (arith, h .after-graph, h .low)))
-
-    o-size : size o (at .g) ≡ 0
-    unfolding mid
-    o-size =
-        rw z
-        (here mid (at .g + 1) 0
-        (omega (arith, h .after-graph, h .room, y .changes .len, x .keeps .len, length-put r (at .g) (at .g))) (omega arith))
+    o-away i a b = no-size .else i b ∙ header .else i a
 
     -- with the representatives found and a graph without pairs, the first appointment is next
     pub started : Building list at 0 o
     unfolding span add-appointments
     started =
         record {
-          graph = rw o-size;
+          graph = rw (no-size .new);
           plain =
               record {
-                header = o-header;
-                numbers = λ e a. absurd (omega (arith, o-size));
-                distinct = record { distinct = λ e f a b k. absurd (omega (arith, o-size)) };
+                header = no-size .else (at .g) (λ q. omega arith) ∙ header .new;
+                numbers = λ e a. absurd (omega (arith, no-size .new));
+                distinct = record { distinct = λ e f a b k. absurd (omega (arith, no-size .new)) };
               };
-          few = omega (arith, o-size);
+          few = omega (arith, no-size .new);
           number-of = λ i a. absurd (omega arith);
           ends-of = λ i a. absurd (omega arith);
-          every = λ e a. absurd (omega (arith, o-size));
+          every = λ e a. absurd (omega (arith, no-size .new));
           reps =
               λ i a b.
               rw (o-away (at .apair + i) (λ q. omega (arith, h .after-apair)) (λ q. omega (arith, h .after-apair)))
@@ -128,7 +123,7 @@ module _ (list : List ℕ) (p d : ℕ) (at : Bases) (u : ℕ) (s : List ℕ)
         (changes-stays u (omega arith) (y .changes)))
         (three-within (at .ends) (2 * (length list / 2)) (at .apair) (length list / 2) (at .g)
         (2 + 2 * (length list / 2)) u r o (h .after-ends) (h .after-apair)
-        (o-len ∙ sym (y .changes .len ∙ x .keeps .len))
+        (o-len ∙ sym r-len)
         (λ i m a b c. o-away i (λ q. c (omega arith) (omega arith)) (λ q. c (omega arith) (omega arith)))))
 
     -- after the last appointment the pairs are made

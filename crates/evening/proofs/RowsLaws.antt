@@ -8,11 +8,12 @@ use lib.ListN.{length, take}
 use Rattle.words.specs.Basics.{is, count}
 use Rattle.words.specs.Words.{word, put-word}
 use Rattle.words.proofs.Sums.{is-same, is-ne, count-take-le}
-use Rattle.words.proofs.Frames.{here, away, length-put, keeps-refl, keeps-trans}
+use Rattle.words.proofs.Frames.{keeps-refl, keeps-trans}
 use Rattle.words.proofs.Below.{rows-apart, row-inside}
 use Rattle.appointments.proofs.Flat.{count-more}
 use Rattle.evening.specs.declared.rows.RowBases.{RowBases}
 use Rattle.evening.specs.Rows.{row, counter, Cleared, Pushes, row-pushed, Rows-fit, Rows-filled}
+use Rattle.evening.proofs.Puts.{Put, put-is}
 
 -- ── clearing ──
 
@@ -24,16 +25,16 @@ cleared-none b s = record { zero = λ v a. absurd (omega arith); keeps = keeps-r
 pub cleared-more :
     (b n : ℕ) (s t u : List ℕ) → b + n < length s → Cleared b n s t → u ≡ put-word t (b + n) 0 → Cleared b (n + 1) s u
 cleared-more b n s t u inside h e =
-    record {
-      zero = zeros;
-      keeps = keeps-trans (h .keeps) (record { len = rw e (length-put t (b + n) 0); same = λ i a. rw e (away t (b + n) i 0 (λ q. omega arith)) });
-    }
+    record { zero = zeros; keeps = keeps-trans (h .keeps) (record { len = p .len; same = λ i a. p .else i (λ q. omega arith) }) }
   where
+    p : Put (b + n) 0 t u
+    p = put-is (b + n) 0 t u e (omega (arith, h .keeps .len)) (omega arith)
+
     zeros : (v : ℕ) → v < n + 1 → word u (b + v) ≡ 0
     zeros v a =
         elim (ℕ-discrete v n) [
-          | yes q ↦ rw (e, q) (here t (b + n) 0 (omega (arith, h .keeps .len)) (omega arith))
-          | no q ↦ rw e (away t (b + n) (b + v) 0 (λ x. q (omega arith))) ∙ h .zero v (omega arith)
+          | yes q ↦ rw q (p .new)
+          | no q ↦ p .else (b + v) (λ x. q (omega arith)) ∙ h .zero v (omega arith)
         ]
 
 -- ── one half-edge more ──
@@ -55,19 +56,18 @@ pub row-pushed-is :
     rs .rows + rs .d * rs .parties ≤ 4294967296 → h < 4294967296 →
     t ≡ row-pushed rs v h s → Row-pushed rs v h s t
 row-pushed-is rs v h s t party short after inside small fits e =
-    rw e
-    (record {
-      len = length-put u (rs .counts + v) (l + 1) ∙ len1;
-      under = λ i a. past i (λ x. omega arith) ∙ away s at i h (λ x. omega arith);
-      own-len = here u (rs .counts + v) (l + 1) (omega (arith, len1, in-row)) (omega (arith, in-row));
-      other-len = λ w a n. past (rs .counts + w) (λ x. n (omega arith)) ∙ away s at (rs .counts + w) h (λ x. omega arith);
-      last = past at (λ x. omega arith) ∙ here s at h (omega (arith, in-row)) fits;
-      own-row = λ x a. past (rs .rows + rs .d * v + x) (λ y. omega arith) ∙ away s at (rs .rows + rs .d * v + x) h (λ y. omega arith);
+    record {
+      len = q .len ∙ p .len;
+      under = λ i a. q .else i (λ x. omega arith) ∙ p .else i (λ x. omega arith);
+      own-len = q .new;
+      other-len = λ w a n. q .else (rs .counts + w) (λ x. n (omega arith)) ∙ p .else (rs .counts + w) (λ x. omega arith);
+      last = q .else at (λ x. omega arith) ∙ p .new;
+      own-row = λ x a. q .else (rs .rows + rs .d * v + x) (λ y. omega arith) ∙ p .else (rs .rows + rs .d * v + x) (λ y. omega arith);
       other-row =
           λ w x a n k.
-          past (rs .rows + rs .d * w + x) (λ y. omega arith)
-          ∙ away s at (rs .rows + rs .d * w + x) h (λ y. rows-apart (rs .d) w x v l k short n (omega arith));
-    })
+          q .else (rs .rows + rs .d * w + x) (λ y. omega arith)
+          ∙ p .else (rs .rows + rs .d * w + x) (λ y. rows-apart (rs .d) w x v l k short n (omega arith));
+    }
   where
     l : ℕ
     l = counter s rs v
@@ -75,17 +75,14 @@ row-pushed-is rs v h s t party short after inside small fits e =
     at : ℕ
     at = rs .rows + rs .d * v + l
 
-    u : List ℕ
-    u = put-word s at h
-
     in-row : rs .d * v + l < rs .d * rs .parties
     in-row = row-inside (rs .d) v l (rs .parties) party short
 
-    len1 : length u ≡ length s
-    len1 = length-put s at h
+    p : Put at h s (put-word s at h)
+    p = put-is at h s (put-word s at h) refl (omega (arith, in-row)) fits
 
-    past : (i : ℕ) → (i ≡ rs .counts + v → ⊥) → word (put-word u (rs .counts + v) (l + 1)) i ≡ word u i
-    past i x = away u (rs .counts + v) i (l + 1) x
+    q : Put (rs .counts + v) (l + 1) (put-word s at h) t
+    q = put-is (rs .counts + v) (l + 1) (put-word s at h) t e (omega (arith, p .len, in-row)) (omega (arith, in-row))
 
 module _ (list : List ℕ) (rs : RowBases) (s : List ℕ) (h : Rows-fit list rs s) where
   -- with all counters 0 no half-edge is in a row
