@@ -1,3 +1,4 @@
+-- `evening::pad_sides` meets its contract: both sides are padded to the longer. Assumes nothing.
 use Rattle.evening.proofs.PaddingWords.{sides-padded}
 use borrow.Author.Needs.{needs}
 use Rattle.evening.proofs.pad_sides.Statement.{statement}

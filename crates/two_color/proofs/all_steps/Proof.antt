@@ -1,3 +1,4 @@
+-- `two_color::all_steps` meets its contract: k steps are taken; the measure is what is left of them. Assumes nothing.
 use Prim.Native.Nat.{_≤_, _*_, _-_}
 use mathlib.Core.Path.{_≡_, refl, sym, _∙_, ap, subst}
 use native.Mathlib.Omega.{arith}

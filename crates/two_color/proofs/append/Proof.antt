@@ -1,3 +1,4 @@
+-- `two_color::append` meets its contract: two words put. Assumes nothing.
 use Rattle.two_color.specs.Model.{appendM}
 use borrow.Author.Needs.{needs}
 use Rattle.two_color.proofs.append.Statement.{statement}

@@ -1,3 +1,4 @@
+-- `two_color::clear_state` meets its contract: five words put. Assumes nothing.
 use Rattle.two_color.specs.Model.{clearStateM}
 use borrow.Author.Needs.{needs}
 use Rattle.two_color.proofs.clear_state.Statement.{statement}

@@ -1,3 +1,4 @@
+-- `two_color::color_at` meets its contract: the words' sides are the definition's. Assumes nothing.
 use Prim.Native.Nat.{_+_, _*_, _<_}
 use mathlib.Core.Path.{_≡_, refl, _∙_}
 use native.Mathlib.Omega.{arith}

@@ -1,3 +1,4 @@
+-- `two_color::color_party` meets its contract: its colour, the stack, and its side. Assumes nothing.
 use native.Mathlib.Omega.{arith}
 use Rattle.two_color.proofs.ModelLaws.{color-left, color-right}
 use borrow.Author.Needs.{needs}

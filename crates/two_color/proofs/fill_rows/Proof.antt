@@ -1,3 +1,5 @@
+-- `two_color::fill_rows` meets its contract: the appointments from the newest down to the one passed last are in their rows;
+-- the measure is what is left of them. Assumes nothing.
 use Prim.Native.Nat.{_≤_, _/_}
 use mathlib.Core.Path.{_≡_, refl, _∙_}
 use native.Mathlib.Omega.{arith}

@@ -1,3 +1,4 @@
+-- `two_color::look` meets its contract: the word of the row is touched. Assumes nothing.
 use Rattle.two_color.specs.Model.{lookM}
 use borrow.Author.Needs.{needs}
 use Rattle.two_color.proofs.look.Statement.{statement}

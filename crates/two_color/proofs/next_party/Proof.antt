@@ -1,3 +1,4 @@
+-- `two_color::next_party` meets its contract: by whether there is one and has a colour. Assumes nothing.
 use Prim.Native.Nat.{_+_, _*_, _≤_, _<_}
 use mathlib.Core.Path.{_≡_, sym, _∙_}
 use native.Mathlib.Omega.{arith}

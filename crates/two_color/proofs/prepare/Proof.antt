@@ -1,3 +1,4 @@
+-- `two_color::prepare` meets its contract: the state, the parties, and both fillings. Assumes nothing.
 use Prim.Native.Nat.{ℕ, _/_}
 use mathlib.Core.Path.{_≡_, sym, subst}
 use native.Mathlib.Omega.{arith}

@@ -1,3 +1,4 @@
+-- `two_color::push_end` meets its contract: one end goes to the end of the other's row. Assumes nothing.
 use mathlib.Core.Path.{_≡_}
 use native.Mathlib.Omega.{arith}
 use Rattle.words.specs.Words.{word}

@@ -1,3 +1,5 @@
+-- `two_color::start_parties` meets its contract: the parties passed are started; the measure is what is left of them. Assumes
+-- nothing.
 use Prim.Native.Nat.{_≤_, _-_}
 use mathlib.Core.Path.{_≡_, refl, sym, _∙_, ap}
 use native.Mathlib.Omega.{arith}

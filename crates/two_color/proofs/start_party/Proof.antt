@@ -1,3 +1,4 @@
+-- `two_color::start_party` meets its contract: three words put. Assumes nothing.
 use Rattle.two_color.specs.Model.{startPartyM}
 use borrow.Author.Needs.{needs}
 use Rattle.two_color.proofs.start_party.Statement.{statement}

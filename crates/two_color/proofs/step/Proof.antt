@@ -1,3 +1,4 @@
+-- `two_color::step` meets its contract: refused, on to the next party, or one comes off. Assumes nothing.
 use Prim.Native.Nat.{_+_, _*_}
 use mathlib.Core.Path.{_≡_, sym, _∙_, ap, subst}
 use native.Mathlib.Omega.{arith}

@@ -1,3 +1,4 @@
+-- `two_color::take_off` meets its contract: the last party comes off, and its neighbours are touched. Assumes nothing.
 use Rattle.two_color.specs.Model.{takeOffM}
 use borrow.Author.Needs.{needs}
 use Rattle.two_color.proofs.take_off.Statement.{statement}

@@ -1,3 +1,4 @@
+-- `two_color::touch` meets its contract: refused before, refuses now, gets the other colour, or stays. Assumes nothing.
 use Prim.Native.Nat.{_+_, _*_}
 use mathlib.Core.Path.{_≡_, sym, _∙_}
 use native.Mathlib.Omega.{arith}

@@ -1,3 +1,5 @@
+-- `two_color::touch_all` meets its contract: the neighbours passed are touched; the measure is what is left of the row.
+-- Assumes nothing.
 use Prim.Native.Nat.{_≤_, _-_, _%_}
 use mathlib.Core.Path.{_≡_, refl}
 use native.Mathlib.Omega.{arith}

@@ -1,3 +1,4 @@
+-- `evening::add_pair` meets its contract: copies added, or a new pair. Assumes nothing.
 use mathlib.Core.Path.{_≡_}
 use Prim.Native.Nat.{_+_, _*_, _<_, _≤_}
 use native.Mathlib.Omega.{arith}

@@ -1,3 +1,4 @@
+-- `evening::add_to` meets its contract: one word read and put. Assumes nothing.
 use borrow.Author.Needs.{needs}
 use Rattle.evening.proofs.adding.add_to.Statement.{statement}
 use Rattle.evening.proofs.adding.add_to.Tie as tie

@@ -1,3 +1,4 @@
+-- `evening::push_pair` meets its contract: five words put. Assumes nothing.
 use borrow.Author.Needs.{needs}
 use Rattle.evening.proofs.adding.push_pair.Statement.{statement}
 use Rattle.evening.proofs.adding.push_pair.Tie as tie

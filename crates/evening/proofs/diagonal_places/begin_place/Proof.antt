@@ -1,3 +1,4 @@
+-- `evening::begin_place` meets its contract: five words put. Assumes nothing.
 use native.Mathlib.Omega.{arith}
 use borrow.Author.Needs.{needs}
 use Rattle.evening.proofs.diagonal_places.begin_place.Statement.{statement}

@@ -1,3 +1,5 @@
+-- `evening::begin_places` meets its contract: the places passed have begun; the measure is what is left of them. Assumes
+-- nothing.
 use mathlib.Core.Path.{_≡_, refl}
 use Prim.Native.Nat.{_-_, _≤_}
 use native.Mathlib.Omega.{arith}

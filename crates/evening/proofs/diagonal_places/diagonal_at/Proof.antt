@@ -1,3 +1,4 @@
+-- `evening::diagonal_at` meets its contract: every place begins, then every pair is looked at. Assumes nothing.
 use Rattle.multigraph.specs.Places.{size}
 use Rattle.evening.specs.DiagonalPlaces.{Begun, Looked}
 use Rattle.evening.proofs.DiagonalLaws.{diag-fit, diagonal-set}

@@ -1,3 +1,4 @@
+-- `evening::look_at` meets its contract: the pair's number, or as it was. Assumes nothing.
 use native.Mathlib.Omega.{arith}
 use borrow.Author.Needs.{needs}
 use Rattle.evening.proofs.diagonal_places.look_at.Statement.{statement}

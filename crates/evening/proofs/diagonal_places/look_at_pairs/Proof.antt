@@ -1,3 +1,5 @@
+-- `evening::look_at_pairs` meets its contract: the pairs passed are looked at; the measure is what is left of them. Assumes
+-- nothing.
 use mathlib.Core.Path.{_≡_, refl}
 use Prim.Native.Nat.{_-_, _≤_}
 use native.Mathlib.Omega.{arith}

@@ -1,3 +1,4 @@
+-- `evening::earlier` meets its contract: by the position, then by the ends. Assumes nothing.
 use mathlib.Core.Path.{refl}
 use native.Mathlib.Omega.{arith}
 use mathlib.Core.Logic.{inl, inr, ⊎-elim}

@@ -1,3 +1,4 @@
+-- `evening::joins` meets its contract: by the two ends. Assumes nothing.
 use borrow.Author.Needs.{needs}
 use Rattle.evening.proofs.ends.joins.Statement.{statement}
 use Rattle.evening.proofs.ends.joins.Tie as tie

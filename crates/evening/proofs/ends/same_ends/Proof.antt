@@ -1,3 +1,4 @@
+-- `evening::same_ends` meets its contract: by the sum of the ends, then by one of them. Assumes nothing.
 use mathlib.Core.Path.{refl}
 use mathlib.Core.Logic.{inl, inr}
 use borrow.Author.Needs.{needs}

@@ -1,3 +1,4 @@
+-- `evening::even_at` meets its contract: k steps are taken; the measure is what is left of the bound. Assumes nothing.
 use mathlib.Core.Path.{_≡_, refl}
 use Prim.Native.Nat.{ℕ, _+_, _*_, _-_, _≤_}
 use native.Mathlib.Omega.{arith}

@@ -1,3 +1,4 @@
+-- `evening::even_step` meets its contract: by what is passed and what is full. Assumes nothing.
 use mathlib.Core.Path.{_≡_, refl, sym, _∙_}
 use native.Mathlib.Omega.{arith}
 use Rattle.evening.specs.Rows.{counter}

@@ -1,3 +1,4 @@
+-- `evening::fill` meets its contract: the pair is found, gets the smaller shortfall, and both degrees grow. Assumes nothing.
 use mathlib.Core.Path.{_≡_}
 use Prim.Native.Nat.{_-_}
 use native.Mathlib.Omega.{arith}

@@ -1,3 +1,5 @@
+-- `evening::find_pair` meets its contract: no half-edge passed joins the two; the measure is what is left of them. Assumes
+-- nothing.
 use Prim.Native.Nat.{_-_, _≤_}
 use native.Mathlib.Omega.{arith}
 use Rattle.evening.proofs.FillingWords.{Missed, missed-none, missed-more, found-here, found-none, row-small}

@@ -1,3 +1,5 @@
+-- `evening::add_appointment` meets its contract: one copy more of the appointment's pair, whose number is kept. Assumes
+-- nothing.
 use mathlib.Core.Path.{_≡_}
 use native.Mathlib.Omega.{arith}
 use Rattle.evening.specs.Contract.{first-of, second-of}

@@ -1,3 +1,5 @@
+-- `evening::add_appointments` meets its contract: the appointments passed have their pairs; the measure is what is left of
+-- them. Assumes nothing.
 use mathlib.Core.Path.{_≡_, refl}
 use Prim.Native.Nat.{_-_, _≤_}
 use native.Mathlib.Omega.{arith}

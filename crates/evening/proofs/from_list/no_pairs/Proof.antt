@@ -1,3 +1,4 @@
+-- `evening::no_pairs` meets its contract: two words put. Assumes nothing.
 use borrow.Author.Needs.{needs}
 use Rattle.evening.proofs.from_list.no_pairs.Statement.{statement}
 use Rattle.evening.proofs.from_list.no_pairs.Tie as tie

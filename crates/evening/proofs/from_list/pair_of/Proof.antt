@@ -1,3 +1,4 @@
+-- `evening::pair_of` meets its contract: an earlier appointment's pair, or the next number. Assumes nothing.
 use native.Mathlib.Omega.{arith}
 use Rattle.evening.proofs.BuildingLaws.{pair-of-old, pair-of-new}
 use borrow.Author.Needs.{needs}

@@ -1,3 +1,5 @@
+-- `evening::pairs_at` meets its contract: the rows, the representatives, no pairs, and one copy for each appointment. Assumes
+-- nothing.
 use borrow.Author.Needs.{needs}
 use Rattle.evening.proofs.from_list.pairs_at.Statement.{statement}
 use Rattle.evening.proofs.from_list.pairs_at.Tie as tie

@@ -1,3 +1,5 @@
+-- `evening::find_rep` meets its contract: the map has an earlier appointment with these ends, or this one is the first.
+-- Assumes nothing.
 use mathlib.Core.Path.{_≡_, _∙_, ap}
 use Prim.Native.Nat.{ℕ, _+_, _<_}
 use lib.ListN.{length}

@@ -1,3 +1,5 @@
+-- `evening::rep_row` meets its contract: the half-edges passed have their representatives; the measure is what is left of the
+-- row. Assumes nothing.
 use mathlib.Core.Path.{_≡_, refl, _∙_}
 use Prim.Native.Nat.{_+_, _*_, _-_, _<_, _≤_}
 use native.Mathlib.Omega.{arith}

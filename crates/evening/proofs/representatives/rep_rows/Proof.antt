@@ -1,3 +1,4 @@
+-- `evening::rep_rows` meets its contract: the rows passed are done; the measure is what is left of them. Assumes nothing.
 use mathlib.Core.Path.{_≡_, refl}
 use Prim.Native.Nat.{_-_, _≤_}
 use native.Mathlib.Omega.{arith}

@@ -1,3 +1,4 @@
+-- `evening::clear_words` meets its contract: the words passed are 0; the measure is what is left of them. Assumes nothing.
 use mathlib.Core.Path.{_≡_, refl}
 use Prim.Native.Nat.{_-_, _≤_}
 use native.Mathlib.Omega.{arith}

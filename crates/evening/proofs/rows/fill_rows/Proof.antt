@@ -1,3 +1,5 @@
+-- `evening::fill_rows` meets its contract: the half-edges passed are in their rows; the measure is what is left of the list.
+-- Assumes nothing.
 use mathlib.Core.Path.{_≡_, refl}
 use Prim.Native.Nat.{ℕ, _-_, _<_, _≤_}
 use native.Mathlib.Omega.{arith}

@@ -1,3 +1,4 @@
+-- `evening::push_row` meets its contract: two words put. Assumes nothing.
 use borrow.Author.Needs.{needs}
 use Rattle.evening.proofs.rows.push_row.Statement.{statement}
 use Rattle.evening.proofs.rows.push_row.Tie as tie

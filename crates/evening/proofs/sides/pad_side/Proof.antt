@@ -1,3 +1,5 @@
+-- `evening::pad_side` meets its contract: the new parties passed are appended; the measure is what is left of them. Assumes
+-- nothing.
 use mathlib.Core.Path.{_≡_, refl}
 use Prim.Native.Nat.{_-_, _≤_}
 use native.Mathlib.Omega.{arith}
