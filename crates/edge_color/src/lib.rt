@@ -2,6 +2,8 @@
 //
 // The colouring of a graph of degree d is d matchings of n pair numbers, side by side at `out`. Graphs that are made on the way
 // stand above the mark, which is put back at the end.
+//
+// Ported from rustworkx-core, `rbmg_edge_color_when_power_of_two` and `rbmg_edge_color` in bipartite_coloring.rs (Apache License 2.0, see NOTICE).
 ghost use mathlib.Core.Path.{_≡_};
 ghost use Prim.Native.Nat.{_+_, _*_, _-_, _^_, _<_, _≤_};
 ghost use lib.ListN.{length, take, drop};

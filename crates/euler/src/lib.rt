@@ -1,5 +1,7 @@
 // Module 4 of document 01, `rbmg_split_into_two`, over scratch words. The words of a split, from its mark up: the first half, the
 // second half, eight words for each entry, two for each party, and two columns.
+//
+// Ported from rustworkx-core, `euler_cycles` and `rbmg_split_into_two` in bipartite_coloring.rs (Apache License 2.0, see NOTICE).
 ghost use mathlib.Core.Path.{_≡_};
 ghost use Prim.Native.Nat.{ℕ, _+_, _*_, _<_, _≤_};
 ghost use Rattle.euler.specs.Model.{Fits, splitM};

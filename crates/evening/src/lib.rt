@@ -3,6 +3,8 @@
 // that need words take them from the mark and call a function `.._at`, which goes by numbers.
 //
 // In the graph built here the entry at place i has number i, so a pair's number is its place.
+//
+// Ported from rustworkx-core, the first half of `bipartite_edge_color_given_partition` in bipartite_coloring.rs (Apache License 2.0, see NOTICE).
 ghost use mathlib.Core.Path.{_≡_};
 ghost use Prim.Native.Nat.{_+_, _*_, _≤_};
 ghost use Rattle.evening.specs.Contract.{«Can-pad», «Sides-padded», «Can-pair», «Pairs-made», «Can-even», «Evened-out», «Can-diagonal», «Diagonal-set»};

@@ -1,6 +1,8 @@
 // `rbmg_find_perfect_matching` over scratch words, with the second search: module 5 of document 01.
 //
 // A search pushes its graph at the mark, splits it again and again above it, and copies the half that goes on down to its base.
+//
+// Ported from rustworkx-core, `rbmg_find_perfect_matching` in bipartite_coloring.rs (Apache License 2.0, see NOTICE).
 ghost use mathlib.Core.Path.{_≡_};
 ghost use Prim.Native.Nat.{ℕ, _+_, _*_, _-_, _/_, _^_, _<_, _≤_};
 ghost use lib.ListN.{length};

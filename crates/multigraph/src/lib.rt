@@ -3,6 +3,8 @@
 // One table holds the ends of every pair, two words at the pair's number. A graph is a header (its own base), the count of its
 // entries, and for each entry a pair's number and its copies. The Rust looks for a pair by its ends (`find_edge`); here one
 // word in a map of places answers that. specs/Stored.antt says which graph lies in the words, specs/Places.antt what the map is.
+//
+// Ported from rustworkx-core, `RegularBipartiteMultiGraph` in bipartite_coloring.rs (Apache License 2.0, see NOTICE).
 ghost use mathlib.Core.Path.{_≡_};
 ghost use Prim.Native.Nat.{ℕ, _+_, _*_, _-_, _<_, _≤_};
 ghost use lib.ListN.{length};

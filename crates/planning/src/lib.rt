@@ -2,6 +2,8 @@
 // appointment. No list is refused but by document 01's table, and demand 3 holds of every answer.
 //
 // Scratch is counted in units of q = P·(D + 1) words, of which W has 128; specs/Steps.antt says where things lie.
+//
+// Ported from rustworkx-core, `bipartite_edge_color` in bipartite_coloring.rs (Apache License 2.0, see NOTICE).
 ghost use mathlib.Core.Path.{_≡_};
 ghost use Prim.Native.Nat.{ℕ, zero, _+_, _*_, _<_, _≤_};
 ghost use mathlib.Core.List.{_++_};

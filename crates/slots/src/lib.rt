@@ -3,6 +3,8 @@
 // The matchings of the colouring lie side by side, matching i is slot i, and each is its pairs' numbers. One pass over them
 // makes a chain of each pair's slots, the highest first; it needs one word for each pair and no other room, since a number that
 // was read makes room for a link. A second pass, over the appointments, takes the first link of each appointment's pair.
+//
+// Ported from rustworkx-core, the second half of `bipartite_edge_color_given_partition` in bipartite_coloring.rs (Apache License 2.0, see NOTICE).
 ghost use mathlib.Core.Path.{_≡_};
 ghost use Prim.Native.Nat.{ℕ, _+_, _*_, _<_, _≤_};
 ghost use lib.ListN.{length};

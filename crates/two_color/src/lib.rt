@@ -12,6 +12,8 @@
 //   u + 4p + 5 for each party the length of its row and where its row starts
 //   u + 6p + 5 the rows: a party's neighbours, in the order in which they are looked at
 // All that the search reads only lies above all that it writes.
+//
+// Ported from rustworkx-core, `two_color` in coloring.rs (Apache License 2.0, see NOTICE).
 ghost use mathlib.Core.Path.{_≡_};
 ghost use Prim.Native.Nat.{_+_, _*_, _/_, _<_, _≤_};
 ghost use lib.ListN.{length};
