@@ -11,24 +11,29 @@ pub enum Answer {
     Refused(Refusal),
 }
 
-/// The Rust's answer. Where it panics, that of the Rust with document 01's second search, which is then told.
-pub fn by_the_rust(list: &List) -> (Answer, bool) {
+/// The answer with one copy of the Rust. None is a panic.
+pub fn by(run: fn(&List) -> Outcome, list: &List) -> Option<Answer> {
     let largest_load = match list.check() {
         Ok(largest_load) => largest_load,
-        Err(refusal) => return (Answer::Refused(refusal), false),
+        Err(refusal) => return Some(Answer::Refused(refusal)),
     };
-    let published = reference::published(list);
-    let panicked = published == Outcome::Panicked;
-    let outcome = if panicked { reference::with_second_search(list) } else { published };
-    let answer = match outcome {
+    match run(list) {
         Outcome::Planned(slots) => {
             let slots = slots.into_iter().map(|slot| u16::try_from(slot).expect("slots are below D")).collect();
-            Answer::Planned { largest_load, slots }
+            Some(Answer::Planned { largest_load, slots })
         }
-        Outcome::NotBipartite => Answer::Refused(Refusal { number: 9, place: 0 }),
-        Outcome::Panicked => panic!("the second search leaves no panic: {}", write_list(list)),
-    };
-    (answer, panicked)
+        Outcome::NotBipartite => Some(Answer::Refused(Refusal { number: 9, place: 0 })),
+        Outcome::Panicked => None,
+    }
+}
+
+/// The Rust's answer. Where it panics, that of the Rust with document 01's second search, which is then told.
+pub fn by_the_rust(list: &List) -> (Answer, bool) {
+    if let Some(answer) = by(reference::published, list) {
+        return (answer, false);
+    }
+    let second = by(reference::with_second_search, list);
+    (second.unwrap_or_else(|| panic!("the second search leaves no panic: {}", write_list(list))), true)
 }
 
 impl Answer {

@@ -50,7 +50,8 @@ pub fn throw(seconds: usize, seed: u64) -> Result<(), String> {
         return Err(format!("{PROGRAM} is missing here: `rt check bimtsure` writes it"));
     }
     reference::silence_panics();
-    let until = Instant::now() + Duration::from_secs(seconds as u64);
+    let until = Instant::now().checked_add(Duration::from_secs(seconds as u64));
+    let until = until.ok_or_else(|| format!("{seconds} seconds are too many"))?;
     let (mut inputs, mut filed_inputs) = (Inputs::new(seed), FiledInputs::new(!seed));
     let mut random = Random::new(seed.rotate_left(32));
     let watch = Watch::start(program::LIMIT);

@@ -4,10 +4,11 @@
 //! The crate stands below target/definitions/ beside copies of those modules of the definitions that it needs, without code
 //! and proofs, which computing doesn't ask for. Of the code only the structs and enums come along that these modules name.
 
-use crate::format::{write_list, write_outcome, write_refusal};
+use crate::answer::{self, Answer};
+use crate::format::write_list;
 use crate::list::{List, Refusal};
 use crate::lists::Lists;
-use crate::reference::{self, Outcome};
+use crate::reference;
 use std::collections::{BTreeMap, BTreeSet};
 use std::fmt::Write;
 use std::path::{Path, PathBuf};
@@ -16,8 +17,8 @@ use std::time::Instant;
 use std::{fs, io};
 
 /// Larger lists take too long to compute.
-const MOST_APPOINTMENTS: usize = 60;
-const MOST_PARTIES: usize = 40;
+const MOST_COMPUTED_APPOINTMENTS: usize = 60;
+const MOST_COMPUTED_PARTIES: usize = 40;
 const ROWS_IN_A_MODULE: usize = 24;
 const PLACE: &str = "target/definitions";
 /// How the modules are called that `rt` makes of a crate's structs and enums.
@@ -37,15 +38,11 @@ use Rattle.planning.specs.Planning.{Outcome, plan, graph-not-bipartite, biparti
 use Rattle.planning.specs.Computing.{computing}
 ";
 
-/// What a list must come to.
-enum Expected {
-    Refused(Refusal),
-    Answered { largest_load: usize, outcome: Outcome, panicked: bool },
-}
-
+/// A list, what it must come to, and whether the Rust panics on it.
 struct Row {
     list: List,
-    expected: Expected,
+    answer: Answer,
+    panicked: bool,
 }
 
 /// Writes the crate and checks it. An error says which lists differ.
@@ -70,7 +67,7 @@ pub fn check(count: usize, seed: u64) -> Result<(), String> {
     }
     let mut message = format!("{} differ ({seconds} s; {PLACE}/target/log has more):", differing.len());
     for row in differing {
-        write!(message, "\n{}\n    the Rust: {}", write_list(&row.list), row.answer())
+        write!(message, "\n{}\n    the Rust: {}", write_list(&row.list), row.answer.text())
             .expect("a string can be written to");
     }
     Err(message)
@@ -78,7 +75,7 @@ pub fn check(count: usize, seed: u64) -> Result<(), String> {
 
 /// An eighth with few parties and an odd D of 11 or more, a sixteenth near the Rust's panics, the others of every kind.
 fn choose(count: usize, seed: u64) -> Vec<Row> {
-    let mut lists = Lists::new(seed, MOST_APPOINTMENTS, MOST_PARTIES);
+    let mut lists = Lists::new(seed, MOST_COMPUTED_APPOINTMENTS, MOST_COMPUTED_PARTIES);
     (0..count)
         .map(|at| {
             let list = match at % 16 {
@@ -100,57 +97,46 @@ fn choose(count: usize, seed: u64) -> Vec<Row> {
 impl Row {
     /// Where the Rust panics, the answer is that of the Rust with document 01's second search.
     fn answered_by_the_rust(list: List) -> Row {
-        let expected = match list.check() {
-            Err(refusal) => Expected::Refused(refusal),
-            Ok(largest_load) => {
-                let published = reference::published(&list);
-                let outcome = reference::with_second_search(&list);
-                let panicked = published == Outcome::Panicked;
-                assert!(panicked || published == outcome, "the second search changes an answer: {}", write_list(&list));
-                Expected::Answered { largest_load, outcome, panicked }
-            }
-        };
-        Row { list, expected }
+        let (answer, panicked) = answer::by_the_rust(&list);
+        let second = answer::by(reference::with_second_search, &list);
+        assert!(second.as_ref() == Some(&answer), "the second search changes an answer: {}", write_list(&list));
+        Row { list, answer, panicked }
     }
 
     /// D, if the list is planned.
     fn degree(&self) -> Option<usize> {
-        match self.expected {
-            Expected::Answered { largest_load, outcome: Outcome::Planned(_), .. } => Some(largest_load),
-            _ => None,
+        match self.answer {
+            Answer::Planned { largest_load, .. } => Some(largest_load),
+            Answer::Refused(_) => None,
         }
     }
 
-    fn answer(&self) -> String {
-        match &self.expected {
-            Expected::Refused(refusal) => write_refusal(*refusal),
-            Expected::Answered { largest_load, outcome, .. } => write_outcome(*largest_load, outcome),
+    /// The number of the refusal, or 0 for a plan.
+    fn refused_by(&self) -> u8 {
+        match self.answer {
+            Answer::Planned { .. } => 0,
+            Answer::Refused(Refusal { number, .. }) => number,
         }
     }
 
     /// The row as a statement, with buffers exactly as long as needed.
     fn statement(&self, number: usize) -> String {
         let parties = self.list.parties;
-        let ends = numerals(self.list.ends.iter().map(|&end| usize::from(end)));
-        let slots = self.list.count();
-        let scratch = self.list.scratch_words();
-        let (facts, proof) = match &self.expected {
-            Expected::Refused(Refusal { number: refusal, place }) => {
-                (format!("checks {parties} list-{number} {slots} {scratch} ≡ refused {refusal} {place}"), "refl")
-            }
-            Expected::Answered { largest_load, outcome, .. } => {
-                let outcome = match outcome {
-                    Outcome::Planned(slots) => format!("plan ({})", numerals(slots.iter().copied())),
-                    Outcome::NotBipartite => "graph-not-bipartite".to_string(),
-                    Outcome::Panicked => panic!("the second search leaves no panic: {}", write_list(&self.list)),
-                };
-                let facts = format!(
-                    "(checks {parties} list-{number} {slots} {scratch} ≡ passed)\n  \
-                     × (largest-load {parties} (appts list-{number}) ≡ {largest_load})\n  \
-                     × (bipartite-edge-color {parties} (appts list-{number}) ≡ {outcome})"
-                );
-                (facts, "(refl, refl, refl)")
-            }
+        let ends = numerals(&self.list.ends);
+        let checks = format!("checks {parties} list-{number} {} {}", self.list.count(), self.list.scratch_words());
+        let passed = |outcome: &str| {
+            let facts = format!(
+                "({checks} ≡ passed)\n  \
+                 × (largest-load {parties} (appts list-{number}) ≡ {})\n  \
+                 × (bipartite-edge-color {parties} (appts list-{number}) ≡ {outcome})",
+                self.list.largest_load()
+            );
+            (facts, "(refl, refl, refl)")
+        };
+        let (facts, proof) = match &self.answer {
+            Answer::Planned { slots, .. } => passed(&format!("plan ({})", numerals(slots))),
+            Answer::Refused(Refusal { number: 9, .. }) => passed("graph-not-bipartite"),
+            Answer::Refused(Refusal { number, place }) => (format!("{checks} ≡ refused {number} {place}"), "refl"),
         };
         format!(
             "\nabbrev list-{number} : List ℕ\nlist-{number} = {ends}\n\n\
@@ -159,8 +145,8 @@ impl Row {
     }
 }
 
-fn numerals(numbers: impl Iterator<Item = usize>) -> String {
-    numbers.map(|number| format!("{number} ∷ ")).collect::<String>() + "[]"
+fn numerals(numbers: &[u16]) -> String {
+    numbers.iter().map(|number| format!("{number} ∷ ")).collect::<String>() + "[]"
 }
 
 type Trait = (&'static str, fn(&Row) -> bool);
@@ -170,16 +156,14 @@ const TRAITS: [Trait; 9] = [
     ("planned", |row| row.degree().is_some()),
     ("with a D of 11 or more", |row| row.degree().is_some_and(|degree| degree >= 11)),
     ("with an odd D of 11 or more", |row| row.degree().is_some_and(|degree| degree >= 11 && degree % 2 == 1)),
-    ("by the second search, where the Rust panics", |row| {
-        matches!(row.expected, Expected::Answered { panicked: true, .. })
-    }),
+    ("by the second search, where the Rust panics", |row| row.panicked),
     ("with a pair that comes again", |row| {
         row.degree().is_some() && comes_again(&row.list, |a, b| a == b || a == (b.1, b.0))
     }),
     ("with a pair both ways round", |row| row.degree().is_some() && comes_again(&row.list, |a, b| a == (b.1, b.0))),
     ("in several parts", |row| row.degree().is_some() && in_several_parts(&row.list)),
-    ("refused by 9", |row| matches!(row.expected, Expected::Answered { outcome: Outcome::NotBipartite, .. })),
-    ("refused by checks 1 to 6", |row| matches!(row.expected, Expected::Refused(_))),
+    ("refused by 9", |row| row.refused_by() == 9),
+    ("refused by checks 1 to 6", |row| (1..=6).contains(&row.refused_by())),
 ];
 
 fn comes_again(list: &List, same: fn((u16, u16), (u16, u16)) -> bool) -> bool {
@@ -274,15 +258,23 @@ fn copy_definitions(place: &Path) -> io::Result<BTreeMap<String, BTreeSet<String
     for (owner, modules) in &copied {
         fs::write(crate_folder(place, owner)?.join("Lib.antt"), declarations(modules.iter().cloned()))?;
     }
-    for (owner, name) in &declared {
-        let source = Path::new("crates").join(owner).join("src/lib.rt");
+    for (owner, path) in &declared {
+        let (module, name) = path.split_once('.').unwrap_or(("lib", path));
+        let folder = Path::new("crates").join(owner).join("src");
+        let source = folder.join(format!("{module}.rt"));
         let text = declaration(&fs::read_to_string(&source)?, name)
             .ok_or_else(|| io::Error::other(format!("{} declares no {name}", source.display())))?;
-        let lib = place.join("crates").join(owner).join("src/lib.rt");
-        let before = fs::read_to_string(&lib)?;
-        fs::write(lib, before + &text)?;
+        if !place.join(&source).exists() {
+            append(&place.join(&folder).join("lib.rt"), &format!("mod {module};\n"))?;
+        }
+        append(&place.join(&source), &text)?;
     }
     Ok(copied)
+}
+
+fn append(file: &Path, text: &str) -> io::Result<()> {
+    let mut file = fs::OpenOptions::new().create(true).append(true).open(file)?;
+    io::Write::write_all(&mut file, text.as_bytes())
 }
 
 /// The text of a struct or enum, from its first line to the brace that ends it.
@@ -294,13 +286,18 @@ fn declaration(source: &str, name: &str) -> Option<String> {
 }
 
 /// The crate and the module that a line `use Rattle.NAME.specs.MODULE..` names; a crate calls itself `NAME·specs`. For a struct
-/// or enum of the code the module is `declared.NAME`.
+/// or enum of the code the module is `declared.NAME`, or `declared.MODULE.NAME` if it stands in src/MODULE.rt.
 fn used_module(line: &str) -> Option<(String, String)> {
     let (owner, rest) = line.strip_prefix("use Rattle·")?.split_once(".specs.")?;
     let owner = owner.strip_suffix("·specs").unwrap_or(owner);
     let word = |text: &str| text.chars().take_while(|c| c.is_alphanumeric() || *c == '_').collect::<String>();
     let module = match rest.strip_prefix(DECLARED) {
-        Some(name) => DECLARED.to_string() + &word(name),
+        // a module begins with a small letter, and `.the-variants` can follow the name
+        Some(path) => {
+            let modules = path.split('.').take_while(|part| part.starts_with(char::is_lowercase)).count();
+            let parts: Vec<String> = path.split('.').take(modules + 1).map(word).collect();
+            DECLARED.to_string() + &parts.join(".")
+        }
         None => word(rest),
     };
     Some((owner.to_string(), module))
@@ -317,4 +314,22 @@ fn crate_lines(copied: &BTreeMap<String, BTreeSet<String>>) -> io::Result<String
         }
     }
     Ok(lines)
+}
+
+#[cfg(test)]
+mod tests {
+    use super::*;
+
+    #[test]
+    fn used_modules_are_found() {
+        let used = |line: &str| used_module(line).map(|(owner, module)| format!("{owner} {module}"));
+        let is = |line: &str, wanted: &str| assert_eq!(used(line).as_deref(), Some(wanted));
+        is("use Rattle.planning.specs.Planning.{Outcome, plan}", "planning Planning");
+        is("use Rattle.euler.specs.Model as M", "euler Model");
+        is("use Rattle.matching.specs.declared.Table.{Table}", "matching declared.Table");
+        is("use Rattle.two_color.specs.declared.TwoColoring.the-variants", "two_color declared.TwoColoring");
+        is("use Rattle.euler.specs.declared.rings.Rings.{Rings}", "euler declared.rings.Rings");
+        is("use Rattle.desk.specs.declared.filing.Read.the-variants as read", "desk declared.filing.Read");
+        assert_eq!(used("use mathlib.Core.List.{List}"), None);
+    }
 }

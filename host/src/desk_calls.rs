@@ -1,17 +1,16 @@
-//! Holds our exported desk calls beside desk.rs, on random lists and plans, on damaged ones, and with buffers of every length:
+//! Compares our exported desk calls with desk.rs, on random lists and plans, on damaged ones, and with buffers of every length:
 //! the same numbers, and the same lent memory afterwards, to the last entry.
 
 use crate::desk::{self, Viewer};
 use crate::exported::{self, Filed, Read, View, Waiting};
 use crate::format::{write_bytes, write_list};
+use crate::lent::BEHIND;
 use crate::list::{List, Refusal, BLANK, MOST_APPOINTMENTS, MOST_PARTIES};
 use crate::lists::Lists;
 use crate::random::Random;
 use std::collections::BTreeMap;
 use std::fmt::Debug;
 
-/// Entries behind a lent buffer, which nothing may write.
-const BEHIND: usize = 16;
 /// The most steps of a viewer that are followed from the start.
 const MOST_STEPS: usize = 24;
 
@@ -21,7 +20,7 @@ const CALLS: [&str; 4] = ["bimtsure_waiting", "bimtsure_file_plan", "bimtsure_re
 #[derive(Default)]
 struct Counts([BTreeMap<u32, usize>; 4]);
 
-/// A list, its slots, and what the calls are asked besides.
+/// A list and its slots.
 pub struct Case {
     list: List,
     slots: Vec<u16>,
@@ -49,7 +48,7 @@ pub fn compare(count: usize, seed: u64) -> Result<(), String> {
     Ok(())
 }
 
-/// Each call says what it is asked and what differs; else its number is counted.
+/// An error says what was asked and what differs.
 fn same<T: Debug + PartialEq>(asked: impl Debug, expected: T, answered: T) -> Result<(), String> {
     if expected == answered {
         return Ok(());

@@ -1,11 +1,9 @@
-//! Lists, answers and bytes as lines of text.
+//! Lists and bytes as lines of text.
 //!
 //! A list is one line, `P first-second first-second ..`. An empty end is blank, as is 65535; a last number without a hyphen
 //! is an end without a partner.
 
-use crate::list::{List, Refusal, BLANK};
-use crate::reference::Outcome;
-use std::fmt::Write;
+use crate::list::{List, BLANK};
 
 pub fn read_list(line: &str) -> Result<List, String> {
     let mut words = line.split_whitespace();
@@ -35,26 +33,6 @@ pub fn write_list(list: &List) -> String {
         line += &ends.join("-");
     }
     line
-}
-
-/// `planned D s0 s1 ..`, `refused 9` or `panic`.
-pub fn write_outcome(largest_load: usize, outcome: &Outcome) -> String {
-    match outcome {
-        Outcome::Planned(slots) => {
-            let mut line = format!("planned {largest_load}");
-            for slot in slots {
-                write!(line, " {slot}").expect("a string can be written to");
-            }
-            line
-        }
-        Outcome::NotBipartite => "refused 9".to_string(),
-        Outcome::Panicked => "panic".to_string(),
-    }
-}
-
-/// `refused N PLACE`, for checks 1 to 6.
-pub fn write_refusal(refusal: Refusal) -> String {
-    format!("refused {} {}", refusal.number, refusal.place)
 }
 
 /// Two hexadecimal digits for each byte.

@@ -1,5 +1,6 @@
 //! Lists whose answers papers give: document 01's fifteen small lists and its limits, the example in the doc comment of
-//! bipartite_coloring.rs, and the first list on which the Rust panics. All are written down from these papers.
+//! bipartite_coloring.rs, and the first list of docs/DIFFERENCES.md on which the Rust panics, with the slots given there, which
+//! are those of the second copy of the Rust. All are written down from these papers.
 
 use crate::answer::Answer;
 use crate::list::{List, Refusal, BLANK, MOST_APPOINTMENTS, MOST_PARTIES};

@@ -3,7 +3,7 @@
 use crate::random::Random;
 
 /// Entries behind the lent ones, which nothing may write.
-const BEHIND: usize = 64;
+pub const BEHIND: usize = 64;
 /// The noise of a call begins at one of this many places of the store.
 const PLACES: usize = 4096;
 
@@ -44,7 +44,7 @@ impl<T: Copy + Default + PartialEq> Lent<T> {
     pub fn written_from(&self, first: usize) -> Option<usize> {
         let (store, from) = self.before;
         let before = &self.stores[store][from..][..self.held.len()];
-        // equal slices are told apart in one go, and only others are searched
+        // equal slices are found in one comparison, and only others are searched
         if self.held[first..] == before[first..] {
             return None;
         }

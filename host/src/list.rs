@@ -6,6 +6,8 @@ pub const MOST_PARTIES: usize = 1_024;
 pub const MOST_APPOINTMENTS: usize = 4_096;
 /// The most that D times P may come to.
 pub const MOST_CELLS: usize = 8_192;
+/// The most words of scratch that a list can need.
+pub const MOST_WORDS: usize = 128 * (MOST_CELLS + MOST_PARTIES);
 
 /// P, and two ends for each appointment.
 #[derive(Clone, Debug, PartialEq, Eq)]

@@ -11,7 +11,11 @@ struct Shape {
 
 type Kind = fn(&mut Random, usize) -> Shape;
 
-/// Kinds that pass checks 1 to 6. Each makes at most the given number of pairs (at least 1).
+/// The least limit of appointments that every kind can keep: `with_odd_round` makes at least three pairs.
+pub const LEAST_MOST: usize = 3;
+
+/// Kinds that pass checks 1 to 6. Each makes at most the given number of pairs (at least 1), but `with_odd_round` at least
+/// three.
 const KINDS: [Kind; 13] = [
     even_handed,
     two_thirds_full,
@@ -55,7 +59,7 @@ impl Lists {
     pub fn new(seed: u64, most_appointments: usize, most_parties: usize) -> Lists {
         Lists {
             random: Random::new(seed),
-            most_appointments: most_appointments.clamp(1, MOST_APPOINTMENTS),
+            most_appointments: most_appointments.clamp(LEAST_MOST, MOST_APPOINTMENTS),
             most_parties: most_parties.clamp(16, MOST_PARTIES),
             made: 0,
         }
@@ -80,7 +84,7 @@ impl Lists {
         let most = self.most_appointments;
         let list = match turn % 16 {
             0 if turn == 0 && most == MOST_APPOINTMENTS => at_a_limit(&mut self.random),
-            1..=8 if most >= 3 => self.two_sided(|largest_load| largest_load >= 3),
+            1..=8 => self.two_sided(|largest_load| largest_load >= 3),
             9..=11 if most >= 11 => self.two_sided(|largest_load| largest_load >= 11 && largest_load % 2 == 1),
             // 64 and the number of turns there have no common divisor, so every kind comes
             _ => return self.any(),

@@ -55,19 +55,19 @@ mod split_opened {
 }
 
 use list::{MOST_APPOINTMENTS, MOST_PARTIES};
-use lists::Lists;
+use lists::{Lists, LEAST_MOST};
 use std::io::{self, BufRead, Write};
 use std::process::ExitCode;
 
 const USAGE: &str = "\
-bimtsure-host answer [--second] [--panics] [--ours]
+bimtsure-host answer [--second | --ours] [--panics]
     read lists, one to a line as `P first-second first-second ..`, and print what the Rust answers to each:
-    `planned D s0 s1 ..`, `refused 9`, `panic`, or `refused N PLACE` by checks 1 to 6
+    `planned D s0 s1 ..`, `refused N PLACE` by checks 1 to 6 and by 9, or `panic`
     --second    the Rust with document 01's second search
-    --panics    print the message of each panic, to standard error
     --ours      our planning call
+    --panics    print the message of each panic, to standard error
 bimtsure-host lists COUNT SEED [MOST]
-    print COUNT random lists of at most MOST appointments (if not given, 4096), which SEED decides
+    print COUNT random lists of at most MOST (3 to 4096) appointments (if not given, 4096), which SEED decides
 bimtsure-host definitions [COUNT [SEED]]
     have the definitions computed on COUNT random lists (if not given, 240), which SEED (1) decides, and compare with
     fresh answers of the Rust; from the repository's root
@@ -87,8 +87,8 @@ bimtsure-host bytes SECONDS SEED
 bimtsure-host bench
     time our planning call beside the Rust on the same lists
 bimtsure-host stored COUNT SEED [MOST]
-    print the small lists that papers name and COUNT random ones of at most MOST appointments (if not given, 40), each with the
-    Rust's answer, as `P first-second .. = planned D s0 s1 ..` or `.. = refused N PLACE`; a remark follows a `#`";
+    print the small lists that papers name and COUNT random ones of at most MOST (3 to 4096) appointments (if not given, 40),
+    each with the Rust's answer, as `P first-second .. = planned D s0 s1 ..` or `.. = refused N PLACE`; a remark follows a `#`";
 
 /// The most appointments of a list to be stored, if not given.
 const MOST_STORED: usize = 40;
@@ -99,7 +99,7 @@ fn main() -> ExitCode {
     let done = match words.as_slice() {
         ["answer", options @ ..] => answer(options),
         ["lists", count, seed] => print_lists(count, seed, MOST_APPOINTMENTS),
-        ["lists", count, seed, most] => number(most).and_then(|most| print_lists(count, seed, most)),
+        ["lists", count, seed, most] => most_of(most).and_then(|most| print_lists(count, seed, most)),
         ["definitions"] => definitions::check(240, 1),
         ["definitions", count] => number(count).and_then(|count| definitions::check(count, 1)),
         ["definitions", count, seed] => number(count).and_then(|count| definitions::check(count, number(seed)? as u64)),
@@ -110,7 +110,7 @@ fn main() -> ExitCode {
         ["bytes", seconds, seed] => compare(bytes::throw, seconds, seed),
         ["bench"] => bench::run(1),
         ["stored", count, seed] => print_stored(count, seed, MOST_STORED),
-        ["stored", count, seed, most] => number(most).and_then(|most| print_stored(count, seed, most)),
+        ["stored", count, seed, most] => most_of(most).and_then(|most| print_stored(count, seed, most)),
         _ => Err(USAGE.to_string()),
     };
     match done {
@@ -126,27 +126,38 @@ fn number(text: &str) -> Result<usize, String> {
     text.parse().map_err(|_| format!("{text} is no number\n{USAGE}"))
 }
 
+/// MOST. (More than 4096 is taken for 4096.)
+fn most_of(text: &str) -> Result<usize, String> {
+    let most = number(text)?;
+    if most < LEAST_MOST {
+        return Err(format!("MOST is {most}\n{USAGE}"));
+    }
+    Ok(most)
+}
+
 fn compare(run: fn(usize, u64) -> Result<(), String>, count: &str, seed: &str) -> Result<(), String> {
     run(number(count)?, number(seed)? as u64)
 }
 
 fn answer(options: &[&str]) -> Result<(), String> {
-    if options.iter().any(|option| !["--second", "--panics", "--ours"].contains(option)) {
+    const OPTIONS: [&str; 3] = ["--second", "--ours", "--panics"];
+    let [second, ours, panics] = OPTIONS.map(|option| options.contains(&option));
+    if options.iter().any(|option| !OPTIONS.contains(option)) || (second && ours) {
         return Err(USAGE.to_string());
     }
-    if !options.contains(&"--panics") {
+    if !panics {
         reference::silence_panics();
     }
-    let run = if options.contains(&"--second") { reference::with_second_search } else { reference::published };
+    let run = if second { reference::with_second_search } else { reference::published };
+    let answer_to = |line: &str| -> Result<String, String> {
+        let list = format::read_list(line)?;
+        let answer = if ours { Some(plan::answered_by_us(&list)?) } else { answer::by(run, &list) };
+        Ok(answer.map_or("panic".to_string(), |answer| answer.text()))
+    };
     let mut out = io::BufWriter::new(io::stdout().lock());
     for (at, line) in io::stdin().lock().lines().enumerate() {
         let line = line.map_err(|error| error.to_string())?;
-        let list = format::read_list(&line).map_err(|error| format!("line {}: {error}", at + 1))?;
-        let text = match list.check() {
-            _ if options.contains(&"--ours") => plan::answered_by_us(&list)?.text(),
-            Ok(largest_load) => format::write_outcome(largest_load, &run(&list)),
-            Err(refusal) => format::write_refusal(refusal),
-        };
+        let text = answer_to(&line).map_err(|error| format!("line {}: {error}", at + 1))?;
         writeln!(out, "{text}").map_err(|error| error.to_string())?;
     }
     out.flush().map_err(|error| error.to_string())

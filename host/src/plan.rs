@@ -1,6 +1,6 @@
-//! Holds our planning call beside the Rust: the same answer and the same slots, and the lent memory to the last entry as document
-//! 01 says, on lists that papers name and on random ones, with buffers of the exact length, too short and longer. Every answer
-//! is also held to demand 3.
+//! Compares our planning call with the Rust: the same answer and the same slots, and the lent memory to the last entry as
+//! document 01 says, on lists that papers name and on random ones, with buffers of the exact length, too short and longer. Every
+//! answer is also held to demand 3.
 
 use crate::answer::{self, Answer};
 use crate::demand3;
@@ -8,7 +8,7 @@ use crate::exported::{self, Plan};
 use crate::format::write_list;
 use crate::known::{self, Known, Told};
 use crate::lent::Lent;
-use crate::list::{List, Refusal, MOST_APPOINTMENTS, MOST_CELLS, MOST_PARTIES};
+use crate::list::{List, Refusal, MOST_APPOINTMENTS, MOST_PARTIES, MOST_WORDS};
 use crate::lists::Lists;
 use crate::plan_counts::Counts;
 use crate::random::Random;
@@ -19,8 +19,6 @@ use std::time::Instant;
 
 /// Random lists are made in parts with a seed each, so that the lists are the same on any number of cores.
 const PART: usize = 1000;
-/// The most words of scratch that a list can need.
-const MOST_WORDS: usize = 128 * (MOST_CELLS + MOST_PARTIES);
 /// The most entries or words by which a buffer is longer than needed.
 const MOST_MORE: usize = 1000;
 

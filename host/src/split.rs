@@ -1,13 +1,12 @@
-//! Holds our split beside the Rust's `rbmg_split_into_two` on random regular graphs of even degree: the same pairs in both
+//! Compares our split with the Rust's `rbmg_split_into_two` on random regular graphs of even degree: the same pairs in both
 //! halves, in the order of their numbers, with the same ends, copies and flags.
 
 use crate::exported;
+use crate::lent::Lent;
 use crate::random::Random;
 use crate::split_opened::{self, Pair};
 use std::collections::{HashMap, HashSet};
 
-/// Words behind the lent ones, which nothing may write.
-const BEHIND: usize = 64;
 /// Entries that a graph may have, so that a run stays short.
 const MOST_PAIRS: usize = 20_000;
 
@@ -63,8 +62,9 @@ fn ask(graph: &Graph, random: &mut Random) -> Result<[Vec<Pair>; 2], String> {
     let used = gap + table_words + graph_words + random.below(8);
     let lent = used + 16 * n * (width + 1);
 
-    let bound = if random.chance(2) { 1 << 32 } else { 4 };
-    let mut words: Vec<u32> = (0..lent + BEHIND).map(|_| random.below(bound) as u32).collect();
+    let mut scratch = Lent::new(lent, random, |word| word as u32);
+    scratch.fill(lent, random);
+    let words = scratch.lend(lent);
     words[g] = g as u32;
     words[g + 1] = graph.pairs.len() as u32;
     for (place, (&(first, second, copies, _), &number)) in graph.pairs.iter().zip(&numbers).enumerate() {
@@ -74,16 +74,17 @@ fn ask(graph: &Graph, random: &mut Random) -> Result<[Vec<Pair>; 2], String> {
         words[g + 3 + 2 * place] = copies as u32;
     }
 
-    let before = words.clone();
+    let below = words[..used].to_vec();
     // SAFETY: the graph is regular of even degree, its words lie below the mark, and there is the room that the split asks for.
-    let mark = unsafe { exported::split(&mut words[..lent], used, ends, g, n, width) };
+    let mark = unsafe { exported::split(words, used, ends, g, n, width) };
     let half = 2 * n * (width + 1);
     if mark != used + 2 * half {
         return Err(format!("the mark is {mark}, and was {used}; a half takes {half} words"));
     }
-    if words[..used] != before[..used] || words[lent..] != before[lent..] {
+    if scratch.held(used) != below || scratch.written_from(lent).is_some() {
         return Err("words that must stay were written".to_string());
     }
+    let words = scratch.held(lent);
     let known: HashSet<usize> = numbers.into_iter().collect();
     let half_at = |base: usize| {
         if words[base] as usize != base || words[base + 1] as usize > graph.pairs.len() {
