@@ -16,9 +16,9 @@ use Rattle.multigraph.proofs.Weights.{weigh-none, weigh-cons}
 use Rattle.euler.specs.Split.{Halves, rbmg-split-into-two}
 use Rattle.euler.specs.Halved.{Split-of}
 use Rattle.euler.proofs.SplitLaws.{split-law}
-use Rattle.matching.specs.Matching.{power-above}
+use Rattle.matching.specs.Matching.{log-up}
 use Rattle.matching.specs.Perfect.{Full, Perfect}
-use Rattle.matching.proofs.Powers.{power-above-law, power-above-under}
+use Rattle.matching.proofs.Powers.{log-up-law, log-up-under}
 use Rattle.edge_color.specs.EdgeColor.{Set-aside, set-aside, add-matchings, rbmg-edge-color-when-power-of-two, rbmg-edge-color}
 use Rattle.edge_color.specs.Coloured.{Colours}
 use Rattle.edge_color.proofs.Moving.{full, weigh-add-matchings, add-matchings-law}
@@ -72,10 +72,10 @@ record Moves (d h r : ℕ) : Type 0 where
   raised : h + (r - h) ≡ r
   sum : r + (h - (r - h)) + d % 2 ≡ d
 
-moves : (d : ℕ) → 1 < d → Moves d (d / 2) (2 ^ power-above (d / 2))
+moves : (d : ℕ) → 1 < d → Moves d (d / 2) (2 ^ log-up (d / 2))
 moves d more =
-    let above = power-above-law (d / 2) .reaches in
-    let under = power-above-under (d / 2) (omega arith) in
+    let above = log-up-law (d / 2) .reaches in
+    let under = log-up-under (d / 2) (omega arith) in
     record { enough = omega arith; raised = omega arith; sum = omega arith }
 
 -- The parts of one round, joined: the second half's matchings, what is left of the first's, the one set aside.
@@ -116,14 +116,14 @@ module _ {N : ℕ} {side : ℕ → ℕ} {d k j r : ℕ} {g : Graph} {s : Set-asi
 last-part :
     (N : ℕ) (side : ℕ → ℕ) (d : ℕ) (g : Graph) (s : Set-aside) (h : Halves) (cs : List Graph) → 1 < d →
     Aside-of N side d g s → Split-of N side (d / 2) (s .graph) h → Colours N side (d / 2) (h .first-half) cs →
-    let e : ℕ = power-above (d / 2) in
+    let e : ℕ = log-up (d / 2) in
     let j : ℕ = 2 ^ e - d / 2 in
     Ran (Colours N side d g)
     (and-then (rbmg-edge-color-when-power-of-two N e (add-matchings (h .second-half) (take j cs)))
     (λ ds. ran (ds ++ drop j cs ++ s .aside)))
 last-part N side d g s h cs more a sp c =
     let k : ℕ = d / 2 in
-    let e : ℕ = power-above k in
+    let e : ℕ = log-up k in
     let j : ℕ = 2 ^ e - k in
     let move : Moves d k (2 ^ e) = moves d more in
     let cut : Cut N side j k (h .first-half) cs = cut-law N side j k (h .first-half) cs (move .enough) c in

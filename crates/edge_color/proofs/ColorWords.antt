@@ -17,7 +17,7 @@ use Rattle.multigraph.proofs.Sizes.{entries-few, entries-copies}
 use Rattle.multigraph.proofs.SideBySide.{matchings-append, matchings-kept, matchings-take, matchings-drop}
 use Rattle.euler.specs.Split.{rbmg-split-into-two}
 use Rattle.euler.specs.Room.{Splits, Halves-stored}
-use Rattle.matching.specs.Matching.{power-above}
+use Rattle.matching.specs.Matching.{log-up}
 use Rattle.matching.specs.Perfect.{Full}
 use Rattle.matching.specs.Searched.{lefts, rights}
 use Rattle.matching.specs.declared.Table.{Table}
@@ -37,7 +37,7 @@ use Rattle.edge_color.proofs.CutSizes.{Cuts, cuts, second-room, second-
 color-step :
     (fuel N : ℕ) (left right : List ℕ) (d : ℕ) (g : Graph) → 1 < d →
     let k : ℕ = d / 2 in
-    let e : ℕ = power-above k in
+    let e : ℕ = log-up k in
     rbmg-edge-color (suc fuel) N left right d g
     ≡ and-then (set-aside N left right d g) λ s.
     and-then (rbmg-split-into-two N (s .graph)) λ h.
@@ -52,7 +52,7 @@ color-step fuel N left right (suc (suc d)) g more = refl
 
 -- ── one round over words ──
 
-module _ (t : Table) (s : List ℕ) (used g n d out r : ℕ) (f : Color-fits t s used g n d out) (more : 1 < d) (er : r ≡ 2 ^ power-above (d / 2)) where
+module _ (t : Table) (s : List ℕ) (used g n d out r : ℕ) (f : Color-fits t s used g n d out) (more : 1 < d) (er : r ≡ 2 ^ log-up (d / 2)) where
   cut : Cuts n d r
   cut = cuts n d r more er
 
@@ -224,7 +224,7 @@ module _ (t : Table) (s : List ℕ) (used g n d out r : ℕ) (f : Color-fits t s
               record {
                 side = f .side;
                 pairs = t .pairs;
-                exponent = power-above (d / 2);
+                exponent = log-up (d / 2);
                 power = er;
                 graph =
                     record {
@@ -319,11 +319,11 @@ module _ (t : Table) (s : List ℕ) (used g n d out r : ℕ) (f : Color-fits t s
                 ≡ ran (matchings-at s₅ (t .ends) (t .pairs) out n d)
             colors-so zero le = absurd (omega arith)
             colors-so (suc fuel) le =
-                let e = power-above (d / 2) in
+                let e = log-up (d / 2) in
                 let first = first-colored fuel (omega arith) in
-                let second : rbmg-edge-color-when-power-of-two (2 * n) (power-above (d / 2))
+                let second : rbmg-edge-color-when-power-of-two (2 * n) (log-up (d / 2))
                 (add-matchings (graph-at s₂ (t .ends) (t .pairs) (m₁ + 2 * (n * (d + 1)))) (take (r - d / 2) cs))
-                ≡ ran (matchings-at s₅ (t .ends) (t .pairs) out n r) = rw raised at (p .colors (t .pairs) (power-above (d / 2)) er) in
+                ≡ ran (matchings-at s₅ (t .ends) (t .pairs) out n r) = rw raised at (p .colors (t .pairs) (log-up (d / 2)) er) in
                 rw (
                   color-step fuel (2 * n) (lefts t n s) (rights t n s) d (graph-at s (t .ends) (t .pairs) g) more,
                   a .aside,

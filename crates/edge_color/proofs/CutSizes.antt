@@ -6,9 +6,9 @@ use mathlib.Core.List.{List}
 use native.Mathlib.Omega.{arith}
 use native.Mathlib.Nat.{mul-le-mul-left, mul-one}
 use Rattle.multigraph.specs.Places.{size}
-use Rattle.matching.specs.Matching.{power-above}
+use Rattle.matching.specs.Matching.{log-up}
 use Rattle.matching.specs.declared.Table.{Table}
-use Rattle.matching.proofs.Powers.{power-above-law, power-above-under}
+use Rattle.matching.proofs.Powers.{log-up-law, log-up-under}
 use Rattle.edge_color.specs.Room.{Color-fits}
 use Rattle.edge_color.proofs.AsideWords.{small}
 
@@ -29,10 +29,10 @@ pub record Cuts (n d r : ℕ) : Type 0 where
   pub whole-degree : r + (d / 2 - (r - d / 2)) + d % 2 ≡ d
   pub less : d / 2 < d
 
-pub cuts : (n d r : ℕ) → 1 < d → r ≡ 2 ^ power-above (d / 2) → Cuts n d r
+pub cuts : (n d r : ℕ) → 1 < d → r ≡ 2 ^ log-up (d / 2) → Cuts n d r
 cuts n d r more e =
-    let above : d / 2 ≤ r = omega (arith, power-above-law (d / 2) .reaches) in
-    let below : r + 1 ≤ 2 * (d / 2) = omega (arith, power-above-under (d / 2) (omega arith)) in
+    let above : d / 2 ≤ r = omega (arith, log-up-law (d / 2) .reaches) in
+    let below : r + 1 ≤ 2 * (d / 2) = omega (arith, log-up-under (d / 2) (omega arith)) in
     let pos : 1 ≤ d / 2 = omega arith in
     let split : d ≡ d / 2 + d / 2 + d % 2 = omega arith in
     let parts : n * (d / 2 + d / 2 + d % 2) ≡ n * (d / 2) + n * (d / 2) + n * (d % 2) = omega arith in
@@ -83,7 +83,7 @@ pub record Sums (first n d r out places : ℕ) : Type 0 where
   pub map : places < 4294967296
 
 pub sums :
-    (t : Table) (s : List ℕ) (used g n d out r : ℕ) → Color-fits t s used g n d out → 1 < d → r ≡ 2 ^ power-above (d / 2) →
+    (t : Table) (s : List ℕ) (used g n d out r : ℕ) → Color-fits t s used g n d out → 1 < d → r ≡ 2 ^ log-up (d / 2) →
     (first : ℕ) → first ≤ used + 2 * (n * (d + 1)) → Sums first n d r out (t .places)
 sums t s used g n d out r f more er first to =
     let x = small t s used g n d out f in

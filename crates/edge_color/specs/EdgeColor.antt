@@ -7,7 +7,7 @@ use lib.ListN.{take, drop}
 use Rattle.words.specs.Basics.{pick, Run, ran, failed, and-then}
 use Rattle.multigraph.specs.Multigraph.{Pair, Graph, add-matching, remove-matching}
 use Rattle.euler.specs.Split.{Halves, rbmg-split-into-two}
-use Rattle.matching.specs.Matching.{power-above, rbmg-find-perfect-matching}
+use Rattle.matching.specs.Matching.{log-up, rbmg-find-perfect-matching}
 
 -- `rbmg_edge_color_when_power_of_two`, for degree 2^e. Degree 1: one matching, pairs in number order. Otherwise the first half's
 -- matchings, then the second's.
@@ -46,7 +46,7 @@ rbmg-edge-color (suc fuel) N left right zero g = ran []
 rbmg-edge-color (suc fuel) N left right (suc zero) g = ran (g ∷ [])
 rbmg-edge-color (suc fuel) N left right (suc (suc d)) g =
     let k : ℕ = suc (suc d) / 2 in
-    let e : ℕ = power-above k in
+    let e : ℕ = log-up k in
     and-then (set-aside N left right (suc (suc d)) g) λ s.
     and-then (rbmg-split-into-two N (s .graph)) λ h.
     and-then (rbmg-edge-color fuel N left right k (h .first-half)) λ cs.

@@ -8,7 +8,7 @@ ghost use mathlib.Core.Path.{_≡_};
 ghost use Prim.Native.Nat.{_+_, _*_, _-_, _^_, _<_, _≤_};
 ghost use lib.ListN.{length, take, drop};
 ghost use Rattle.multigraph.specs.Places.{«Adds-matching», «Removes-matching»};
-ghost use Rattle.matching.specs.Matching.{«power-above»};
+ghost use Rattle.matching.specs.Matching.{«log-up»};
 ghost use Rattle.edge_color.specs.Room.{«Power-fits», «Power-colored», «Color-fits», «Aside-stored», Colored};
 use mark::Mark;
 use matching::Table;
@@ -82,10 +82,10 @@ fn move_earliest(
     n: usize,
     h: usize,
 ) -> usize
-    requires { ⌜ (h < 4294967296) × (n * (2 ^ power-above h - h) < 4294967296) × (places < 4294967296) × (second < 4294967296) × (from < 4294967296) ⌝ }
-    ensures { λ r. ⌜ (r ≡ 2 ^ power-above h) × Adds-matching places second from (n * (r - h)) (now (s .entry)) (now (s .exit)) ⌝ }
+    requires { ⌜ (h < 4294967296) × (n * (2 ^ log-up h - h) < 4294967296) × (places < 4294967296) × (second < 4294967296) × (from < 4294967296) ⌝ }
+    ensures { λ r. ⌜ (r ≡ 2 ^ log-up h) × Adds-matching places second from (n * (r - h)) (now (s .entry)) (now (s .exit)) ⌝ }
 {
-    let r = matching::power_above(h);
+    let r = matching::next_power_of_two(h);
     multigraph::add_matching(s, places, second, from, n * (r - h));
     r
 }

@@ -20,9 +20,9 @@ use Rattle.multigraph.specs.Multigraph.{Graph}
 use Rattle.multigraph.specs.Stored.{entry, graph-at}
 use Rattle.multigraph.specs.Places.{size, number, copies-of}
 use Rattle.multigraph.proofs.Spans.{graph-span, total-span}
-use Rattle.matching.specs.Matching.{power-above, flagged-pairs, flagged-copies}
+use Rattle.matching.specs.Matching.{log-up, flagged-pairs, flagged-copies}
 use Rattle.matching.specs.Choosing.{flagged-by, flagged-entry, Whole, fewer, Chooses, Inside-both, Side-by-side}
-use Rattle.matching.proofs.Powers.{power-above-law}
+use Rattle.matching.proofs.Powers.{log-up-law}
 
 -- ── entry by entry ──
 
@@ -150,7 +150,7 @@ chosen-inside first room pairs h by s r halves is =
 pub record Doubling (m t : ℕ) : Type 0 where
   pub times : ℕ
   pub power : t ≡ 2 ^ times
-  pub least : times ≤ power-above m
+  pub least : times ≤ log-up m
   pub positive : 0 < t
 
 pub doubling-none : (m : ℕ) → Doubling m 1
@@ -161,22 +161,22 @@ doubling-more m t h d =
     record {
       times = suc (d .times);
       power = rw (two-pow (d .times), ← d .power);
-      least = go (d .times) (power-above m) refl refl;
+      least = go (d .times) (log-up m) refl refl;
       positive = omega (arith, d .positive);
     }
   where
-    go : (x e : ℕ) → d .times ≡ x → power-above m ≡ e → suc x ≤ e
+    go : (x e : ℕ) → d .times ≡ x → log-up m ≡ e → suc x ≤ e
     go x e p q =
         elim (decLt x e) [
           | yes k ↦ k
           | no k ↦
-              let same : power-above m ≡ d .times = omega (arith, d .least) in
-              let reach : m ≤ 2 ^ d .times = rw same at (power-above-law m .reaches) in
+              let same : log-up m ≡ d .times = omega (arith, d .least) in
+              let reach : m ≤ 2 ^ d .times = rw same at (log-up-law m .reaches) in
               absurd (omega (arith, d .power))
         ]
 
-pub doubling-done : (m t : ℕ) → m ≤ t → Doubling m t → t ≡ 2 ^ power-above m
+pub doubling-done : (m t : ℕ) → m ≤ t → Doubling m t → t ≡ 2 ^ log-up m
 doubling-done m t h d =
     let reach : m ≤ 2 ^ d .times = rw (d .power) at h in
-    let same : d .times ≡ power-above m = omega (arith, d .least, power-above-law m .least (d .times) reach) in
+    let same : d .times ≡ log-up m = omega (arith, d .least, log-up-law m .least (d .times) reach) in
     rw same at (d .power)

@@ -19,7 +19,7 @@ use Rattle.multigraph.specs.Places.{size, number}
 use Rattle.multigraph.proofs.Sizes.{entries-one}
 use Rattle.multigraph.proofs.Spans.{graph-span, all-span}
 use Rattle.multigraph.proofs.Kept.{Ends-kept, graph-kept}
-use Rattle.matching.specs.Matching.{power-above, search-graph, halve, flagged-pairs, flagged-copies, rbmg-find-perfect-matching}
+use Rattle.matching.specs.Matching.{log-up, search-graph, halve, flagged-pairs, flagged-copies, rbmg-find-perfect-matching}
 use Rattle.matching.specs.Perfect.{Matching-of}
 use Rattle.matching.specs.Searched.{lefts, rights, Can-search, Search-done, Searches-done, Can-read, Matching-read, Reads-matching, Can-find, Matching-found}
 use Rattle.matching.specs.declared.Table.{Table}
@@ -78,16 +78,16 @@ module _ (t : Table) (g n k mark : ℕ) (s u : List ℕ) (can : Can-search t g n
 
 first-found :
     (N : ℕ) (left right : List ℕ) (k : ℕ) (g m : Graph) →
-    halve N flagged-pairs (power-above (k * length left)) (search-graph left right k g) ≡ ran m → flagged-pairs m ≡ 0 →
+    halve N flagged-pairs (log-up (k * length left)) (search-graph left right k g) ≡ ran m → flagged-pairs m ≡ 0 →
     rbmg-find-perfect-matching N left right k g ≡ ran m
 unfolding rbmg-find-perfect-matching
 first-found N left right k g m h z = rw (h, eq-eqb (flagged-pairs m) 0 z)
 
 second-found :
     (N : ℕ) (left right : List ℕ) (k : ℕ) (g x m : Graph) →
-    halve N flagged-pairs (power-above (k * length left)) (search-graph left right k g) ≡ ran x →
+    halve N flagged-pairs (log-up (k * length left)) (search-graph left right k g) ≡ ran x →
     (flagged-pairs x ≡ 0 → ⊥) →
-    halve N flagged-copies (power-above (k * length left)) (search-graph left right k g) ≡ ran m →
+    halve N flagged-copies (log-up (k * length left)) (search-graph left right k g) ≡ ran m →
     rbmg-find-perfect-matching N left right k g ≡ ran m
 unfolding rbmg-find-perfect-matching
 second-found N left right k g x m h some again = rw (h, ne-eqb (flagged-pairs x) 0 some, again)
@@ -123,7 +123,7 @@ two-searches t g n k mark middle new flagged later s u v can d some e =
     }
   where
     second :
-        halve (2 * n) flagged-copies (power-above (k * n))
+        halve (2 * n) flagged-copies (log-up (k * n))
         (search-graph (lefts t n s) (rights t n s) k (graph-at s (t .ends) (t .pairs) g))
         ≡ ran (graph-at v (t .ends) (t .pairs) mark)
     second =

@@ -17,9 +17,9 @@ use Rattle.multigraph.specs.Multigraph.{Pair, Graph}
 use Rattle.multigraph.specs.Regular.{weigh, between, copies-between, pairs-between, Regular, Positive, Partition, Agrees}
 use Rattle.multigraph.proofs.Weights.{apart-le, copies-in-weight}
 use Rattle.multigraph.proofs.Matchings.{weigh-ends, single-copies, single-weigh}
-use Rattle.matching.specs.Matching.{power-above, flagged-pairs, flagged-copies, halve, search-graph, rbmg-find-perfect-matching}
+use Rattle.matching.specs.Matching.{log-up, flagged-pairs, flagged-copies, halve, search-graph, rbmg-find-perfect-matching}
 use Rattle.matching.specs.Perfect.{Perfect, Matching-of}
-use Rattle.matching.proofs.Powers.{power-above-law}
+use Rattle.matching.proofs.Powers.{log-up-law}
 use Rattle.matching.proofs.Searching.{lacks, lacks-symmetric, Search-of, search-law}
 use Rattle.matching.proofs.Halving.{Left-of, halve-law, alon-halving}
 
@@ -97,9 +97,9 @@ second-search-law N side e g h some s =
 -- a search of degree above 1 splits at least once
 some-split :
     (N : ℕ) (side : ℕ → ℕ) (left right : List ℕ) (k : ℕ) → Partition N side left right → 1 < k → 0 < N →
-    0 < power-above (k * length left)
+    0 < log-up (k * length left)
 some-split N side left right k part more some =
-    go (power-above (k * length left)) (power-above-law (k * length left) .reaches)
+    go (log-up (k * length left)) (log-up-law (k * length left) .reaches)
   where
     go : (e : ℕ) → k * length left ≤ 2 ^ e → 0 < e
     go zero h =
@@ -119,7 +119,7 @@ matching-law N side left right k g reg pos part more some =
     (λ m l. pairs m l (eqb (flagged-pairs m) 0) refl)
   where
     e : ℕ
-    e = power-above (k * length left)
+    e = log-up (k * length left)
 
     h : Graph
     h = search-graph left right k g

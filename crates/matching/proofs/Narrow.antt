@@ -13,7 +13,7 @@ use Rattle.multigraph.specs.Places.{size}
 use Rattle.multigraph.proofs.Matchings.{weigh-ends}
 use Rattle.multigraph.proofs.Parts.{pairs-le-degree, pairs-by-width, ends-add-edge}
 use Rattle.multigraph.proofs.Sizes.{one-pair}
-use Rattle.matching.specs.Matching.{power-above, add-times, add-diagonal, search-graph}
+use Rattle.matching.specs.Matching.{log-up, add-times, add-diagonal, search-graph}
 use Rattle.matching.proofs.Diagonal.{diagonal, diagonal-names}
 
 -- ── at most one pair more at a party ──
@@ -44,7 +44,7 @@ pub search-narrow :
     Partition N side left right → (v : ℕ) → v < N → weigh-ends (names v) (search-graph left right k g) ≤ k + 1
 unfolding search-graph total
 search-narrow N side left right k g reg pos part v h =
-    let t : ℕ = 2 ^ power-above (k * length left) in
+    let t : ℕ = 2 ^ log-up (k * length left) in
     omega (
       arith,
       ends-add-diagonal (names v) (t - k * (t / k)) (add-times (t / k) [] g) left right,

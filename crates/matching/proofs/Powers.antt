@@ -1,4 +1,4 @@
--- `power-above m` is the exponent of the least power of two not below m; and how t = 2^e is cut into α copies of the degree
+-- `log-up m` is the exponent of the least power of two not below m; and how t = 2^e is cut into α copies of the degree
 -- and a remainder β. Assumes nothing.
 use Prim.Native.Nat.{ℕ, zero, suc, _+_, _*_, _-_, _/_, _^_, _≤_, _<_}
 use mathlib.Core.Path.{_≡_, refl}
@@ -12,27 +12,27 @@ use lib.Dec.{leb}
 use lib.Pow.{pow-pos}
 use Rattle.words.specs.Basics.{pick}
 use Rattle.words.proofs.PowersOfTwo.{two-pow, exponent-lt}
-use Rattle.matching.specs.Matching.{power-above}
+use Rattle.matching.specs.Matching.{log-up}
 
 -- 2^e is the least power of two not below m.
 pub record Least-power (m e : ℕ) : Type 0 where
   pub reaches : m ≤ 2 ^ e
   pub least : (i : ℕ) → m ≤ 2 ^ i → e ≤ i
 
-pub power-above-law : (m : ℕ) → Least-power m (power-above m)
-unfolding power-above
-power-above-law zero = record { reaches = omega arith; least = λ i h. omega arith }
-power-above-law (suc m) = go (leb (suc m) (2 ^ power-above m)) refl (power-above-law m)
+pub log-up-law : (m : ℕ) → Least-power m (log-up m)
+unfolding log-up
+log-up-law zero = record { reaches = omega arith; least = λ i h. omega arith }
+log-up-law (suc m) = go (leb (suc m) (2 ^ log-up m)) refl (log-up-law m)
   where
-    go : (t : Bool) → leb (suc m) (2 ^ power-above m) ≡ t → Least-power m (power-above m) →
-        Least-power (suc m) (pick t (power-above m) (power-above m + 1))
+    go : (t : Bool) → leb (suc m) (2 ^ log-up m) ≡ t → Least-power m (log-up m) →
+        Least-power (suc m) (pick t (log-up m) (log-up m + 1))
     go true e l = record { reaches = leb-true _ _ e; least = λ i h. l .least i (omega arith) }
     go false e l =
-        let past : 2 ^ power-above m < suc m = leb-false _ _ e in
-        let twice : 2 ^ (power-above m + 1) ≡ 2 * 2 ^ power-above m = rw add-one (two-pow (power-above m)) in
+        let past : 2 ^ log-up m < suc m = leb-false _ _ e in
+        let twice : 2 ^ (log-up m + 1) ≡ 2 * 2 ^ log-up m = rw add-one (two-pow (log-up m)) in
         record {
-          reaches = omega (arith, l .reaches, past, twice, pow-pos (power-above m));
-          least = λ i h. omega (arith, exponent-lt (power-above m) i (omega (arith, l .reaches, past, h)));
+          reaches = omega (arith, l .reaches, past, twice, pow-pos (log-up m));
+          least = λ i h. omega (arith, exponent-lt (log-up m) i (omega (arith, l .reaches, past, h)));
         }
 
 -- the power is below twice the number
@@ -44,11 +44,11 @@ under-twice m (suc e) pos l =
       | no k ↦ omega (arith, two-pow e)
     ]
 
-pub power-above-under : (m : ℕ) → 0 < m → 2 ^ power-above m < 2 * m
-power-above-under m pos = under-twice m (power-above m) pos (power-above-law m)
+pub log-up-under : (m : ℕ) → 0 < m → 2 ^ log-up m < 2 * m
+log-up-under m pos = under-twice m (log-up m) pos (log-up-law m)
 
-pub power-above-one : power-above 1 ≡ 0
-power-above-one = omega (arith, power-above-law 1 .least 0 (omega arith))
+pub log-up-one : log-up 1 ≡ 0
+log-up-one = omega (arith, log-up-law 1 .least 0 (omega arith))
 
 -- t is α times the degree k, and β more, with α at least 1 and β below k.
 pub record Shares (k t : ℕ) : Type 0 where

@@ -15,12 +15,12 @@ use Rattle.multigraph.specs.Regular.{Regular}
 use Rattle.multigraph.specs.Stored.{graph-at}
 use Rattle.multigraph.specs.Places.{size, copies-of, Alike}
 use Rattle.multigraph.proofs.Sizes.{entries-few, entries-copies}
-use Rattle.matching.specs.Matching.{power-above, add-times, add-diagonal, search-graph, flagged-pairs}
+use Rattle.matching.specs.Matching.{log-up, add-times, add-diagonal, search-graph, flagged-pairs}
 use Rattle.matching.specs.Choosing.{Inside-both}
 use Rattle.matching.specs.Searched.{lefts, rights, Can-build, Graph-built, Searching, Can-halve-all, Halved-all, Can-search, Search-done}
 use Rattle.matching.specs.declared.Table.{Table}
 use Rattle.matching.proofs.Columns.{length-column, column-at, column-once}
-use Rattle.matching.proofs.Powers.{power-above-law, power-above-under, Shares, shares}
+use Rattle.matching.proofs.Powers.{log-up-law, log-up-under, Shares, shares}
 use Rattle.matching.proofs.Searching.{search-law}
 use Rattle.matching.proofs.Narrow.{search-narrow}
 
@@ -32,11 +32,11 @@ pub record Cut (n k p : ℕ) : Type 0 where
   pub times : k * (p / k) ≤ p
   pub small : p < 4194304
 
-pub cut : (n k p : ℕ) → p ≡ 2 ^ power-above (k * n) → 1 < k → 0 < n → n * (k + 2) ≤ 2097152 → Cut n k p
+pub cut : (n k p : ℕ) → p ≡ 2 ^ log-up (k * n) → 1 < k → 0 < n → n * (k + 2) ≤ 2097152 → Cut n k p
 cut n k p is several some most =
-    let reach : k * n ≤ p = rw (← is) at (power-above-law (k * n) .reaches) in
+    let reach : k * n ≤ p = rw (← is) at (log-up-law (k * n) .reaches) in
     let more : k * 1 ≤ k * n = mul-le-mul-left k some in
-    let under : p < 2 * (k * n) = rw (← is) at (power-above-under (k * n) (omega (arith, more, mul-one k))) in
+    let under : p < 2 * (k * n) = rw (← is) at (log-up-under (k * n) (omega (arith, more, mul-one k))) in
     let share : Shares k p = shares k p (omega arith) (omega (arith, more, mul-one k)) in
     record { share = share; times = omega (arith, share .cut); small = omega (arith, mul-comm k n) }
 
@@ -104,7 +104,7 @@ module _ (t : Table) (g n k mark : ℕ) (s : List ℕ) (can : Can-search t g n k
   pub copy-inside : Inside-both g mark (size s g) s
   copy-inside = (omega (arith, can .below, can .room), omega (arith, few-pairs, can .room, can .some))
 
-  module _ (p : ℕ) (is : p ≡ 2 ^ power-above (k * n)) where
+  module _ (p : ℕ) (is : p ≡ 2 ^ log-up (k * n)) where
     -- and so do α and β
     pub shares-fit : (p / k < 4294967296) × (p - k * (p / k) < 4294967296)
     shares-fit = (omega (arith, c .small, c .times, mul-le-mul-right (p / k) one, one-mul (p / k)), omega (arith, c .small))
@@ -159,7 +159,7 @@ module _ (t : Table) (g n k mark : ℕ) (s : List ℕ) (can : Can-search t g n k
             numbers = b .numbers;
           }
         where
-          regular : Regular (2 * n) (can .side) (2 ^ power-above (k * n)) (search-graph (lefts t n s) (rights t n s) k G)
+          regular : Regular (2 * n) (can .side) (2 ^ log-up (k * n)) (search-graph (lefts t n s) (rights t n s) k G)
           regular =
               rw (length-column s (t .ends + 2 * t .pairs) n)
               at (search-law (2 * n) (can .side) (lefts t n s) (rights t n s) k G (can .regular) (can .positive) (can .partition)
@@ -169,7 +169,7 @@ module _ (t : Table) (g n k mark : ℕ) (s : List ℕ) (can : Can-search t g n k
       can-halve-all =
           record {
             side = can .side;
-            exponent = power-above (k * n);
+            exponent = log-up (k * n);
             power = is;
             laid =
                 record {
@@ -192,7 +192,7 @@ module _ (t : Table) (g n k mark : ℕ) (s : List ℕ) (can : Can-search t g n k
           new ≡ mark → Search-done t g n k by mark new flagged s u
       search-done by new flagged above u h counted same =
           record {
-            left = rw graph-is at (h .left (power-above (k * n)) is);
+            left = rw graph-is at (h .left (log-up (k * n)) is);
             counted = counted (t .ends) (omega (arith, h .under));
             numbers = h .numbers;
             marked = same;

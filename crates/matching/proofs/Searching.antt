@@ -14,8 +14,8 @@ use Rattle.multigraph.specs.Regular.{weigh, names, degree, between, copies-betw
 use Rattle.multigraph.proofs.Ends.{names-symmetric, between-symmetric, between-ends}
 use Rattle.multigraph.proofs.Weights.{weigh-none, own-copies, no-pairs-no-copies}
 use Rattle.multigraph.proofs.Adding.{agrees-add-edge, weigh-add-edge}
-use Rattle.matching.specs.Matching.{power-above, add-times, add-diagonal, search-graph}
-use Rattle.matching.proofs.Powers.{Shares, power-above-law, shares}
+use Rattle.matching.specs.Matching.{log-up, add-times, add-diagonal, search-graph}
+use Rattle.matching.proofs.Powers.{Shares, log-up-law, shares}
 use Rattle.matching.proofs.Diagonal.{diagonal, diagonal-names, diagonal-le, weigh-add-times, weigh-add-diagonal, Between-sides, between-add-times, between-add-diagonal}
 
 -- 1 where the graph has no copy between the two parties, else 0
@@ -69,11 +69,11 @@ pub record Search-of (N : ℕ) (side : ℕ → ℕ) (e : ℕ) (g h : Graph) : Ty
 -- the search graph's weight
 pub weigh-search :
     (w : ℕ → ℕ → ℕ) → Symmetric w → (left right : List ℕ) (k : ℕ) (g : Graph) →
-    let t : ℕ = 2 ^ power-above (k * length left) in
+    let t : ℕ = 2 ^ log-up (k * length left) in
     weigh w (search-graph left right k g) ≡ t / k * weigh w g + (t - k * (t / k)) * diagonal w left right
 unfolding search-graph
 weigh-search w s left right k g =
-    let t : ℕ = 2 ^ power-above (k * length left) in
+    let t : ℕ = 2 ^ log-up (k * length left) in
     omega (
       arith,
       weigh-add-diagonal w s (t - k * (t / k)) (add-times (t / k) [] g) left right,
@@ -85,7 +85,7 @@ weigh-search w s left right k g =
 pub search-law :
     (N : ℕ) (side : ℕ → ℕ) (left right : List ℕ) (k : ℕ) (g : Graph) → Regular N side k g → Positive g →
     Partition N side left right → 0 < k → 0 < N →
-    Search-of N side (power-above (k * length left)) g (search-graph left right k g)
+    Search-of N side (log-up (k * length left)) g (search-graph left right k g)
 unfolding search-graph
 search-law N side left right k g reg pos part kpos npos =
     record {
@@ -97,7 +97,7 @@ search-law N side left right k g reg pos part kpos npos =
     }
   where
     e : ℕ
-    e = power-above (k * length left)
+    e = log-up (k * length left)
 
     α : ℕ
     α = 2 ^ e / k
@@ -109,7 +109,7 @@ search-law N side left right k g reg pos part kpos npos =
     n-pos = omega (arith, part .whole, part .same-length)
 
     enough : k * length left ≤ 2 ^ e
-    enough = power-above-law (k * length left) .reaches
+    enough = log-up-law (k * length left) .reaches
 
     share : Shares k (2 ^ e)
     share = shares k (2 ^ e) kpos (omega (arith, enough, mul-le-mul-left k n-pos, mul-one k))

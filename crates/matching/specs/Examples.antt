@@ -5,12 +5,12 @@ use mathlib.Core.Path.{_≡_, refl}
 use mathlib.Core.List.{List, [], _∷_, map}
 use Rattle.words.specs.Basics.{ran}
 use Rattle.multigraph.specs.Multigraph.{pair, Graph}
-use Rattle.matching.specs.Matching.{power-above, flagged-pairs, halve, search-graph, rbmg-find-perfect-matching}
+use Rattle.matching.specs.Matching.{log-up, flagged-pairs, halve, search-graph, rbmg-find-perfect-matching}
 use Rattle.matching.specs.Computing.{computing}
 
 -- 2^e is the least power of two not below m, for m from 0 to 9: a power of two is its own.
 pub powers :
-    map power-above (0 ∷ 1 ∷ 2 ∷ 3 ∷ 4 ∷ 5 ∷ 6 ∷ 7 ∷ 8 ∷ 9 ∷ []) ≡ 0 ∷ 0 ∷ 1 ∷ 2 ∷ 2 ∷ 3 ∷ 3 ∷ 3 ∷ 3 ∷ 4 ∷ []
+    map log-up (0 ∷ 1 ∷ 2 ∷ 3 ∷ 4 ∷ 5 ∷ 6 ∷ 7 ∷ 8 ∷ 9 ∷ []) ≡ 0 ∷ 0 ∷ 1 ∷ 2 ∷ 2 ∷ 3 ∷ 3 ∷ 3 ∷ 3 ∷ 4 ∷ []
 unfolding computing
 powers = refl
 

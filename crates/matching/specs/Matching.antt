@@ -8,10 +8,10 @@ use Rattle.words.specs.Basics.{pick, total, Run, ran, and-then}
 use Rattle.multigraph.specs.Multigraph.{Pair, Graph, add-edge}
 use Rattle.euler.specs.Split.{Halves, rbmg-split-into-two}
 
--- the exponent of the least power of two not below m
-unfoldable pub power-above : ℕ → ℕ
-power-above zero = 0
-power-above (suc m) = let e : ℕ = power-above m in pick (leb (suc m) (2 ^ e)) e (e + 1)
+-- log2 of m rounded up: the exponent of the least power of two not below m (0 for m = 0)
+unfoldable pub log-up : ℕ → ℕ
+log-up zero = 0
+log-up (suc m) = let e : ℕ = log-up m in pick (leb (suc m) (2 ^ e)) e (e + 1)
 
 -- how many pairs are flagged, however many copies they have
 unfoldable pub flagged-pairs : Graph → ℕ
@@ -46,14 +46,14 @@ add-diagonal β h (l ∷ left) (r ∷ right) = add-diagonal β (add-edge h l r �
 -- rounded down and β is t−k×α.
 unfoldable pub search-graph : List ℕ → List ℕ → ℕ → Graph → Graph
 search-graph left right k g =
-    let t : ℕ = 2 ^ power-above (k * length left) in
+    let t : ℕ = 2 ^ log-up (k * length left) in
     add-diagonal (t - k * (t / k)) (add-times (t / k) [] g) left right
 
 -- The perfect matching: search counting flagged pairs; if a flagged pair survives, search again counting flagged copies. The
 -- pairs left, in number order, are the matching.
 unfoldable pub rbmg-find-perfect-matching : ℕ → List ℕ → List ℕ → ℕ → Graph → Run Graph
 rbmg-find-perfect-matching N left right k g =
-    let e : ℕ = power-above (k * length left) in
+    let e : ℕ = log-up (k * length left) in
     let h : Graph = search-graph left right k g in
     let again : Run Graph = halve N flagged-copies e h in
     and-then (halve N flagged-pairs e h) (λ m. pick (eqb (flagged-pairs m) 0) (ran m) again)

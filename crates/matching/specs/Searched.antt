@@ -13,7 +13,7 @@ use Rattle.multigraph.specs.Regular.{names, Apart, Regular, Positive, Partition
 use Rattle.multigraph.specs.Stored.{graph-at, matching-at}
 use Rattle.multigraph.specs.Places.{size, number, copies-of, Alike, Distinct-ends, Stored, Mappable}
 use Rattle.euler.specs.Split.{Halves, rbmg-split-into-two}
-use Rattle.matching.specs.Matching.{add-times, add-diagonal, fewer-flagged, halve, search-graph, power-above, flagged-pairs, rbmg-find-perfect-matching}
+use Rattle.matching.specs.Matching.{add-times, add-diagonal, fewer-flagged, halve, search-graph, log-up, flagged-pairs, rbmg-find-perfect-matching}
 use Rattle.matching.specs.Choosing.{flagged-by}
 use Rattle.matching.specs.declared.Table.{Table}
 
@@ -168,7 +168,7 @@ pub record Can-search (t : Table) (g n k mark : ℕ) (s : List ℕ) : Type 0 whe
 -- What a search leaves stands at the mark; below it only the map has changed.
 pub record Search-done (t : Table) (g n k : ℕ) (by : Bool) (mark new flagged : ℕ) (s u : List ℕ) : Type 0 where
   pub left :
-      halve (2 * n) (flagged-by by) (power-above (k * n))
+      halve (2 * n) (flagged-by by) (log-up (k * n))
       (search-graph (lefts t n s) (rights t n s) k (graph-at s (t .ends) (t .pairs) g))
       ≡ ran (graph-at u (t .ends) (t .pairs) mark)
   pub counted : flagged ≡ flagged-pairs (graph-at u (t .ends) (t .pairs) mark)

@@ -9,7 +9,7 @@ ghost use lib.ListN.{length};
 ghost use Rattle.words.specs.Words.{word, «put-word»};
 ghost use Rattle.multigraph.specs.Stored.{«graph-at»};
 ghost use Rattle.multigraph.specs.Places.{size, «Adds-edge»};
-ghost use Rattle.matching.specs.Matching.{«power-above», «flagged-pairs»};
+ghost use Rattle.matching.specs.Matching.{«log-up», «flagged-pairs»};
 ghost use Rattle.matching.specs.Choosing.{«flagged-by», «flagged-entry», Whole, fewer, Chooses, Copies, «Copying», «Can-copy», «Inside-both», «Side-by-side», «Goes-on»};
 ghost use Rattle.matching.specs.Searched.{«Adds-diagonal», «Builds-graph», «Can-halve», Halved, «Can-halve-all», «Halved-all»};
 ghost use Rattle.matching.specs.Searched.{«Can-search», «Search-done», «Searches-done», «Reads-matching», «Can-find», «Matching-found»};
@@ -30,9 +30,9 @@ pub struct Table {
 }
 
 // The least power of two not below `m`.
-pub fn power_above(m: usize) -> usize
+pub fn next_power_of_two(m: usize) -> usize
     requires { ⌜ m < 4294967296 ⌝ }
-    ensures { λ r. ⌜ r ≡ 2 ^ power-above m ⌝ }
+    ensures { λ r. ⌜ r ≡ 2 ^ log-up m ⌝ }
 {
     let mut t: usize = 1;
     while t < m {
@@ -272,7 +272,7 @@ fn search(
 {
     let room = 2 * (n * (k + 2));
     let h = mark::take(m, room);
-    let degree = power_above(k * n);
+    let degree = next_power_of_two(k * n);
     let alpha = degree / k;
     search_graph(s, t, g, h, n, alpha, degree - k * alpha);
     halve_all(s, m, t, h, n, k + 1, degree, by_copies);

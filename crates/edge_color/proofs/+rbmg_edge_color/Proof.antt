@@ -79,7 +79,7 @@ use lib.Dec.{eqb→eq}
 use Rattle.mark.proofs.Walking.{differ}
 use Rattle.multigraph.specs.Places.{Adds-matching}
 use Rattle.euler.specs.Room.{Halves-stored}
-use Rattle.matching.specs.Matching.{power-above as power-of}
+use Rattle.matching.specs.Matching.{log-up}
 use Rattle.matching.specs.Searched.{Reads-matching}
 use Rattle.edge_color.specs.Room.{Power-colored, Color-fits, Aside-stored, Colored}
 use Rattle.edge_color.proofs.AsideWords.{small, back-again}
@@ -172,16 +172,16 @@ module _ {M : Type 1} (𝓤 : URA M) (H : Heap 𝓤) (A : Atoms 𝓤) (W : Given
         takes ! l fm mem run known-take (n3) 0 (omega arith) (omega (arith, p3 .0 .to, p3 .1, ok .1)) (λ ν δ P. and-then ! (load ! (from ! (stop !)) (look ! 34 refl)) (and-then ! (lit ! tt) (no-more !))) (λ fits4.
         land ! (from ! (stop !)) (init ! 58 refl (tt, record { fits = fits4 })) $
         rewrite ! 0 (λ (x : Mark). ‵ (mark-own l x)) (ap (λ (u : ℕ). given-back u (n3)) (add-zero ((n3) .taken))) refl $
-        assigns ! (bin ! (load ! (from ! (stop !)) (look ! 70 refl)) (lit ! tt) (record { fits = (omega (arith, small t (s .now) (m .now .taken) g n d out (ok .0), sums t (s .now) (m .now .taken) g n d out (2 ^ power-of (d / 2)) (ok .0) (above-one d (differ d 0 no1) (differ d 1 no2)) refl (n3 .taken) (p3 .0 .to), is3 .1, ok .0 .tabled .after-ends)) })) (from ! (stop !)) (store ! 42 refl (tt, record { fits = (omega (arith, small t (s .now) (m .now .taken) g n d out (ok .0), sums t (s .now) (m .now .taken) g n d out (2 ^ power-of (d / 2)) (ok .0) (above-one d (differ d 0 no1) (differ d 1 no2)) refl (n3 .taken) (p3 .0 .to), is3 .1, ok .0 .tabled .after-ends)) })) $
-        assigns ! (bin ! (load ! (from ! (stop !)) (look ! 72 refl)) (load ! (from ! (stop !)) (look ! 42 refl)) (record { fits = (omega (arith, small t (s .now) (m .now .taken) g n d out (ok .0), sums t (s .now) (m .now .taken) g n d out (2 ^ power-of (d / 2)) (ok .0) (above-one d (differ d 0 no1) (differ d 1 no2)) refl (n3 .taken) (p3 .0 .to), is3 .1, ok .0 .tabled .after-ends)) })) (from ! (stop !)) (init ! 32 refl (tt, record { fits = (omega (arith, small t (s .now) (m .now .taken) g n d out (ok .0), sums t (s .now) (m .now .taken) g n d out (2 ^ power-of (d / 2)) (ok .0) (above-one d (differ d 0 no1) (differ d 1 no2)) refl (n3 .taken) (p3 .0 .to), is3 .1, ok .0 .tabled .after-ends)) })) $
-        assigns ! (bin ! (lit ! tt) (load ! (from ! (stop !)) (look ! 32 refl)) (record { fits = (omega (arith, small t (s .now) (m .now .taken) g n d out (ok .0), sums t (s .now) (m .now .taken) g n d out (2 ^ power-of (d / 2)) (ok .0) (above-one d (differ d 0 no1) (differ d 1 no2)) refl (n3 .taken) (p3 .0 .to), is3 .1, ok .0 .tabled .after-ends)) })) (from ! (stop !)) (init ! 30 refl (tt, record { fits = (omega (arith, small t (s .now) (m .now .taken) g n d out (ok .0), sums t (s .now) (m .now .taken) g n d out (2 ^ power-of (d / 2)) (ok .0) (above-one d (differ d 0 no1) (differ d 1 no2)) refl (n3 .taken) (p3 .0 .to), is3 .1, ok .0 .tabled .after-ends)) })) $
-        assigns ! (bin ! (load ! (from ! (stop !)) (look ! 58 refl)) (load ! (from ! (stop !)) (look ! 30 refl)) (record { fits = (omega (arith, small t (s .now) (m .now .taken) g n d out (ok .0), sums t (s .now) (m .now .taken) g n d out (2 ^ power-of (d / 2)) (ok .0) (above-one d (differ d 0 no1) (differ d 1 no2)) refl (n3 .taken) (p3 .0 .to), is3 .1, ok .0 .tabled .after-ends)) })) (from ! (stop !)) (init ! 56 refl (tt, record { fits = (omega (arith, small t (s .now) (m .now .taken) g n d out (ok .0), sums t (s .now) (m .now .taken) g n d out (2 ^ power-of (d / 2)) (ok .0) (above-one d (differ d 0 no1) (differ d 1 no2)) refl (n3 .taken) (p3 .0 .to), is3 .1, ok .0 .tabled .after-ends)) })) $
+        assigns ! (bin ! (load ! (from ! (stop !)) (look ! 70 refl)) (lit ! tt) (record { fits = (omega (arith, small t (s .now) (m .now .taken) g n d out (ok .0), sums t (s .now) (m .now .taken) g n d out (2 ^ log-up (d / 2)) (ok .0) (above-one d (differ d 0 no1) (differ d 1 no2)) refl (n3 .taken) (p3 .0 .to), is3 .1, ok .0 .tabled .after-ends)) })) (from ! (stop !)) (store ! 42 refl (tt, record { fits = (omega (arith, small t (s .now) (m .now .taken) g n d out (ok .0), sums t (s .now) (m .now .taken) g n d out (2 ^ log-up (d / 2)) (ok .0) (above-one d (differ d 0 no1) (differ d 1 no2)) refl (n3 .taken) (p3 .0 .to), is3 .1, ok .0 .tabled .after-ends)) })) $
+        assigns ! (bin ! (load ! (from ! (stop !)) (look ! 72 refl)) (load ! (from ! (stop !)) (look ! 42 refl)) (record { fits = (omega (arith, small t (s .now) (m .now .taken) g n d out (ok .0), sums t (s .now) (m .now .taken) g n d out (2 ^ log-up (d / 2)) (ok .0) (above-one d (differ d 0 no1) (differ d 1 no2)) refl (n3 .taken) (p3 .0 .to), is3 .1, ok .0 .tabled .after-ends)) })) (from ! (stop !)) (init ! 32 refl (tt, record { fits = (omega (arith, small t (s .now) (m .now .taken) g n d out (ok .0), sums t (s .now) (m .now .taken) g n d out (2 ^ log-up (d / 2)) (ok .0) (above-one d (differ d 0 no1) (differ d 1 no2)) refl (n3 .taken) (p3 .0 .to), is3 .1, ok .0 .tabled .after-ends)) })) $
+        assigns ! (bin ! (lit ! tt) (load ! (from ! (stop !)) (look ! 32 refl)) (record { fits = (omega (arith, small t (s .now) (m .now .taken) g n d out (ok .0), sums t (s .now) (m .now .taken) g n d out (2 ^ log-up (d / 2)) (ok .0) (above-one d (differ d 0 no1) (differ d 1 no2)) refl (n3 .taken) (p3 .0 .to), is3 .1, ok .0 .tabled .after-ends)) })) (from ! (stop !)) (init ! 30 refl (tt, record { fits = (omega (arith, small t (s .now) (m .now .taken) g n d out (ok .0), sums t (s .now) (m .now .taken) g n d out (2 ^ log-up (d / 2)) (ok .0) (above-one d (differ d 0 no1) (differ d 1 no2)) refl (n3 .taken) (p3 .0 .to), is3 .1, ok .0 .tabled .after-ends)) })) $
+        assigns ! (bin ! (load ! (from ! (stop !)) (look ! 58 refl)) (load ! (from ! (stop !)) (look ! 30 refl)) (record { fits = (omega (arith, small t (s .now) (m .now .taken) g n d out (ok .0), sums t (s .now) (m .now .taken) g n d out (2 ^ log-up (d / 2)) (ok .0) (above-one d (differ d 0 no1) (differ d 1 no2)) refl (n3 .taken) (p3 .0 .to), is3 .1, ok .0 .tabled .after-ends)) })) (from ! (stop !)) (init ! 56 refl (tt, record { fits = (omega (arith, small t (s .now) (m .now .taken) g n d out (ok .0), sums t (s .now) (m .now .taken) g n d out (2 ^ log-up (d / 2)) (ok .0) (above-one d (differ d 0 no1) (differ d 1 no2)) refl (n3 .taken) (p3 .0 .to), is3 .1, ok .0 .tabled .after-ends)) })) $
         assigns ! (addr ! (from ! (fld ! refl (hop ! (look-in ! 80 (sub ! 0 refl (whole !))) (stop !))))) (from ! (stop !)) (init ! 26 refl (tt, tt)) $
         assigns ! (agg ! (and-then ! (load ! (from ! (stop !)) (look ! 26 refl)) (and-then ! (load ! (from ! (fld ! refl (stop !))) (look-in ! 80 (sub ! 1 refl (whole !)))) (no-more !)))) (from ! (stop !)) (init ! 24 refl (tt, (tt, (record { fits = room .0 }, tt)))) $
         assigns ! (addr ! (from ! (hop ! (look ! 78 refl) (stop !)))) (from ! (stop !)) (init ! 22 refl (tt, tt)) $
         calls-both-plain ! l room fm unit (plain (λ _. usize) ∷ plain (λ _. usize) ∷ plain (λ _. usize) ∷ plain (λ _. usize) ∷ []) (yes, (yes, (yes, (yes, tt)))) (rbmg-split-into-two.clauses 𝓤 H A mem run) (n3) (ys3) le3 (λ ν ν′. (t .ends, (r3, (n, (d, tt))))) (λ ν ν′. (vint w64 (t .ends) ∷ [], (vint w64 r3 ∷ [], (vint w64 n ∷ [], (vint w64 d ∷ [], tt))))) (λ ν δ ν′ δ′. tt) (λ ν δ ν′ δ′. known-rbmg-split-into-two (((ν ∷ [], (ν′ ∷ [], tt)), (fullShare, (fullShare, tt)), tt, (scratch-ref l δ ys3, (mark-ref l δ′ n3, (t .ends, (r3, (n, (d, tt)))))), (scratch-val l ∷ [], (mark-val l ∷ [], (vint w64 (t .ends) ∷ [], (vint w64 r3 ∷ [], (vint w64 n ∷ [], (vint w64 d ∷ [], tt))))))), tt))
-        (λ ν ν′. owns-make 𝓤 H A (usize ∷ usize ∷ usize ∷ usize ∷ []) (Ises (usize ∷ usize ∷ usize ∷ usize ∷ [])) (uint-makes 𝓤 H A W w64, (uint-makes 𝓤 H A W w64, (uint-makes 𝓤 H A W w64, (uint-makes 𝓤 H A W w64, tt)))) (t .ends, (r3, (n, (d, tt)))) (vint w64 (t .ends) ∷ [], (vint w64 r3 ∷ [], (vint w64 n ∷ [], (vint w64 d ∷ [], tt)))) ((refl, (omega (arith, small t (s .now) (m .now .taken) g n d out (ok .0), sums t (s .now) (m .now .taken) g n d out (2 ^ power-of (d / 2)) (ok .0) (above-one d (differ d 0 no1) (differ d 1 no2)) refl (n3 .taken) (p3 .0 .to), is3 .1, ok .0 .tabled .after-ends))), ((refl, (omega (arith, small t (s .now) (m .now .taken) g n d out (ok .0), sums t (s .now) (m .now .taken) g n d out (2 ^ power-of (d / 2)) (ok .0) (above-one d (differ d 0 no1) (differ d 1 no2)) refl (n3 .taken) (p3 .0 .to), is3 .1, ok .0 .tabled .after-ends))), ((refl, n-fits), ((refl, d-fits), tt)))))
-        (λ ν δ ν′ δ′. shown 𝓤 (color-splits t (s .now) (m .now .taken) g n d out (2 ^ power-of (d / 2)) (ok .0) (above-one d (differ d 0 no1) (differ d 1 no2)) refl ys3 (n3 .taken) r3 (p3 .0), omega (arith, p3 .0 .to, p3 .1, ok .1)))
+        (λ ν ν′. owns-make 𝓤 H A (usize ∷ usize ∷ usize ∷ usize ∷ []) (Ises (usize ∷ usize ∷ usize ∷ usize ∷ [])) (uint-makes 𝓤 H A W w64, (uint-makes 𝓤 H A W w64, (uint-makes 𝓤 H A W w64, (uint-makes 𝓤 H A W w64, tt)))) (t .ends, (r3, (n, (d, tt)))) (vint w64 (t .ends) ∷ [], (vint w64 r3 ∷ [], (vint w64 n ∷ [], (vint w64 d ∷ [], tt)))) ((refl, (omega (arith, small t (s .now) (m .now .taken) g n d out (ok .0), sums t (s .now) (m .now .taken) g n d out (2 ^ log-up (d / 2)) (ok .0) (above-one d (differ d 0 no1) (differ d 1 no2)) refl (n3 .taken) (p3 .0 .to), is3 .1, ok .0 .tabled .after-ends))), ((refl, (omega (arith, small t (s .now) (m .now .taken) g n d out (ok .0), sums t (s .now) (m .now .taken) g n d out (2 ^ log-up (d / 2)) (ok .0) (above-one d (differ d 0 no1) (differ d 1 no2)) refl (n3 .taken) (p3 .0 .to), is3 .1, ok .0 .tabled .after-ends))), ((refl, n-fits), ((refl, d-fits), tt)))))
+        (λ ν δ ν′ δ′. shown 𝓤 (color-splits t (s .now) (m .now .taken) g n d out (2 ^ log-up (d / 2)) (ok .0) (above-one d (differ d 0 no1) (differ d 1 no2)) refl ys3 (n3 .taken) r3 (p3 .0), omega (arith, p3 .0 .to, p3 .1, ok .1)))
         (λ r5 ys5 n5. Halves-stored ys3 ys5 (n3 .taken) (n5 .taken) (t .ends) r3 n d × (n5 ≡ taken-more (4 * (n * (d + 1))) n3)) (λ ν δ ν′ δ′ r5 ys5 n5 ws. id⊢ 𝓤 _)
         (λ ν δ ν′ δ′ P. and-then ! (load ! (from ! (stop !)) (look ! 24 refl)) (and-then ! (load ! (from ! (stop !)) (look ! 22 refl)) (and-then ! (load ! (from ! (fld ! refl (stop !))) (look-in ! 76 (sub ! 0 refl (whole !)))) (and-then ! (load ! (from ! (stop !)) (look ! 60 refl)) (and-then ! (load ! (from ! (stop !)) (look ! 72 refl)) (and-then ! (load ! (from ! (stop !)) (look ! 70 refl)) (no-more !))))))) (λ w5 r5 ys5 n5 le5 is5 p5.
         land ! (from ! (stop !)) (init ! 28 refl (nothing-lawful 𝓤 H A W .typed r5 _ is5 .0)) $
@@ -189,24 +189,24 @@ module _ {M : Type 1} (𝓤 : URA M) (H : Heap 𝓤) (A : Atoms 𝓤) (W : Given
         assigns ! (agg ! (and-then ! (load ! (from ! (stop !)) (look ! 20 refl)) (and-then ! (load ! (from ! (fld ! refl (stop !))) (look-in ! 80 (sub ! 1 refl (whole !)))) (no-more !)))) (from ! (stop !)) (init ! 18 refl (tt, (tt, (record { fits = room .0 }, tt)))) $
         assigns ! (addr ! (from ! (hop ! (look ! 78 refl) (stop !)))) (from ! (stop !)) (init ! 16 refl (tt, tt)) $
         calls-both-plain ! l room fm unit (plain (λ _. Table-T.the-row) ∷ plain (λ _. usize) ∷ plain (λ _. usize) ∷ plain (λ _. usize) ∷ plain (λ _. usize) ∷ []) (yes, (yes, (yes, (yes, (yes, tt))))) (rbmg-edge-color.clauses 𝓤 H A mem run) (n5) (ys5) le5 (λ ν ν′. (t, ((n3) .taken, (n, (d / 2, (out + (n * (d / 2)), tt)))))) (λ ν ν′. (Table-T′.lowered t ∷ [], (vint w64 ((n3) .taken) ∷ [], (vint w64 n ∷ [], (vint w64 (d / 2) ∷ [], (vint w64 (out + (n * (d / 2))) ∷ [], tt)))))) (λ ν δ ν′ δ′. tt) (λ ν δ ν′ δ′. below (d / 2) (color-falls d d (above-one d (differ d 0 no1) (differ d 1 no2)) refl) (((ν ∷ [], (ν′ ∷ [], tt)), (fullShare, (fullShare, tt)), tt, (scratch-ref l δ ys5, (mark-ref l δ′ n5, (t, ((n3) .taken, (n, (d / 2, (out + (n * (d / 2)), tt))))))), (scratch-val l ∷ [], (mark-val l ∷ [], (Table-T′.lowered t ∷ [], (vint w64 ((n3) .taken) ∷ [], (vint w64 n ∷ [], (vint w64 (d / 2) ∷ [], (vint w64 (out + (n * (d / 2))) ∷ [], tt)))))))), tt) refl)
-        (λ ν ν′. owns-make 𝓤 H A (Table-T.the-row ∷ usize ∷ usize ∷ usize ∷ usize ∷ []) (Ises (Table-T.the-row ∷ usize ∷ usize ∷ usize ∷ usize ∷ [])) (LL.makes Table-T.the-type Table-T′.the-plain 𝓤 H A, (uint-makes 𝓤 H A W w64, (uint-makes 𝓤 H A W w64, (uint-makes 𝓤 H A W w64, (uint-makes 𝓤 H A W w64, tt))))) (t, ((n3) .taken, (n, (d / 2, (out + (n * (d / 2)), tt))))) (Table-T′.lowered t ∷ [], (vint w64 ((n3) .taken) ∷ [], (vint w64 n ∷ [], (vint w64 (d / 2) ∷ [], (vint w64 (out + (n * (d / 2))) ∷ [], tt))))) (t-is, ((refl, (omega (arith, small t (s .now) (m .now .taken) g n d out (ok .0), sums t (s .now) (m .now .taken) g n d out (2 ^ power-of (d / 2)) (ok .0) (above-one d (differ d 0 no1) (differ d 1 no2)) refl (n3 .taken) (p3 .0 .to), is3 .1, ok .0 .tabled .after-ends))), ((refl, n-fits), ((refl, (omega (arith, small t (s .now) (m .now .taken) g n d out (ok .0), sums t (s .now) (m .now .taken) g n d out (2 ^ power-of (d / 2)) (ok .0) (above-one d (differ d 0 no1) (differ d 1 no2)) refl (n3 .taken) (p3 .0 .to), is3 .1, ok .0 .tabled .after-ends))), ((refl, (omega (arith, small t (s .now) (m .now .taken) g n d out (ok .0), sums t (s .now) (m .now .taken) g n d out (2 ^ power-of (d / 2)) (ok .0) (above-one d (differ d 0 no1) (differ d 1 no2)) refl (n3 .taken) (p3 .0 .to), is3 .1, ok .0 .tabled .after-ends))), tt))))))
-        (λ ν δ ν′ δ′. shown 𝓤 (color-first t (s .now) (m .now .taken) g n d out (2 ^ power-of (d / 2)) (ok .0) (above-one d (differ d 0 no1) (differ d 1 no2)) refl ys3 (n3 .taken) r3 (p3 .0) ys5 (n5 .taken) (p5 .0), omega (arith, cuts n d (2 ^ power-of (d / 2)) (above-one d (differ d 0 no1) (differ d 1 no2)) refl, p5 .0 .above, ap (λ (x : Mark). x .there) (p5 .1), p3 .1, p3 .0 .to, ok .1)))
+        (λ ν ν′. owns-make 𝓤 H A (Table-T.the-row ∷ usize ∷ usize ∷ usize ∷ usize ∷ []) (Ises (Table-T.the-row ∷ usize ∷ usize ∷ usize ∷ usize ∷ [])) (LL.makes Table-T.the-type Table-T′.the-plain 𝓤 H A, (uint-makes 𝓤 H A W w64, (uint-makes 𝓤 H A W w64, (uint-makes 𝓤 H A W w64, (uint-makes 𝓤 H A W w64, tt))))) (t, ((n3) .taken, (n, (d / 2, (out + (n * (d / 2)), tt))))) (Table-T′.lowered t ∷ [], (vint w64 ((n3) .taken) ∷ [], (vint w64 n ∷ [], (vint w64 (d / 2) ∷ [], (vint w64 (out + (n * (d / 2))) ∷ [], tt))))) (t-is, ((refl, (omega (arith, small t (s .now) (m .now .taken) g n d out (ok .0), sums t (s .now) (m .now .taken) g n d out (2 ^ log-up (d / 2)) (ok .0) (above-one d (differ d 0 no1) (differ d 1 no2)) refl (n3 .taken) (p3 .0 .to), is3 .1, ok .0 .tabled .after-ends))), ((refl, n-fits), ((refl, (omega (arith, small t (s .now) (m .now .taken) g n d out (ok .0), sums t (s .now) (m .now .taken) g n d out (2 ^ log-up (d / 2)) (ok .0) (above-one d (differ d 0 no1) (differ d 1 no2)) refl (n3 .taken) (p3 .0 .to), is3 .1, ok .0 .tabled .after-ends))), ((refl, (omega (arith, small t (s .now) (m .now .taken) g n d out (ok .0), sums t (s .now) (m .now .taken) g n d out (2 ^ log-up (d / 2)) (ok .0) (above-one d (differ d 0 no1) (differ d 1 no2)) refl (n3 .taken) (p3 .0 .to), is3 .1, ok .0 .tabled .after-ends))), tt))))))
+        (λ ν δ ν′ δ′. shown 𝓤 (color-first t (s .now) (m .now .taken) g n d out (2 ^ log-up (d / 2)) (ok .0) (above-one d (differ d 0 no1) (differ d 1 no2)) refl ys3 (n3 .taken) r3 (p3 .0) ys5 (n5 .taken) (p5 .0), omega (arith, cuts n d (2 ^ log-up (d / 2)) (above-one d (differ d 0 no1) (differ d 1 no2)) refl, p5 .0 .above, ap (λ (x : Mark). x .there) (p5 .1), p3 .1, p3 .0 .to, ok .1)))
         (λ r6 ys6 n6. Colored t ys5 ys6 (n5 .taken) (n6 .taken) (n3 .taken) n (d / 2) (out + n * (d / 2)) × (n6 ≡ n5)) (λ ν δ ν′ δ′ r6 ys6 n6 ws. id⊢ 𝓤 _)
         (λ ν δ ν′ δ′ P. and-then ! (load ! (from ! (stop !)) (look ! 18 refl)) (and-then ! (load ! (from ! (stop !)) (look ! 16 refl)) (and-then ! (load ! (from ! (stop !)) (look ! 76 refl)) (and-then ! (load ! (from ! (stop !)) (look ! 58 refl)) (and-then ! (load ! (from ! (stop !)) (look ! 72 refl)) (and-then ! (load ! (from ! (stop !)) (look ! 64 refl)) (and-then ! (load ! (from ! (stop !)) (look ! 62 refl)) (no-more !)))))))) (λ w6 r6 ys6 n6 le6 is6 p6.
         land ! (from ! (stop !)) (store ! 28 refl (nothing-lawful 𝓤 H A W .typed r6 _ is6 .0)) $
         assigns ! (addr ! (from ! (fld ! refl (hop ! (look-in ! 80 (sub ! 0 refl (whole !))) (stop !))))) (from ! (stop !)) (init ! 14 refl (tt, tt)) $
         assigns ! (agg ! (and-then ! (load ! (from ! (stop !)) (look ! 14 refl)) (and-then ! (load ! (from ! (fld ! refl (stop !))) (look-in ! 80 (sub ! 1 refl (whole !)))) (no-more !)))) (from ! (stop !)) (init ! 12 refl (tt, (tt, (record { fits = room .0 }, tt)))) $
         calls-scratch-plain ! l room fm usize (plain (λ _. usize) ∷ plain (λ _. usize) ∷ plain (λ _. usize) ∷ plain (λ _. usize) ∷ plain (λ _. usize) ∷ []) (yes, (yes, (yes, (yes, (yes, tt))))) (move-earliest.clauses 𝓤 H A mem run) known-move-earliest (n6) (ys6) le6 (λ ν. (t .places, (((n3) .taken) + (2 * (n * (d + 1))), (out + (n * (d / 2)), (n, (d / 2, tt)))))) (λ ν. (vint w64 (t .places) ∷ [], (vint w64 (((n3) .taken) + (2 * (n * (d + 1)))) ∷ [], (vint w64 (out + (n * (d / 2))) ∷ [], (vint w64 n ∷ [], (vint w64 (d / 2) ∷ [], tt)))))) (λ ν δ. tt)
-        (λ ν. owns-make 𝓤 H A (usize ∷ usize ∷ usize ∷ usize ∷ usize ∷ []) (Ises (usize ∷ usize ∷ usize ∷ usize ∷ usize ∷ [])) (uint-makes 𝓤 H A W w64, (uint-makes 𝓤 H A W w64, (uint-makes 𝓤 H A W w64, (uint-makes 𝓤 H A W w64, (uint-makes 𝓤 H A W w64, tt))))) (t .places, (((n3) .taken) + (2 * (n * (d + 1))), (out + (n * (d / 2)), (n, (d / 2, tt))))) (vint w64 (t .places) ∷ [], (vint w64 (((n3) .taken) + (2 * (n * (d + 1)))) ∷ [], (vint w64 (out + (n * (d / 2))) ∷ [], (vint w64 n ∷ [], (vint w64 (d / 2) ∷ [], tt))))) ((refl, (omega (arith, small t (s .now) (m .now .taken) g n d out (ok .0), sums t (s .now) (m .now .taken) g n d out (2 ^ power-of (d / 2)) (ok .0) (above-one d (differ d 0 no1) (differ d 1 no2)) refl (n3 .taken) (p3 .0 .to), is3 .1, ok .0 .tabled .after-ends))), ((refl, (omega (arith, small t (s .now) (m .now .taken) g n d out (ok .0), sums t (s .now) (m .now .taken) g n d out (2 ^ power-of (d / 2)) (ok .0) (above-one d (differ d 0 no1) (differ d 1 no2)) refl (n3 .taken) (p3 .0 .to), is3 .1, ok .0 .tabled .after-ends))), ((refl, (omega (arith, small t (s .now) (m .now .taken) g n d out (ok .0), sums t (s .now) (m .now .taken) g n d out (2 ^ power-of (d / 2)) (ok .0) (above-one d (differ d 0 no1) (differ d 1 no2)) refl (n3 .taken) (p3 .0 .to), is3 .1, ok .0 .tabled .after-ends))), ((refl, n-fits), ((refl, (omega (arith, small t (s .now) (m .now .taken) g n d out (ok .0), sums t (s .now) (m .now .taken) g n d out (2 ^ power-of (d / 2)) (ok .0) (above-one d (differ d 0 no1) (differ d 1 no2)) refl (n3 .taken) (p3 .0 .to), is3 .1, ok .0 .tabled .after-ends))), tt))))))
-        (λ ν δ. shown 𝓤 (omega (arith, small t (s .now) (m .now .taken) g n d out (ok .0)), sums t (s .now) (m .now .taken) g n d out (2 ^ power-of (d / 2)) (ok .0) (above-one d (differ d 0 no1) (differ d 1 no2)) refl (n3 .taken) (p3 .0 .to) .moved, sums t (s .now) (m .now .taken) g n d out (2 ^ power-of (d / 2)) (ok .0) (above-one d (differ d 0 no1) (differ d 1 no2)) refl (n3 .taken) (p3 .0 .to) .map, sums t (s .now) (m .now .taken) g n d out (2 ^ power-of (d / 2)) (ok .0) (above-one d (differ d 0 no1) (differ d 1 no2)) refl (n3 .taken) (p3 .0 .to) .second, sums t (s .now) (m .now .taken) g n d out (2 ^ power-of (d / 2)) (ok .0) (above-one d (differ d 0 no1) (differ d 1 no2)) refl (n3 .taken) (p3 .0 .to) .into))
-        (λ r7 ys7. (r7 ≡ 2 ^ power-of (d / 2)) × Adds-matching (t .places) (n3 .taken + 2 * (n * (d + 1))) (out + n * (d / 2)) (n * (r7 - d / 2)) ys6 ys7) (λ ν δ r7 ys7 ws. id⊢ 𝓤 _)
+        (λ ν. owns-make 𝓤 H A (usize ∷ usize ∷ usize ∷ usize ∷ usize ∷ []) (Ises (usize ∷ usize ∷ usize ∷ usize ∷ usize ∷ [])) (uint-makes 𝓤 H A W w64, (uint-makes 𝓤 H A W w64, (uint-makes 𝓤 H A W w64, (uint-makes 𝓤 H A W w64, (uint-makes 𝓤 H A W w64, tt))))) (t .places, (((n3) .taken) + (2 * (n * (d + 1))), (out + (n * (d / 2)), (n, (d / 2, tt))))) (vint w64 (t .places) ∷ [], (vint w64 (((n3) .taken) + (2 * (n * (d + 1)))) ∷ [], (vint w64 (out + (n * (d / 2))) ∷ [], (vint w64 n ∷ [], (vint w64 (d / 2) ∷ [], tt))))) ((refl, (omega (arith, small t (s .now) (m .now .taken) g n d out (ok .0), sums t (s .now) (m .now .taken) g n d out (2 ^ log-up (d / 2)) (ok .0) (above-one d (differ d 0 no1) (differ d 1 no2)) refl (n3 .taken) (p3 .0 .to), is3 .1, ok .0 .tabled .after-ends))), ((refl, (omega (arith, small t (s .now) (m .now .taken) g n d out (ok .0), sums t (s .now) (m .now .taken) g n d out (2 ^ log-up (d / 2)) (ok .0) (above-one d (differ d 0 no1) (differ d 1 no2)) refl (n3 .taken) (p3 .0 .to), is3 .1, ok .0 .tabled .after-ends))), ((refl, (omega (arith, small t (s .now) (m .now .taken) g n d out (ok .0), sums t (s .now) (m .now .taken) g n d out (2 ^ log-up (d / 2)) (ok .0) (above-one d (differ d 0 no1) (differ d 1 no2)) refl (n3 .taken) (p3 .0 .to), is3 .1, ok .0 .tabled .after-ends))), ((refl, n-fits), ((refl, (omega (arith, small t (s .now) (m .now .taken) g n d out (ok .0), sums t (s .now) (m .now .taken) g n d out (2 ^ log-up (d / 2)) (ok .0) (above-one d (differ d 0 no1) (differ d 1 no2)) refl (n3 .taken) (p3 .0 .to), is3 .1, ok .0 .tabled .after-ends))), tt))))))
+        (λ ν δ. shown 𝓤 (omega (arith, small t (s .now) (m .now .taken) g n d out (ok .0)), sums t (s .now) (m .now .taken) g n d out (2 ^ log-up (d / 2)) (ok .0) (above-one d (differ d 0 no1) (differ d 1 no2)) refl (n3 .taken) (p3 .0 .to) .moved, sums t (s .now) (m .now .taken) g n d out (2 ^ log-up (d / 2)) (ok .0) (above-one d (differ d 0 no1) (differ d 1 no2)) refl (n3 .taken) (p3 .0 .to) .map, sums t (s .now) (m .now .taken) g n d out (2 ^ log-up (d / 2)) (ok .0) (above-one d (differ d 0 no1) (differ d 1 no2)) refl (n3 .taken) (p3 .0 .to) .second, sums t (s .now) (m .now .taken) g n d out (2 ^ log-up (d / 2)) (ok .0) (above-one d (differ d 0 no1) (differ d 1 no2)) refl (n3 .taken) (p3 .0 .to) .into))
+        (λ r7 ys7. (r7 ≡ 2 ^ log-up (d / 2)) × Adds-matching (t .places) (n3 .taken + 2 * (n * (d + 1))) (out + n * (d / 2)) (n * (r7 - d / 2)) ys6 ys7) (λ ν δ r7 ys7 ws. id⊢ 𝓤 _)
         (λ ν δ P. and-then ! (load ! (from ! (stop !)) (look ! 12 refl)) (and-then ! (load ! (from ! (fld ! refl (stop !))) (look-in ! 76 (sub ! 1 refl (whole !)))) (and-then ! (load ! (from ! (stop !)) (look ! 56 refl)) (and-then ! (load ! (from ! (stop !)) (look ! 62 refl)) (and-then ! (load ! (from ! (stop !)) (look ! 72 refl)) (and-then ! (load ! (from ! (stop !)) (look ! 64 refl)) (no-more !))))))) (λ w7 r7 ys7 le7 is7 p7.
         land ! (from ! (stop !)) (init ! 54 refl (uint-lawful 𝓤 H A W w64 .typed r7 _ is7 .0)) $ rewrite ! 54 (λ (u : Val). ‵ (fat fullShare (tyInt w64) l14 0 u)) (ap only (is7 .0)) refl $
         assigns ! (addr ! (from ! (fld ! refl (hop ! (look-in ! 80 (sub ! 0 refl (whole !))) (stop !))))) (from ! (stop !)) (init ! 10 refl (tt, tt)) $
         assigns ! (agg ! (and-then ! (load ! (from ! (stop !)) (look ! 10 refl)) (and-then ! (load ! (from ! (fld ! refl (stop !))) (look-in ! 80 (sub ! 1 refl (whole !)))) (no-more !)))) (from ! (stop !)) (init ! 8 refl (tt, (tt, (record { fits = room .0 }, tt)))) $
         assigns ! (addr ! (from ! (hop ! (look ! 78 refl) (stop !)))) (from ! (stop !)) (init ! 6 refl (tt, tt)) $
         calls-both-plain ! l room fm unit (plain (λ _. usize) ∷ plain (λ _. usize) ∷ plain (λ _. usize) ∷ plain (λ _. usize) ∷ plain (λ _. usize) ∷ []) (yes, (yes, (yes, (yes, (yes, tt))))) (rbmg-edge-color-when-power-of-two.clauses 𝓤 H A mem run) (n6) (ys7) le7 (λ ν ν′. (t .ends, (((n3) .taken) + (2 * (n * (d + 1))), (n, (r7, (out, tt)))))) (λ ν ν′. (vint w64 (t .ends) ∷ [], (vint w64 (((n3) .taken) + (2 * (n * (d + 1)))) ∷ [], (vint w64 n ∷ [], (vint w64 r7 ∷ [], (vint w64 out ∷ [], tt)))))) (λ ν δ ν′ δ′. tt) (λ ν δ ν′ δ′. known-rbmg-edge-color-when-power-of-two (((ν ∷ [], (ν′ ∷ [], tt)), (fullShare, (fullShare, tt)), tt, (scratch-ref l δ ys7, (mark-ref l δ′ n6, (t .ends, (((n3) .taken) + (2 * (n * (d + 1))), (n, (r7, (out, tt))))))), (scratch-val l ∷ [], (mark-val l ∷ [], (vint w64 (t .ends) ∷ [], (vint w64 (((n3) .taken) + (2 * (n * (d + 1)))) ∷ [], (vint w64 n ∷ [], (vint w64 r7 ∷ [], (vint w64 out ∷ [], tt)))))))), tt))
-        (λ ν ν′. owns-make 𝓤 H A (usize ∷ usize ∷ usize ∷ usize ∷ usize ∷ []) (Ises (usize ∷ usize ∷ usize ∷ usize ∷ usize ∷ [])) (uint-makes 𝓤 H A W w64, (uint-makes 𝓤 H A W w64, (uint-makes 𝓤 H A W w64, (uint-makes 𝓤 H A W w64, (uint-makes 𝓤 H A W w64, tt))))) (t .ends, (((n3) .taken) + (2 * (n * (d + 1))), (n, (r7, (out, tt))))) (vint w64 (t .ends) ∷ [], (vint w64 (((n3) .taken) + (2 * (n * (d + 1)))) ∷ [], (vint w64 n ∷ [], (vint w64 r7 ∷ [], (vint w64 out ∷ [], tt))))) ((refl, (omega (arith, small t (s .now) (m .now .taken) g n d out (ok .0), ok .0 .tabled .after-ends))), ((refl, (omega (arith, small t (s .now) (m .now .taken) g n d out (ok .0), sums t (s .now) (m .now .taken) g n d out (2 ^ power-of (d / 2)) (ok .0) (above-one d (differ d 0 no1) (differ d 1 no2)) refl (n3 .taken) (p3 .0 .to)))), ((refl, n-fits), ((refl, (is7 .1)), ((refl, out-fits), tt))))))
+        (λ ν ν′. owns-make 𝓤 H A (usize ∷ usize ∷ usize ∷ usize ∷ usize ∷ []) (Ises (usize ∷ usize ∷ usize ∷ usize ∷ usize ∷ [])) (uint-makes 𝓤 H A W w64, (uint-makes 𝓤 H A W w64, (uint-makes 𝓤 H A W w64, (uint-makes 𝓤 H A W w64, (uint-makes 𝓤 H A W w64, tt))))) (t .ends, (((n3) .taken) + (2 * (n * (d + 1))), (n, (r7, (out, tt))))) (vint w64 (t .ends) ∷ [], (vint w64 (((n3) .taken) + (2 * (n * (d + 1)))) ∷ [], (vint w64 n ∷ [], (vint w64 r7 ∷ [], (vint w64 out ∷ [], tt))))) ((refl, (omega (arith, small t (s .now) (m .now .taken) g n d out (ok .0), ok .0 .tabled .after-ends))), ((refl, (omega (arith, small t (s .now) (m .now .taken) g n d out (ok .0), sums t (s .now) (m .now .taken) g n d out (2 ^ log-up (d / 2)) (ok .0) (above-one d (differ d 0 no1) (differ d 1 no2)) refl (n3 .taken) (p3 .0 .to)))), ((refl, n-fits), ((refl, (is7 .1)), ((refl, out-fits), tt))))))
         (λ ν δ ν′ δ′. shown 𝓤 (color-power t (s .now) (m .now .taken) g n d out r7 (ok .0) (above-one d (differ d 0 no1) (differ d 1 no2)) (p7 .0) ys3 (n3 .taken) r3 (p3 .0) ys5 (n5 .taken) (p5 .0) ys6 (n6 .taken) (p6 .0) ys7 (p7 .1), omega (arith, cuts n d r7 (above-one d (differ d 0 no1) (differ d 1 no2)) (p7 .0), p6 .0 .back, p5 .0 .above, ap (λ (x : Mark). x .there) (p6 .1), ap (λ (x : Mark). x .there) (p5 .1), p3 .1, p3 .0 .to, ok .1)))
         (λ r8 ys8 n8. Power-colored ys7 ys8 (n6 .taken) (n8 .taken) (t .ends) (n3 .taken + 2 * (n * (d + 1))) n r7 out × (n8 ≡ n6)) (λ ν δ ν′ δ′ r8 ys8 n8 ws. id⊢ 𝓤 _)
         (λ ν δ ν′ δ′ P. and-then ! (load ! (from ! (stop !)) (look ! 8 refl)) (and-then ! (load ! (from ! (stop !)) (look ! 6 refl)) (and-then ! (load ! (from ! (fld ! refl (stop !))) (look-in ! 76 (sub ! 0 refl (whole !)))) (and-then ! (load ! (from ! (stop !)) (look ! 56 refl)) (and-then ! (load ! (from ! (stop !)) (look ! 72 refl)) (and-then ! (load ! (from ! (stop !)) (look ! 54 refl)) (and-then ! (load ! (from ! (stop !)) (look ! 68 refl)) (no-more !)))))))) (λ w8 r8 ys8 n8 le8 is8 p8.

@@ -48,10 +48,10 @@ use Rattle.matching.proofs.Table.Laws as Table-T′
 use Rattle.mark.proofs.take.Symbol as take-def
 use Rattle.mark.proofs.take.Symbol.{name as #mark·take}
 use Rattle.mark.proofs.take.Met as take-thm
-use Rattle.matching.proofs.power_above as power-above
-use Rattle.matching.proofs.power_above.Symbol as power-above-def
-use Rattle.matching.proofs.power_above.Symbol.{name as #matching·power-above}
-use Rattle.matching.proofs.power_above.Met as power-above-thm
+use Rattle.matching.proofs.next_power_of_two as next-power-of-two
+use Rattle.matching.proofs.next_power_of_two.Symbol as next-power-of-two-def
+use Rattle.matching.proofs.next_power_of_two.Symbol.{name as #matching·next-power-of-two}
+use Rattle.matching.proofs.next_power_of_two.Met as next-power-of-two-thm
 use Rattle.matching.proofs.search_graph as search-graph
 use Rattle.matching.proofs.search_graph.Symbol as search-graph-def
 use Rattle.matching.proofs.search_graph.Symbol.{name as #matching·search-graph}
@@ -72,7 +72,7 @@ use Prim.Native.Nat.{_-_, _/_}
 use native.Mathlib.Nat.{mul-comm}
 use Rattle.multigraph.specs.Stored.{graph-at}
 use Rattle.multigraph.specs.Places.{size}
-use Rattle.matching.specs.Matching.{power-above as power-of, flagged-pairs}
+use Rattle.matching.specs.Matching.{log-up, flagged-pairs}
 use Rattle.matching.specs.Searched.{Can-search, Builds-graph, Halved-all, Search-done}
 use Rattle.matching.proofs.Narrow.{width-small}
 use Rattle.matching.proofs.SearchWords.{cut, addresses, copy-inside, shares-fit, can-build, can-halve-all, search-done}
@@ -89,8 +89,8 @@ ps = plain (λ _. Table-T.the-row) ∷ plain (λ _. usize) ∷ plain (λ _. usiz
 abbrev Asked : RefT (List ℕ) → RefT Mark → Table → ℕ → ℕ → ℕ → Bool → Type 0
 Asked s m t g n k by-copies = Can-search t g n k (m .now .taken) (s .now) × (m .now .taken + 18 * (n * (k + 2)) ≤ m .now .there)
 
-abbrev PowerAboveC : {M : Type 1} (𝓤 : URA M) (H : Heap 𝓤) (A : Atoms 𝓤) (mem : Memory → SProp 𝓤) (run : Routine → Fun 𝓤) → Contract 𝓤
-PowerAboveC 𝓤 H A mem run = tripleOf 𝓤 H A power-above.signature (power-above.spec 𝓤 H A mem run)
+abbrev NextPowerOfTwoC : {M : Type 1} (𝓤 : URA M) (H : Heap 𝓤) (A : Atoms 𝓤) (mem : Memory → SProp 𝓤) (run : Routine → Fun 𝓤) → Contract 𝓤
+NextPowerOfTwoC 𝓤 H A mem run = tripleOf 𝓤 H A next-power-of-two.signature (next-power-of-two.spec 𝓤 H A mem run)
 
 abbrev SearchGraphC : {M : Type 1} (𝓤 : URA M) (H : Heap 𝓤) (A : Atoms 𝓤) (mem : Memory → SProp 𝓤) (run : Routine → Fun 𝓤) → Contract 𝓤
 SearchGraphC 𝓤 H A mem run = tripleOf 𝓤 H A search-graph.signature (search-graph.spec 𝓤 H A mem run)
@@ -105,7 +105,7 @@ module _ {M : Type 1} (𝓤 : URA M) (H : Heap 𝓤) (A : Atoms 𝓤) (W : Given
   abbrev l : Lent
   l = lent-of 0 κs qs s m
 
-  module _ (C : Calls 𝓤 H) (Λ : Loops 𝓤 H) (fm : FmC 𝓤 H (W .laws) C) (known-take : Triple 𝓤 (C #mark·take) (Take 𝓤 H A mem run)) (known-power-above : Triple 𝓤 (C #matching·power-above) (PowerAboveC 𝓤 H A mem run)) (known-search-graph : Triple 𝓤 (C #matching·search-graph) (SearchGraphC 𝓤 H A mem run)) (known-halve-all : Triple 𝓤 (C #matching·halve-all) (HalveAllC 𝓤 H A mem run)) (known-give-back : Triple 𝓤 (C #mark·give-back) (GiveBack 𝓤 H A mem run)) (known-flagged-left : Triple 𝓤 (C #matching·flagged-left) (FlaggedLeftC 𝓤 H A mem run)) where
+  module _ (C : Calls 𝓤 H) (Λ : Loops 𝓤 H) (fm : FmC 𝓤 H (W .laws) C) (known-take : Triple 𝓤 (C #mark·take) (Take 𝓤 H A mem run)) (known-next-power-of-two : Triple 𝓤 (C #matching·next-power-of-two) (NextPowerOfTwoC 𝓤 H A mem run)) (known-search-graph : Triple 𝓤 (C #matching·search-graph) (SearchGraphC 𝓤 H A mem run)) (known-halve-all : Triple 𝓤 (C #matching·halve-all) (HalveAllC 𝓤 H A mem run)) (known-give-back : Triple 𝓤 (C #mark·give-back) (GiveBack 𝓤 H A mem run)) (known-flagged-left : Triple 𝓤 (C #matching·flagged-left) (FlaggedLeftC 𝓤 H A mem run)) where
     walk : ent 𝓤 (⋆ 𝓤 H A (‵ (mark-own l (m .now)) ∷ ‵ (flft (κs .1 .0) (qs .1 .0)) ∷ ‵ (scratch-own l (s .now)) ∷ ‵ (flft (κs .0) (qs .0)) ∷ raw (toks 𝓤 A 0 (κs .1 .1) (qs .1 .1)) ∷ ‵ (owns (Table-T.the-row ∷ usize ∷ usize ∷ usize ∷ Boolean ∷ []) (t, (g, (n, (k, (by-copies, tt))))) (Table-T′.lowered t ∷ [], (vint w64 g ∷ [], (vint w64 n ∷ [], (vint w64 k ∷ [], (vbool by-copies ∷ [], tt)))))) ∷ []))
         (WpFn 𝓤 H C Λ code.function (scratch-val l ∷ mark-val l ∷ Table-T′.lowered t ∷ vint w64 g ∷ vint w64 n ∷ vint w64 k ∷ vbool by-copies ∷ []) (Post 𝓤 H A W 0 usize ps (yes, (yes, (yes, (yes, (yes, tt))))) (search.clauses 𝓤 H A mem run) (at-entry 𝓤 H A W 0 usize ps (yes, (yes, (yes, (yes, (yes, tt))))) (search.clauses 𝓤 H A mem run) κs qs s m (t, (g, (n, (k, (by-copies, tt))))) (Table-T′.lowered t ∷ [], (vint w64 g ∷ [], (vint w64 n ∷ [], (vint w64 k ∷ [], (vbool by-copies ∷ [], tt))))) tt)))
     walk =
@@ -122,8 +122,8 @@ module _ {M : Type 1} (𝓤 : URA M) (H : Heap 𝓤) (A : Atoms 𝓤) (W : Given
         takes ! l fm mem run known-take (m .now) (2 * (n * (k + 2))) (omega (arith, ok .0 .most)) (omega (arith, ok .1)) (λ ν δ P. and-then ! (load ! (from ! (stop !)) (look ! 22 refl)) (and-then ! (load ! (from ! (stop !)) (look ! 34 refl)) (no-more !))) (λ fits1.
         land ! (from ! (stop !)) (init ! 32 refl (tt, record { fits = fits1 })) $
         assigns ! (bin ! (load ! (from ! (stop !)) (look ! 38 refl)) (load ! (from ! (stop !)) (look ! 40 refl)) (record { fits = (omega (arith, ok .0 .most, mul-comm k n)) })) (from ! (stop !)) (store ! 26 refl (tt, record { fits = (omega (arith, ok .0 .most, mul-comm k n)) })) $
-        calls-plain ! fm usize (plain (λ _. usize) ∷ []) (yes, tt) (power-above.clauses 𝓤 H A mem run) known-power-above (k * n, tt) (vint w64 (k * n) ∷ [], tt) tt (owns-make 𝓤 H A (usize ∷ []) (Ises (usize ∷ [])) (uint-makes 𝓤 H A W w64, tt) (k * n, tt) (vint w64 (k * n) ∷ [], tt) ((refl, (omega (arith, ok .0 .most, mul-comm k n))), tt))
-        (shown 𝓤 (omega (arith, ok .0 .most, mul-comm k n))) (λ r2. r2 ≡ 2 ^ power-of (k * n)) (λ r2 ws. id⊢ 𝓤 _) (λ P. and-then ! (load ! (from ! (stop !)) (look ! 27 refl)) (no-more !)) (λ w2 r2 is2 p2.
+        calls-plain ! fm usize (plain (λ _. usize) ∷ []) (yes, tt) (next-power-of-two.clauses 𝓤 H A mem run) known-next-power-of-two (k * n, tt) (vint w64 (k * n) ∷ [], tt) tt (owns-make 𝓤 H A (usize ∷ []) (Ises (usize ∷ [])) (uint-makes 𝓤 H A W w64, tt) (k * n, tt) (vint w64 (k * n) ∷ [], tt) ((refl, (omega (arith, ok .0 .most, mul-comm k n))), tt))
+        (shown 𝓤 (omega (arith, ok .0 .most, mul-comm k n))) (λ r2. r2 ≡ 2 ^ log-up (k * n)) (λ r2 ws. id⊢ 𝓤 _) (λ P. and-then ! (load ! (from ! (stop !)) (look ! 27 refl)) (no-more !)) (λ w2 r2 is2 p2.
         land ! (from ! (stop !)) (init ! 30 refl (uint-lawful 𝓤 H A W w64 .typed r2 _ is2 .0)) $ rewrite ! 30 (λ (u : Val). ‵ (fat fullShare (tyInt w64) l10 0 u)) (ap only (is2 .0)) refl $
         assigns ! (bin ! (load ! (from ! (stop !)) (look ! 30 refl)) (load ! (from ! (stop !)) (look ! 38 refl)) ((omega (arith, ok .0 .several)))) (from ! (stop !)) (init ! 28 refl (tt, record { fits = (omega (arith, shares-fit t g n k (m .now .taken) (s .now) (ok .0) r2 p2 .0)) })) $
         assigns ! (addr ! (from ! (fld ! refl (hop ! (look-in ! 48 (sub ! 0 refl (whole !))) (stop !))))) (from ! (stop !)) (init ! 18 refl (tt, tt)) $
@@ -162,11 +162,11 @@ module _ {M : Type 1} (𝓤 : URA M) (H : Heap 𝓤) (A : Atoms 𝓤) (W : Given
         by ! (leaves 𝓤 H A W 0 usize ps (yes, (yes, (yes, (yes, (yes, tt))))) (search.clauses 𝓤 H A mem run) κs qs s m (t, (g, (n, (k, (by-copies, tt))))) (Table-T′.lowered t ∷ [], (vint w64 g ∷ [], (vint w64 n ∷ [], (vint w64 k ∷ [], (vbool by-copies ∷ [], tt))))) tt (vint w64 r6) r6 ys6 (given-back (m .now .taken) n4) (tt, (tt, (tt, (tt, (tt, tt))))) le6 (uint-makes 𝓤 H A W w64 r6 _ (refl, is6 .1)) (shown 𝓤 (subst (λ (w : List ℕ). Search-done t g n k by-copies (m .now .taken) (m .now .taken) r6 (s .now) w) (sym (p6 .1)) (search-done t g n k (m .now .taken) (s .now) (ok .0) r2 p2 ys3 (p3 r2 (can-build t g n k (m .now .taken) (s .now) (ok .0) r2 p2)) by-copies (m .now .taken) r6 (n4 .taken) ys4 (p4 .0) (p6 .0) refl), ap (given-back (m .now .taken)) (p4 .1)))))))))))))))))))))))))))))))))
 
 search-meets : {M : Type 1} (𝓤 : URA M) (H : Heap 𝓤) (A : Atoms 𝓤) → Given 𝓤 H A → (mem : Memory → SProp 𝓤) (run : Routine → Fun 𝓤) (𝓣 : Tables 𝓤 H)
-    → Triple 𝓤 (𝓣 .C #mark·take) (Take 𝓤 H A mem run) → Triple 𝓤 (𝓣 .C #matching·power-above) (PowerAboveC 𝓤 H A mem run) → Triple 𝓤 (𝓣 .C #matching·search-graph) (SearchGraphC 𝓤 H A mem run) → Triple 𝓤 (𝓣 .C #matching·halve-all) (HalveAllC 𝓤 H A mem run) → Triple 𝓤 (𝓣 .C #mark·give-back) (GiveBack 𝓤 H A mem run) → Triple 𝓤 (𝓣 .C #matching·flagged-left) (FlaggedLeftC 𝓤 H A mem run)
+    → Triple 𝓤 (𝓣 .C #mark·take) (Take 𝓤 H A mem run) → Triple 𝓤 (𝓣 .C #matching·next-power-of-two) (NextPowerOfTwoC 𝓤 H A mem run) → Triple 𝓤 (𝓣 .C #matching·search-graph) (SearchGraphC 𝓤 H A mem run) → Triple 𝓤 (𝓣 .C #matching·halve-all) (HalveAllC 𝓤 H A mem run) → Triple 𝓤 (𝓣 .C #mark·give-back) (GiveBack 𝓤 H A mem run) → Triple 𝓤 (𝓣 .C #matching·flagged-left) (FlaggedLeftC 𝓤 H A mem run)
     → Triple 𝓤 (WpFn 𝓤 H (𝓣 .C) (𝓣 .Λ) code.function) (tripleOf 𝓤 H A search.signature (search.spec 𝓤 H A mem run))
-search-meets 𝓤 H A W mem run 𝓣 known-take known-power-above known-search-graph known-halve-all known-give-back known-flagged-left =
+search-meets 𝓤 H A W mem run 𝓣 known-take known-next-power-of-two known-search-graph known-halve-all known-give-back known-flagged-left =
     meets 𝓤 H A W 0 usize ps (yes, (yes, (yes, (yes, (yes, tt))))) (search.clauses 𝓤 H A mem run) (λ κs. (LL.vals Table-T.the-type Table-T′.the-laws, (uint-vals w64, (uint-vals w64, (uint-vals w64, (bool-vals, tt)))))) (λ κs. (LL.tells Table-T.the-type Table-T′.the-laws, (uint-tells w64, (uint-tells w64, (uint-tells w64, (bool-tells, tt)))))) ((λ κs x f. refl), ((λ κs x f. refl), ((λ κs x f. refl), ((λ κs x f. refl), ((λ κs x f. refl), tt))))) 𝓣 code.function
-    (λ κs qs s m a g room are. needs 𝓤 _ _ (λ ok. walk 𝓤 H A W mem run κs qs s m (a .0) (a .1 .0) (a .1 .1 .0) (a .1 .1 .1 .0) (a .1 .1 .1 .1 .0) (are .0) (are .1 .0 .1) (are .1 .1 .0 .1) (are .1 .1 .1 .0 .1) room ok (𝓣 .C) (𝓣 .Λ) (fmOf 𝓤 H (W .laws) 𝓣) known-take known-power-above known-search-graph known-halve-all known-give-back known-flagged-left))
+    (λ κs qs s m a g room are. needs 𝓤 _ _ (λ ok. walk 𝓤 H A W mem run κs qs s m (a .0) (a .1 .0) (a .1 .1 .0) (a .1 .1 .1 .0) (a .1 .1 .1 .1 .0) (are .0) (are .1 .0 .1) (are .1 .1 .0 .1) (are .1 .1 .1 .0 .1) room ok (𝓣 .C) (𝓣 .Λ) (fmOf 𝓤 H (W .laws) 𝓣) known-take known-next-power-of-two known-search-graph known-halve-all known-give-back known-flagged-left))
 
 pub search-spec : {M : Type 1} → stated.statement M
 unfolding code.routine tablesOf
@@ -175,7 +175,7 @@ search-spec 𝓤 H 𝓜 𝓖 𝓡 =
     (tables 𝓤 H 𝓜 𝓡 code.env .C) (tables 𝓤 H 𝓜 𝓡 code.env .Λ) #matching·search code.function (code.unfolded 𝓤 H 𝓜 𝓡)
     (search-meets 𝓤 H (𝓖 .A) (givenOf 𝓤 H 𝓜 𝓖) (𝓜 .mem) (𝓡 .run) (tablesOf 𝓤 H 𝓜 (tables 𝓤 H 𝓜 𝓡 code.env))
     (cited 𝓤 H (Take 𝓤 H (𝓖 .A) (𝓜 .mem) (𝓡 .run)) 𝓜 𝓡 code.env #mark·take take-def.routine code.calls-mark·take (take-thm.met 𝓤 H 𝓜 𝓖 𝓡))
-    (cited 𝓤 H (PowerAboveC 𝓤 H (𝓖 .A) (𝓜 .mem) (𝓡 .run)) 𝓜 𝓡 code.env #matching·power-above power-above-def.routine code.calls-matching·power-above (power-above-thm.met 𝓤 H 𝓜 𝓖 𝓡))
+    (cited 𝓤 H (NextPowerOfTwoC 𝓤 H (𝓖 .A) (𝓜 .mem) (𝓡 .run)) 𝓜 𝓡 code.env #matching·next-power-of-two next-power-of-two-def.routine code.calls-matching·next-power-of-two (next-power-of-two-thm.met 𝓤 H 𝓜 𝓖 𝓡))
     (cited 𝓤 H (SearchGraphC 𝓤 H (𝓖 .A) (𝓜 .mem) (𝓡 .run)) 𝓜 𝓡 code.env #matching·search-graph search-graph-def.routine code.calls-matching·search-graph (search-graph-thm.met 𝓤 H 𝓜 𝓖 𝓡))
     (cited 𝓤 H (HalveAllC 𝓤 H (𝓖 .A) (𝓜 .mem) (𝓡 .run)) 𝓜 𝓡 code.env #matching·halve-all halve-all-def.routine code.calls-matching·halve-all (halve-all-thm.met 𝓤 H 𝓜 𝓖 𝓡))
     (cited 𝓤 H (GiveBack 𝓤 H (𝓖 .A) (𝓜 .mem) (𝓡 .run)) 𝓜 𝓡 code.env #mark·give-back give-back-def.routine code.calls-mark·give-back (give-back-thm.met 𝓤 H 𝓜 𝓖 𝓡))

@@ -1,9 +1,9 @@
--- `matching::power_above` meets its contract. Invariant: 1 doubled, and not past the least power; the measure is what is left up to `m`. Assumes nothing.
+-- `matching::next_power_of_two` meets its contract. Invariant: 1 doubled, and not past the least power; the measure is what is left up to `m`. Assumes nothing.
 use Prim.Native.Nat.{_-_}
 use native.Mathlib.Omega.{arith}
 use Rattle.matching.proofs.Counts.{Doubling, doubling-none, doubling-more, doubling-done}
-use Rattle.matching.proofs.power_above.Statement.{statement}
-use Rattle.matching.proofs.power_above.Tie as tie
+use Rattle.matching.proofs.next_power_of_two.Statement.{statement}
+use Rattle.matching.proofs.next_power_of_two.Tie as tie
 
 abbrev Inv-loop : tie.InvT-loop
 Inv-loop m t₀ t = Doubling m t
@@ -28,6 +28,6 @@ returns : tie.Need-returns Inv-loop μ-loop
 returns c =
     doubling-done (c .before .before .args .m) (c .before .loop .t) (omega arith) (c .before .loop .inv)
 
-pub power-above-spec : {M : Type 1} → statement M
-power-above-spec =
+pub next-power-of-two-spec : {M : Type 1} → statement M
+next-power-of-two-spec =
     tie.close (tie.spec Inv-loop μ-loop loop-holds mul-t loop-less loop-again returns)
