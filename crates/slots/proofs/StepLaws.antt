@@ -7,34 +7,34 @@ use native.Mathlib.Numerals.{add-one}
 use Rattle.slots.specs.Steps.{pushed, matching-pushed, all-pushed, taken-words, taken-slots, given-words, given-slots}
 
 pub matching-pushed-more :
-    (n out top z j : ℕ) (s : List ℕ) →
-    matching-pushed n out top z (j + 1) s ≡ pushed out top z (n * z + j) (matching-pushed n out top z j s)
+    (n out links slot j : ℕ) (s : List ℕ) →
+    matching-pushed n out links slot (j + 1) s ≡ pushed out links slot (n * slot + j) (matching-pushed n out links slot j s)
 unfolding matching-pushed
-matching-pushed-more n out top z j s = rw add-one
+matching-pushed-more n out links slot j s = rw add-one
 
 pub all-pushed-more :
-    (n out top z : ℕ) (s : List ℕ) →
-    all-pushed n out top (z + 1) s ≡ matching-pushed n out top z n (all-pushed n out top z s)
+    (n out links slot : ℕ) (s : List ℕ) →
+    all-pushed n out links (slot + 1) s ≡ matching-pushed n out links slot n (all-pushed n out links slot s)
 unfolding all-pushed
-all-pushed-more n out top z s = rw add-one
+all-pushed-more n out links slot s = rw add-one
 
-module _ (out apair top a i : ℕ) where
+module _ (out pair-numbers links a i : ℕ) where
   module _ (h : i < a) where
     still : a - i ≡ suc (a - (i + 1))
     still = omega arith
 
     pub given-words-turn :
         (s : List ℕ) →
-        given-words out apair top i (a - i) s
-        ≡ given-words out apair top (i + 1) (a - (i + 1)) (taken-words out top (apair + i) s)
+        given-words out pair-numbers links i (a - i) s
+        ≡ given-words out pair-numbers links (i + 1) (a - (i + 1)) (taken-words out links (pair-numbers + i) s)
     unfolding given-words
     given-words-turn s = rw still
 
     pub given-slots-turn :
         (s slots : List ℕ) →
-        given-slots out apair top i (a - i) s slots
-        ≡ given-slots out apair top (i + 1) (a - (i + 1)) (taken-words out top (apair + i) s)
-        (taken-slots top (apair + i) i s slots)
+        given-slots out pair-numbers links i (a - i) s slots
+        ≡ given-slots out pair-numbers links (i + 1) (a - (i + 1)) (taken-words out links (pair-numbers + i) s)
+        (taken-slots links (pair-numbers + i) i s slots)
     unfolding given-slots
     given-slots-turn s slots = rw still
 
@@ -42,10 +42,10 @@ module _ (out apair top a i : ℕ) where
     over : a - i ≡ 0
     over = omega arith
 
-    pub given-words-stop : (s : List ℕ) → given-words out apair top i (a - i) s ≡ s
+    pub given-words-stop : (s : List ℕ) → given-words out pair-numbers links i (a - i) s ≡ s
     unfolding given-words
     given-words-stop s = rw over
 
-    pub given-slots-stop : (s slots : List ℕ) → given-slots out apair top i (a - i) s slots ≡ slots
+    pub given-slots-stop : (s slots : List ℕ) → given-slots out pair-numbers links i (a - i) s slots ≡ slots
     unfolding given-slots
     given-slots-stop s slots = rw over

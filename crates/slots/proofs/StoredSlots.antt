@@ -13,7 +13,8 @@ use Rattle.multigraph.specs.Multigraph.{Graph}
 use Rattle.multigraph.specs.Stored.{matchings-at}
 use Rattle.multigraph.proofs.SideBySide.{matchings-length, matchings-positive, matchings-nth}
 use Rattle.slots.specs.Slots.{give-slots}
-use Rattle.slots.specs.Stored.{Pair-of, Slots-fit, Slots-stored}
+use Rattle.evening.specs.Contract.{Has-ends}
+use Rattle.slots.specs.Stored.{Slots-fit, Slots-stored}
 use Rattle.slots.specs.Steps.{all-pushed, given-words, given-slots}
 use Rattle.slots.proofs.Chains.{slots-same}
 use Rattle.slots.proofs.Pushing.{seen, Pushable, Chained, has, push-all}
@@ -30,29 +31,30 @@ plan-length (x ∷ xs) ms plan runs =
 
 -- the appointments' pairs, one after the other
 appointed-from :
-    (first : List ℕ) (ends pairs apair : ℕ) (xs : List Appt) (i : ℕ) →
+    (first : List ℕ) (ends pairs pair-numbers : ℕ) (xs : List Appt) (i : ℕ) →
     ((k : ℕ) → k < length xs →
-    (word first (apair + (i + k)) < pairs) × Pair-of ends first (getD xs k (appt 0 0)) (word first (apair + (i + k)))) →
-    Appointed first ends pairs apair i xs
-appointed-from first ends pairs apair [] i h = tt
-appointed-from first ends pairs apair (x ∷ xs) i h =
+    (word first (pair-numbers + (i + k)) < pairs)
+    × Has-ends first ends (word first (pair-numbers + (i + k))) (getD xs k (appt 0 0) .first) (getD xs k (appt 0 0) .second)) →
+    Appointed first ends pairs pair-numbers i xs
+appointed-from first ends pairs pair-numbers [] i h = tt
+appointed-from first ends pairs pair-numbers (x ∷ xs) i h =
     let now = rw (add-zero i) at (h 0 (omega arith)) in (
       now .0,
       now .1,
-      appointed-from first ends pairs apair xs (i + 1)
+      appointed-from first ends pairs pair-numbers xs (i + 1)
           (λ k l.
           let same : i + 1 + k ≡ i + suc k = omega arith in
           rw same (h (suc k) (omega arith))),
     )
 
 module _
-    (ends pairs n d out apair top : ℕ) (xs : List Appt) (plan s slots : List ℕ)
-    (fit : Slots-fit ends pairs n d out apair top xs plan s slots) where
+    (ends pairs n d out pair-numbers links : ℕ) (xs : List Appt) (plan s slots : List ℕ)
+    (fit : Slots-fit ends pairs n d out pair-numbers links xs plan s slots) where
   abbrev matchings : List Graph
   matchings = matchings-at s ends pairs out n d
 
   abbrev chained : List ℕ
-  chained = all-pushed n out top d s
+  chained = all-pushed n out links d s
 
   -- the numbers in a matching's words are its copies
   copies-are : (e z : ℕ) → e < pairs → z < d → has s n out e z ≡ left s ends e matchings z
@@ -62,12 +64,12 @@ module _
       (λ i l. rw (add-assoc out (n * z) i) (fit .numbers (n * z + i) (omega (arith, row-end n z d k))))))
 
   -- after the first pass each pair's chain is the slots that the matchings have for it
-  ready : Ready ends pairs n d out apair top s matchings chained
+  ready : Ready ends pairs n d out pair-numbers links s matchings chained
   unfolding seen
   ready =
-      let pushable : Pushable pairs n d out top s =
+      let pushable : Pushable pairs n d out links s =
       record { numbers = fit .numbers; after = fit .after-matchings; inside = fit .inside; few = fit .few } in
-      let c : Chained pairs n d out top s d 0 chained = push-all pairs n d out top s pushable d (omega arith) in
+      let c : Chained pairs n d out links s d 0 chained = push-all pairs n d out links s pushable d (omega arith) in
       record {
         as-many = matchings-length s ends pairs out n d;
         positive = matchings-positive s ends pairs out n d;
@@ -79,15 +81,15 @@ module _
 
   -- Document 01: each appointment takes the highest slot its pair has left; the first entries hold the plan, later ones stay.
   pub slots-stored :
-      Slots-stored pairs n d out top plan s slots (given-words out apair top 0 (length xs) chained)
-      (given-slots out apair top 0 (length xs) chained slots)
+      Slots-stored pairs n d out links plan s slots (given-words out pair-numbers links 0 (length xs) chained)
+      (given-slots out pair-numbers links 0 (length xs) chained slots)
   slots-stored =
-      let readable : Readable ends pairs n d out top s =
+      let readable : Readable ends pairs n d out links s =
       record { distinct = fit .distinct; after = fit .after-matchings; inside = fit .inside; few = fit .few } in
-      let appointed : Appointed s ends pairs apair 0 xs =
-      appointed-from s ends pairs apair xs 0 (λ k l. rw (zero-add k) (fit .appointed k l, fit .own k l)) in
-      let t : Taken ends pairs n d out apair top s readable 0 xs plan chained slots =
-      take-all ends pairs n d out apair top s readable xs 0 plan matchings chained slots appointed
+      let appointed : Appointed s ends pairs pair-numbers 0 xs =
+      appointed-from s ends pairs pair-numbers xs 0 (λ k l. rw (zero-add k) (fit .appointed k l, fit .own k l)) in
+      let t : Taken ends pairs n d out pair-numbers links s readable 0 xs plan chained slots =
+      take-all ends pairs n d out pair-numbers links s readable xs 0 plan matchings chained slots appointed
       (omega (arith, fit .after-appointed)) (omega (arith, fit .room)) ready (fit .runs) in
       record {
         held = rw (plan-length xs matchings plan (fit .runs)) (rw (zero-add (length xs)) at (t .held));

@@ -22,7 +22,7 @@ use Rattle.multigraph.specs.Places.{Distinct-ends}
 use Rattle.multigraph.proofs.Ends.{between-symmetric, same-weight}
 use Rattle.multigraph.proofs.Weights.{pairs-between-ends, no-pairs-no-copies}
 use Rattle.slots.specs.Slots.{Given, given, none-left, give, with-slot, give-slots}
-use Rattle.slots.specs.Stored.{Pair-of}
+use Rattle.evening.specs.Contract.{Has-ends}
 use Rattle.slots.specs.Steps.{link, taken-words, taken-slots, given-words, given-slots}
 use Rattle.slots.proofs.GiveSlots.{Gave, give-law}
 use Rattle.slots.proofs.Chains.{Chain, chain-keep, chain-cut, link-slot, link-place, slots-left, slots-same, slots-taken}
@@ -59,10 +59,10 @@ next-slot x xs ms plan runs = one (give (x .first) (x .second) 0 ms) refl runs
 -- ── one appointment ──
 
 -- What the second pass reads and never changes.
-pub record Readable (ends pairs n d out top : ℕ) (first : List ℕ) : Type 0 where
+pub record Readable (ends pairs n d out links : ℕ) (first : List ℕ) : Type 0 where
   pub distinct : Distinct-ends ends pairs first
-  pub after : out + n * d ≤ top
-  pub inside : top + pairs ≤ length first
+  pub after : out + n * d ≤ links
+  pub inside : links + pairs ≤ length first
   pub few : n * d ≤ 16384
 
 -- how many copies of the pair e a slot's matching has left
@@ -71,23 +71,23 @@ left first ends e ms z = copies-between (word first (ends + 2 * e)) (word first 
 
 -- the numbers of the appointments' pairs, from appointment i on
 abbrev pub Appointed : List ℕ → ℕ → ℕ → ℕ → ℕ → List Appt → Type 0
-Appointed first ends pairs apair i [] = Unit {0}
-Appointed first ends pairs apair i (x ∷ xs) =
-    (word first (apair + i) < pairs) × Pair-of ends first x (word first (apair + i))
-    × Appointed first ends pairs apair (i + 1) xs
+Appointed first ends pairs pair-numbers i [] = Unit {0}
+Appointed first ends pairs pair-numbers i (x ∷ xs) =
+    (word first (pair-numbers + i) < pairs) × Has-ends first ends (word first (pair-numbers + i)) (x .first) (x .second)
+    × Appointed first ends pairs pair-numbers (i + 1) xs
 
-module _ (ends pairs n d out apair top : ℕ) (first : List ℕ) where
+module _ (ends pairs n d out pair-numbers links : ℕ) (first : List ℕ) where
   -- The chain of each pair is the slots that it has left in the definition's matchings.
   pub record Ready (ms : List Graph) (s : List ℕ) : Type 0 where
     pub as-many : length ms ≡ d
     pub positive : All Positive ms
-    pub changes : Changes out (n * d) top pairs first s
+    pub changes : Changes out (n * d) links pairs first s
     pub chains :
-        (e : ℕ) → e < pairs → Chain (λ t. word s (out + t)) (n * d) (word s (top + e)) (slots-left (left first ends e ms) d)
+        (e : ℕ) → e < pairs → Chain (λ t. word s (out + t)) (n * d) (word s (links + e)) (slots-left (left first ends e ms) d)
 
-  module _ (ok : Readable ends pairs n d out top first) where
+  module _ (ok : Readable ends pairs n d out links first) where
     module _
-        (x : Appt) (q : ℕ) (own : Pair-of ends first x q) (below : q < pairs) (ms rest : List Graph) (z : ℕ)
+        (x : Appt) (q : ℕ) (own : Has-ends first ends q (x .first) (x .second)) (below : q < pairs) (ms rest : List Graph) (z : ℕ)
         (g : Gave (x .first) (x .second) 0 ms z rest) (s : List ℕ) (h : Ready ms s) where
       -- one copy of the appointment's pair is gone from the slot's matching
       gone : (e t : ℕ) → e < pairs → left first ends e rest t + is t z * is e q ≡ left first ends e ms t
@@ -117,9 +117,9 @@ module _ (ends pairs n d out apair top : ℕ) (first : List ℕ) where
       -- the first link, taken apart
       module _ (at : ℕ) (there : word s at ≡ q) where
         abbrev after : List ℕ
-        after = taken-words out top at s
+        after = taken-words out links at s
 
-        first-link : Chain (λ t. word s (out + t)) (n * d) (word s (top + q)) (z ∷ slots-left (left first ends q rest) d)
+        first-link : Chain (λ t. word s (out + t)) (n * d) (word s (links + q)) (z ∷ slots-left (left first ends q rest) d)
         first-link = rw own-slots at (h .chains q below)
 
         abbrev place : ℕ
@@ -128,24 +128,24 @@ module _ (ends pairs n d out apair top : ℕ) (first : List ℕ) where
         small : place < 16384
         small = omega (arith, first-link .3, ok .few)
 
-        pub slot-is : link top at s / 16384 ≡ z
+        pub slot-is : link links at s / 16384 ≡ z
         slot-is = rw (there, first-link .1) (link-slot z place small)
 
-        place-is : link top at s % 16384 ≡ place
+        place-is : link links at s % 16384 ≡ place
         place-is = rw (there, first-link .1) (link-place z place small)
 
-        after-is : after ≡ put-word s (top + q) (word s (out + place))
+        after-is : after ≡ put-word s (links + q) (word s (out + place))
         unfolding taken-words
         after-is = rw (place-is, there)
 
-        inside : top + q < length s
+        inside : links + q < length s
         inside = omega (arith, below, ok .inside, h .changes .len)
 
-        moved : word after (top + q) ≡ word s (out + place) % 4294967296
-        moved = rw after-is (getD-set-same s (top + q) (word s (out + place) % 4294967296) 0 inside)
+        moved : word after (links + q) ≡ word s (out + place) % 4294967296
+        moved = rw after-is (getD-set-same s (links + q) (word s (out + place) % 4294967296) 0 inside)
 
-        same : (i : ℕ) → (i ≡ top + q → ⊥) → word after i ≡ word s i
-        same i k = rw after-is (away s (top + q) i (word s (out + place)) k)
+        same : (i : ℕ) → (i ≡ links + q → ⊥) → word after i ≡ word s i
+        same i k = rw after-is (away s (links + q) i (word s (out + place)) k)
 
         keep :
             (w : ℕ) (zs : List ℕ) → Chain (λ t. word s (out + t)) (n * d) w zs →
@@ -156,7 +156,7 @@ module _ (ends pairs n d out apair top : ℕ) (first : List ℕ) where
 
         chains-left :
             (e : ℕ) → e < pairs →
-            Chain (λ t. word after (out + t)) (n * d) (word after (top + e)) (slots-left (left first ends e rest) d)
+            Chain (λ t. word after (out + t)) (n * d) (word after (links + e)) (slots-left (left first ends e rest) d)
         chains-left e k =
             elim (ℕ-discrete e q) [
               | yes y ↦
@@ -165,8 +165,8 @@ module _ (ends pairs n d out apair top : ℕ) (first : List ℕ) where
                   (chain-cut (λ t. word s (out + t)) (n * d) (word s (out + place)) (slots-left (left first ends q rest) d) (ok .few)
                   (first-link .4)))
               | no y ↦
-                  rw (same (top + e) (λ u. y (omega arith)), ← other-slots e k y)
-                  (keep (word s (top + e)) (slots-left (left first ends e ms) d) (h .chains e k))
+                  rw (same (links + e) (λ u. y (omega arith)), ← other-slots e k y)
+                  (keep (word s (links + e)) (slots-left (left first ends e ms) d) (h .chains e k))
             ]
 
         -- the appointment's slot is taken: the chains are what is left
@@ -177,12 +177,12 @@ module _ (ends pairs n d out apair top : ℕ) (first : List ℕ) where
               positive = g .positive;
               changes =
                   changes-trans (h .changes)
-                  (rw after-is (changes-put out (n * d) top pairs s (top + q) (word s (out + place)) (ok .after) (omega arith) (omega arith)));
+                  (rw after-is (changes-put out (n * d) links pairs s (links + q) (word s (out + place)) (ok .after) (omega arith) (omega arith)));
               chains = chains-left;
             }
 
         -- and the slot buffer holds the slot
-        pub slot-held : (i : ℕ) (slots : List ℕ) → taken-slots top at i s slots ≡ set slots i z
+        pub slot-held : (i : ℕ) (slots : List ℕ) → taken-slots links at i s slots ≡ set slots i z
         unfolding taken-slots
         slot-held i slots =
             let fits : z < 65536 = omega (arith, first-link .2, small) in
@@ -193,8 +193,8 @@ module _ (ends pairs n d out apair top : ℕ) (first : List ℕ) where
     -- the buffer's entries from i on hold the plan, those before and after stay
     pub record Taken (i : ℕ) (xs : List Appt) (plan s slots : List ℕ) : Type 0 where
       pub held :
-          given-slots out apair top i (length xs) s slots ≡ take i slots ++ (plan ++ drop (i + length xs) slots)
-      pub changes : Changes out (n * d) top pairs first (given-words out apair top i (length xs) s)
+          given-slots out pair-numbers links i (length xs) s slots ≡ take i slots ++ (plan ++ drop (i + length xs) slots)
+      pub changes : Changes out (n * d) links pairs first (given-words out pair-numbers links i (length xs) s)
 
     none-taken :
         (i : ℕ) (plan : List ℕ) (ms : List Graph) (s slots : List ℕ) → Ready ms s → give-slots [] ms ≡ ran plan →
@@ -206,13 +206,13 @@ module _ (ends pairs n d out apair top : ℕ) (first : List ℕ) where
 
     one-taken :
         (i z : ℕ) (x : Appt) (xs : List Appt) (later s slots : List ℕ) →
-        i < length slots → taken-slots top (apair + i) i s slots ≡ set slots i z →
-        Taken (i + 1) xs later (taken-words out top (apair + i) s) (set slots i z) → Taken i (x ∷ xs) (z ∷ later) s slots
+        i < length slots → taken-slots links (pair-numbers + i) i s slots ≡ set slots i z →
+        Taken (i + 1) xs later (taken-words out links (pair-numbers + i) s) (set slots i z) → Taken i (x ∷ xs) (z ∷ later) s slots
     unfolding given-slots given-words
     one-taken i z x xs later s slots room is-set h =
         record {
           held =
-              ap (λ l. given-slots out apair top (i + 1) (length xs) (taken-words out top (apair + i) s) l) is-set
+              ap (λ l. given-slots out pair-numbers links (i + 1) (length xs) (taken-words out links (pair-numbers + i) s) l) is-set
               ∙ h .held
               ∙ joined;
           changes = h .changes;
@@ -229,21 +229,21 @@ module _ (ends pairs n d out apair top : ℕ) (first : List ℕ) where
 
     -- Each appointment gets the slot that the definition gives it.
     pub take-all :
-        (xs : List Appt) (i : ℕ) (plan : List ℕ) (ms : List Graph) (s slots : List ℕ) → Appointed first ends pairs apair i xs →
-        apair + (i + length xs) ≤ out → i + length xs ≤ length slots → Ready ms s → give-slots xs ms ≡ ran plan →
+        (xs : List Appt) (i : ℕ) (plan : List ℕ) (ms : List Graph) (s slots : List ℕ) → Appointed first ends pairs pair-numbers i xs →
+        pair-numbers + (i + length xs) ≤ out → i + length xs ≤ length slots → Ready ms s → give-slots xs ms ≡ ran plan →
         Taken i xs plan s slots
     take-all [] i plan ms s slots ap-ok low room h runs = none-taken i plan ms s slots h runs
     take-all (x ∷ xs) i plan ms s slots ap-ok low room h runs =
         let next = next-slot x xs ms plan runs in
         let z : ℕ = next .slot in
-        let q : ℕ = word first (apair + i) in
+        let q : ℕ = word first (pair-numbers + i) in
         let g : Gave (x .first) (x .second) 0 ms z (next .rest) =
         rw (next .gives) at (give-law (x .first) (x .second) 0 ms (h .positive)) in
-        let there : word s (apair + i) ≡ q = h .changes .under (apair + i) (omega arith) in
-        let here = slot-held x q (ap-ok .1) (ap-ok .0) ms (next .rest) z g s h (apair + i) there i slots in
-        let ready = ready-left x q (ap-ok .1) (ap-ok .0) ms (next .rest) z g s h (apair + i) there in
+        let there : word s (pair-numbers + i) ≡ q = h .changes .under (pair-numbers + i) (omega arith) in
+        let here = slot-held x q (ap-ok .1) (ap-ok .0) ms (next .rest) z g s h (pair-numbers + i) there i slots in
+        let ready = ready-left x q (ap-ok .1) (ap-ok .0) ms (next .rest) z g s h (pair-numbers + i) there in
         let more : i + 1 + length xs ≤ length (set slots i z) = omega (arith, length-set slots i z) in
         rw (next .whole)
         (one-taken i z x xs (next .later) s slots (omega arith) here
-        (take-all xs (i + 1) (next .later) (next .rest) (taken-words out top (apair + i) s) (set slots i z) (ap-ok .2)
+        (take-all xs (i + 1) (next .later) (next .rest) (taken-words out links (pair-numbers + i) s) (set slots i z) (ap-ok .2)
         (omega arith) more ready (next .others)))

@@ -17,6 +17,7 @@ pub data Given : Type 0 where
 abbrev pub give-here : ℕ → ℕ → ℕ → Graph → List Graph → Given
 give-here a b i m ms = pick (leb 1 (pairs-between a b m)) (given i (remove-edge m a b 1 ∷ ms)) none-left
 
+-- the matching m before later ones: what these give, m staying as it is, or else what m gives here
 abbrev pub or-here : Graph → Given → Given → Given
 or-here m (given s ms) here = given s (m ∷ ms)
 or-here m none-left here = here
@@ -26,6 +27,7 @@ unfoldable pub give : ℕ → ℕ → ℕ → List Graph → Given
 give a b i [] = none-left
 give a b i (m ∷ ms) = or-here m (give a b (i + 1) ms) (give-here a b i m ms)
 
+-- goes on with the slot given and the matchings left; fails where none is left, as the Rust would panic
 abbrev pub with-slot : Given → (ℕ → List Graph → Run (List ℕ)) → Run (List ℕ)
 with-slot (given s ms) next = next s ms
 with-slot none-left next = failed

@@ -11,7 +11,7 @@ returns c =
     let x = c .before .before .before .before .take-all .ensures in
     let y = c .before .before .before .before .before .before .before .before .before .push-all .ensures in
     rw (x .0, x .1, y, ← e)
-    (slots-stored ends pairs (a .n) (a .d) (a .out) (a .apair) (a .top) xs plan (a .s .now) (a .slots .now) fit)
+    (slots-stored ends pairs (a .n) (a .d) (a .out) (a .pair-numbers) (a .links) xs plan (a .s .now) (a .slots .now) fit)
 
 pub give-slots-spec : {M : Type 1} → statement M
 give-slots-spec =

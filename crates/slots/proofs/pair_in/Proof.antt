@@ -16,7 +16,7 @@ returns : tie.Need-returns
 returns c =
     let a = c .before .before .before .args in
     rw (c .before .matching .ensures, ← add-assoc)
-    (stretch-word (a .s .now) (a .out + a .n * a .z) (a .n) (a .j) (omega arith))
+    (stretch-word (a .s .now) (a .out + a .n * a .slot) (a .n) (a .j) (omega arith))
 
 pub pair-in-spec : {M : Type 1} → statement M
 pair-in-spec = tie.close (tie.spec (λ c κs. search needs) (λ c. search needs) in-stretch returns)

@@ -1,4 +1,4 @@
--- `slots::push_all` meets its contract. Invariant: the first z matchings are linked; the measure is what is left of them. Assumes
+-- `slots::push_all` meets its contract. Invariant: the matchings of the slots below `slot` are linked; the measure is what is left of them. Assumes
 -- nothing.
 use Prim.Native.Nat.{_-_, _≤_}
 use mathlib.Core.Path.{_≡_, refl, _∙_}
@@ -12,10 +12,10 @@ use Rattle.slots.proofs.push_all.Statement.{statement}
 use Rattle.slots.proofs.push_all.Tie as tie
 
 abbrev Inv-loop : tie.InvT-loop
-Inv-loop s₀ n d out top z₀ s z = (z ≤ d) × (length s ≡ length s₀) × (s ≡ all-pushed n out top z s₀)
+Inv-loop s₀ n d out links slot₀ s slot = (slot ≤ d) × (length s ≡ length s₀) × (s ≡ all-pushed n out links slot s₀)
 
 abbrev μ-loop : tie.MeasureT-loop
-μ-loop s₀ n d out top z₀ s z = d - z
+μ-loop s₀ n d out links slot₀ s slot = d - slot
 
 loop-holds : tie.Need-loop-holds Inv-loop μ-loop
 unfolding all-pushed
@@ -23,7 +23,7 @@ loop-holds c = (search needs, refl, refl)
 
 push-matching-requires : tie.Need-push-matching-requires Inv-loop μ-loop
 push-matching-requires c κs =
-    let x = row-end (c .before .before .before .before .args .n) (c .before .before .loop .z) (c .before .before .before .before .args .d) (c .before .loop-test .taken) in
+    let x = row-end (c .before .before .before .before .args .n) (c .before .before .loop .slot) (c .before .before .before .before .args .d) (c .before .loop-test .taken) in
     search needs
 
 loop-again : tie.Need-loop-again Inv-loop μ-loop
@@ -32,13 +32,13 @@ loop-again c =
     let a = c .before .before .before .before .before .before .before .args in (
       search needs,
       c .before .before .push-matching .kept .0 ∙ lp .inv .1,
-      rw (all-pushed-more (a .n) (a .out) (a .top) (lp .z) (a .s .now), ← lp .inv .2)
+      rw (all-pushed-more (a .n) (a .out) (a .links) (lp .slot) (a .s .now), ← lp .inv .2)
           (c .before .before .push-matching .ensures),
     )
 
 returns : tie.Need-returns Inv-loop μ-loop
 returns c =
-    let e : c .before .loop .z ≡ c .before .before .before .args .d = omega arith in
+    let e : c .before .loop .slot ≡ c .before .before .before .args .d = omega arith in
     rw e at (c .before .loop .inv .2)
 
 pub push-all-spec : {M : Type 1} → statement M

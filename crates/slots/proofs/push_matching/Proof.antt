@@ -11,11 +11,11 @@ use Rattle.slots.proofs.push_matching.Statement.{statement}
 use Rattle.slots.proofs.push_matching.Tie as tie
 
 abbrev Inv-loop : tie.InvT-loop
-Inv-loop s₀ n out top z j₀ s j =
-    (j ≤ n) × (length s ≡ length s₀) × (s ≡ matching-pushed n out top z j s₀)
+Inv-loop s₀ n out links slot j₀ s j =
+    (j ≤ n) × (length s ≡ length s₀) × (s ≡ matching-pushed n out links slot j s₀)
 
 abbrev μ-loop : tie.MeasureT-loop
-μ-loop s₀ n out top z j₀ s j = n - j
+μ-loop s₀ n out links slot j₀ s j = n - j
 
 loop-holds : tie.Need-loop-holds Inv-loop μ-loop
 unfolding matching-pushed
@@ -27,7 +27,7 @@ loop-again c =
     let a = c .before .before .before .before .before .before .before .args in (
       search needs,
       c .before .before .push-slot .kept .0 ∙ lp .inv .1,
-      rw (matching-pushed-more (a .n) (a .out) (a .top) (a .z) (lp .j) (a .s .now), ← lp .inv .2)
+      rw (matching-pushed-more (a .n) (a .out) (a .links) (a .slot) (lp .j) (a .s .now), ← lp .inv .2)
           (c .before .before .push-slot .ensures),
     )
 

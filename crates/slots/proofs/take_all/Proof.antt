@@ -11,13 +11,13 @@ use Rattle.slots.proofs.take_all.Statement.{statement}
 use Rattle.slots.proofs.take_all.Tie as tie
 
 abbrev Inv-loop : tie.InvT-loop
-Inv-loop s₀ slots₀ a out apair top i₀ s slots i =
+Inv-loop s₀ slots₀ a out pair-numbers links i₀ s slots i =
     (i ≤ a) × (length s ≡ length s₀) × (length slots ≡ length slots₀)
-    × (given-words out apair top i (a - i) s ≡ given-words out apair top 0 a s₀)
-    × (given-slots out apair top i (a - i) s slots ≡ given-slots out apair top 0 a s₀ slots₀)
+    × (given-words out pair-numbers links i (a - i) s ≡ given-words out pair-numbers links 0 a s₀)
+    × (given-slots out pair-numbers links i (a - i) s slots ≡ given-slots out pair-numbers links 0 a s₀ slots₀)
 
 abbrev μ-loop : tie.MeasureT-loop
-μ-loop s₀ slots₀ a out apair top i₀ s slots i = a - i
+μ-loop s₀ slots₀ a out pair-numbers links i₀ s slots i = a - i
 
 loop-holds : tie.Need-loop-holds Inv-loop μ-loop
 loop-holds c =
@@ -26,8 +26,8 @@ loop-holds c =
       search needs,
       refl,
       refl,
-      ap (λ k. given-words (a .out) (a .apair) (a .top) 0 k (a .s .now)) z,
-      ap (λ k. given-slots (a .out) (a .apair) (a .top) 0 k (a .s .now) (a .slots .now)) z,
+      ap (λ k. given-words (a .out) (a .pair-numbers) (a .links) 0 k (a .s .now)) z,
+      ap (λ k. given-slots (a .out) (a .pair-numbers) (a .links) 0 k (a .s .now) (a .slots .now)) z,
     )
 
 loop-again : tie.Need-loop-again Inv-loop μ-loop
@@ -39,8 +39,8 @@ loop-again c =
       search needs,
       c .before .before .before .before .take-slot .kept .0 ∙ lp .inv .1,
       c .before .before .before .before .take-slot .kept .1 .0 ∙ lp .inv .2,
-      rw (x .0) (sym (given-words-turn (a .out) (a .apair) (a .top) (a .a) (lp .i) h (lp .s)) ∙ lp .inv .3),
-      rw (x .0, x .1) (sym (given-slots-turn (a .out) (a .apair) (a .top) (a .a) (lp .i) h (lp .s) (lp .slots)) ∙ lp .inv .4),
+      rw (x .0) (sym (given-words-turn (a .out) (a .pair-numbers) (a .links) (a .a) (lp .i) h (lp .s)) ∙ lp .inv .3),
+      rw (x .0, x .1) (sym (given-slots-turn (a .out) (a .pair-numbers) (a .links) (a .a) (lp .i) h (lp .s) (lp .slots)) ∙ lp .inv .4),
     )
 
 returns : tie.Need-returns Inv-loop μ-loop
@@ -48,8 +48,8 @@ returns c =
     let lp = c .before .loop in
     let a = c .before .before .before .before .args in
     let h : a .a ≤ lp .i = omega arith in (
-      sym (given-words-stop (a .out) (a .apair) (a .top) (a .a) (lp .i) h (lp .s)) ∙ lp .inv .3,
-      sym (given-slots-stop (a .out) (a .apair) (a .top) (a .a) (lp .i) h (lp .s) (lp .slots)) ∙ lp .inv .4,
+      sym (given-words-stop (a .out) (a .pair-numbers) (a .links) (a .a) (lp .i) h (lp .s)) ∙ lp .inv .3,
+      sym (given-slots-stop (a .out) (a .pair-numbers) (a .links) (a .a) (lp .i) h (lp .s) (lp .slots)) ∙ lp .inv .4,
     )
 
 pub take-all-spec : {M : Type 1} → statement M
