@@ -117,11 +117,12 @@ fewer-is P by g h a b p q = go (leb (flagged-by by g) (flagged-by by h))
 -- Of two parts side by side, each with the words of a half: the first word of the chosen one is its header.
 pub chooses :
     (first room pairs : ℕ) (by : Bool) (s l : List ℕ) → 0 < room →
+    2 + 2 * size s first ≤ room → 2 + 2 * size s (first + room) ≤ room →
     ((ends : ℕ) →
     l ≡ fewer by (graph-at (part s first room) ends pairs 0) (graph-at (part s (first + room) room) ends pairs 0)
     (part s first room) (part s (first + room) room)) →
     Chooses first room pairs by s (word l 0)
-chooses first room pairs by s l pos is ends a b =
+chooses first room pairs by s l pos a b is ends =
     ap (λ (x : List ℕ). word x 0) (is ends)
     ∙ fewer-map (λ (x : List ℕ). word x 0) by (graph-at (part s first room) ends pairs 0)
     (graph-at (part s (first + room) room) ends pairs 0) (part s first room) (part s (first + room) room)
@@ -139,7 +140,7 @@ pub chosen-inside :
     (first room pairs h : ℕ) (by : Bool) (s : List ℕ) (r : ℕ) → Side-by-side first room h s →
     Chooses first room pairs by s r → Inside-both r h (size s r) s
 chosen-inside first room pairs h by s r halves is =
-    rw (is 0 (halves .first-fits) (halves .second-fits))
+    rw (is 0)
     (fewer-is (λ (x : ℕ). Inside-both x h (size s x) s) by (graph-at s 0 pairs first) (graph-at s 0 pairs (first + room))
     (word s first) (word s (first + room)) (rw (halves .first-base) (omega (arith, halves)))
     (rw (halves .second-base) (omega (arith, halves))))

@@ -145,9 +145,6 @@ module _ (t : Table) (h n width mark : ℕ) (s : List ℕ) (can : Can-halve t h 
     law : Split-of (2 * n) (can .side) (can .half) G both
     law = rw (st .halves (t .pairs)) at (split-law (2 * n) (can .side) (can .half) G (can .graph .regular))
 
-    fit : Side-by-side mark wide h v
-    fit = side-by-side v above st
-
     gone :
         (x : ℕ) → mark ≤ x → size v x ≤ size s h → Numbers-from s v h x →
         Regular (2 * n) (can .side) (can .half) (graph-at v (t .ends) (t .pairs) x) → from ≡ x →
@@ -168,7 +165,7 @@ module _ (t : Table) (h n width mark : ℕ) (s : List ℕ) (can : Can-halve t h 
     halved = go (leb (flagged-by by (both .first-half)) (flagged-by by (both .second-half))) refl
       where
         is : from ≡ pick (leb (flagged-by by (both .first-half)) (flagged-by by (both .second-half))) (word v mark) (word v (mark + wide))
-        is = chooses (t .ends) (fit .first-fits) (fit .second-fits)
+        is = chooses (t .ends)
 
         go : (b : Bool) → leb (flagged-by by (both .first-half)) (flagged-by by (both .second-half)) ≡ b → Halved t h n by mark new s u
         go true e =

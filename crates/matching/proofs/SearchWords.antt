@@ -188,12 +188,12 @@ module _ (t : Table) (g n k mark : ℕ) (s : List ℕ) (can : Can-search t g n k
 
       pub search-done :
           (by : Bool) (new flagged above : ℕ) (u : List ℕ) → Halved-all t mark n (k + 1) p by (mark + 2 * (n * (k + 2))) above v u →
-          ((ends : ℕ) → 2 + 2 * size u mark ≤ 2 * (n * (k + 2)) → flagged ≡ flagged-pairs (graph-at u ends (t .pairs) mark)) →
+          ((ends : ℕ) → flagged ≡ flagged-pairs (graph-at u ends (t .pairs) mark)) →
           new ≡ mark → Search-done t g n k by mark new flagged s u
       search-done by new flagged above u h counted same =
           record {
             left = rw graph-is at (h .left (log-up (k * n)) is);
-            counted = counted (t .ends) (omega (arith, h .under));
+            counted = counted (t .ends);
             numbers = h .numbers;
             marked = same;
             stays =

@@ -29,10 +29,10 @@ Whole g = 2 + 2 * size g 0 ≤ length g
 abbrev pub fewer {ℓ} : {A : Type ℓ} → Bool → Graph → Graph → A → A → A
 fewer by g h a b = pick (leb (flagged-by by g) (flagged-by by h)) a b
 
--- The header of the half that goes on, where two halves lie side by side and each has so much room.
+-- the header of the half that goes on, where two halves lie side by side and each has so much room
 abbrev pub Chooses : ℕ → ℕ → ℕ → Bool → List ℕ → ℕ → Type 0
 Chooses first room pairs by s r =
-    (ends : ℕ) → 2 + 2 * size s first ≤ room → 2 + 2 * size s (first + room) ≤ room →
+    (ends : ℕ) →
     r ≡ fewer by (graph-at s ends pairs first) (graph-at s ends pairs (first + room)) (word s first) (word s (first + room))
 
 -- ── a graph copied, its copies times α ──

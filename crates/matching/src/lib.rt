@@ -209,6 +209,7 @@ fn halve_once(
     requires { ⌜ Can-halve t h n width (now m .taken) (now s) × (now m .taken + 16 * (n * (width + 1)) ≤ now m .there) ⌝ }
     ensures { λ r. ⌜ Halved t h n «by_copies» (now (m .entry) .taken) (now (m .exit) .taken) (now (s .entry)) (now (s .exit)) × (now (m .exit) ≡ now (m .entry)) ⌝ }
 {
+    // takes nothing: gives where the mark stands
     let u = mark::take(m, 0);
     euler::rbmg_split_into_two(s, m, t.ends, h, n, width);
     go_on(s, u, 2 * (n * (width + 1)), t.pairs, h, by_copies);
@@ -236,23 +237,20 @@ fn halve_all(
     halve_all(s, m, t, h, n, width, degree / 2, by_copies);
 }
 
-// How many pairs of the graph at `h`, which has so much room, are flagged; 0 if it would need more.
+// How many pairs of the graph at `h`, whose words lie in so much room, are flagged.
 fn flagged_in(s: &[u32], h: usize, room: usize, pairs: usize) -> usize
-    requires { ⌜ h + room ≤ length (now s) ⌝ }
-    ensures { λ r. ⌜ ((ends : ℕ) → 2 + 2 * size (now (s .entry)) h ≤ room → r ≡ flagged-pairs (graph-at (now (s .entry)) ends pairs h)) ⌝ }
+    requires { ⌜ (h + room ≤ length (now s)) × (2 + 2 * size (now s) h ≤ room) ⌝ }
+    ensures { λ r. ⌜ ((ends : ℕ) → r ≡ flagged-pairs (graph-at (now (s .entry)) ends pairs h)) ⌝ }
 {
-    let m = get(s, h + 1);
-    if room < 2 + 2 * m {
-        return 0;
-    }
     let end = h + room;
     flagged(&s[h..end], pairs, false)
 }
 
-// The same of words that are lent to be changed; none is.
+// The same of words that are lent to be changed; none is. It stands here for `search`, which is proved by a walk: there a callee
+// has the scratch lent to be changed, and one `requires` (docs/WALKS.md).
 fn flagged_left(s: &mut [u32], h: usize, room: usize, pairs: usize) -> usize
-    requires { ⌜ h + room ≤ length (now s) ⌝ }
-    ensures { λ r. ⌜ ((ends : ℕ) → 2 + 2 * size (now (s .entry)) h ≤ room → r ≡ flagged-pairs (graph-at (now (s .entry)) ends pairs h)) × (now (s .exit) ≡ now (s .entry)) ⌝ }
+    requires { ⌜ (h + room ≤ length (now s)) × (2 + 2 * size (now s) h ≤ room) ⌝ }
+    ensures { λ r. ⌜ ((ends : ℕ) → r ≡ flagged-pairs (graph-at (now (s .entry)) ends pairs h)) × (now (s .exit) ≡ now (s .entry)) ⌝ }
 {
     flagged_in(s, h, room, pairs)
 }

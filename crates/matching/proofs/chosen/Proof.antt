@@ -60,7 +60,8 @@ cast-result c = omega (arith, c .shared-slice-known2 .given 0)
 returns : tie.Need-returns
 returns c =
     let a = c .before .before .before .before .before .args in
-    (chooses (a .first) (a .room) (a .pairs) (a .by-copies) (a .s .now) (c .before .fewer-flagged .result .now) (c .before .before .before .before .before .pre .0) (part-is c), omega (arith, c .shared-slice-known2 .given 0))
+    let fits = c .before .before .before .before .before .pre in
+    (chooses (a .first) (a .room) (a .pairs) (a .by-copies) (a .s .now) (c .before .fewer-flagged .result .now) (fits .0) (fits .2) (fits .3) (part-is c), omega (arith, c .shared-slice-known2 .given 0))
 
 pub chosen-spec : {M : Type 1} → statement M
 chosen-spec =

@@ -71,7 +71,6 @@ use mathlib.Core.Path.{sym}
 use Prim.Native.Nat.{_-_, _/_}
 use native.Mathlib.Nat.{mul-comm}
 use Rattle.multigraph.specs.Stored.{graph-at}
-use Rattle.multigraph.specs.Places.{size}
 use Rattle.matching.specs.Matching.{log-up, flagged-pairs}
 use Rattle.matching.specs.Searched.{Can-search, Builds-graph, Halved-all, Search-done}
 use Rattle.matching.proofs.Narrow.{width-small}
@@ -153,8 +152,8 @@ module _ {M : Type 1} (𝓤 : URA M) (H : Heap 𝓤) (A : Atoms 𝓤) (W : Given
         assigns ! (agg ! (and-then ! (load ! (from ! (stop !)) (look ! 6 refl)) (and-then ! (load ! (from ! (fld ! refl (stop !))) (look-in ! 48 (sub ! 1 refl (whole !)))) (no-more !)))) (from ! (stop !)) (init ! 4 refl (tt, (tt, (record { fits = room .0 }, tt)))) $
         calls-scratch-plain ! l room fm usize (plain (λ _. usize) ∷ plain (λ _. usize) ∷ plain (λ _. usize) ∷ []) (yes, (yes, (yes, tt))) (flagged-left.clauses 𝓤 H A mem run) known-flagged-left (given-back (m .now .taken) n4) (ys4) le4 (λ ν. (m .now .taken, (2 * (n * (k + 2)), (t .pairs, tt)))) (λ ν. (vint w64 (m .now .taken) ∷ [], (vint w64 (2 * (n * (k + 2))) ∷ [], (vint w64 (t .pairs) ∷ [], tt)))) (λ ν δ. tt)
         (λ ν. owns-make 𝓤 H A (usize ∷ usize ∷ usize ∷ []) (Ises (usize ∷ usize ∷ usize ∷ [])) (uint-makes 𝓤 H A W w64, (uint-makes 𝓤 H A W w64, (uint-makes 𝓤 H A W w64, tt))) (m .now .taken, (2 * (n * (k + 2)), (t .pairs, tt))) (vint w64 (m .now .taken) ∷ [], (vint w64 (2 * (n * (k + 2))) ∷ [], (vint w64 (t .pairs) ∷ [], tt))) ((refl, fits1), ((refl, (omega (arith, ok .0 .most))), ((refl, (omega (arith, addresses t g n k (m .now .taken) (s .now) (ok .0) .rows))), tt))))
-        (λ ν δ. shown 𝓤 (omega (arith, ok .0 .room, le4)))
-        (λ r6 ys6. ((ends : ℕ) → 2 + 2 * size ys4 (m .now .taken) ≤ 2 * (n * (k + 2)) → r6 ≡ flagged-pairs (graph-at ys4 ends (t .pairs) (m .now .taken))) × (ys6 ≡ ys4)) (λ ν δ r6 ys6 ws. id⊢ 𝓤 _)
+        (λ ν δ. shown 𝓤 (omega (arith, ok .0 .room, le4), omega (arith, p4 .0 .under)))
+        (λ r6 ys6. ((ends : ℕ) → r6 ≡ flagged-pairs (graph-at ys4 ends (t .pairs) (m .now .taken))) × (ys6 ≡ ys4)) (λ ν δ r6 ys6 ws. id⊢ 𝓤 _)
         (λ ν δ P. and-then ! (load ! (from ! (stop !)) (look ! 4 refl)) (and-then ! (load ! (from ! (stop !)) (look ! 32 refl)) (and-then ! (load ! (from ! (stop !)) (look ! 34 refl)) (and-then ! (load ! (from ! (fld ! refl (stop !))) (look-in ! 44 (sub ! 3 refl (whole !)))) (no-more !))))) (λ w6 r6 ys6 le6 is6 p6.
         land ! (from ! (stop !)) (init ! 50 refl (uint-lawful 𝓤 H A W w64 .typed r6 _ is6 .0)) $ rewrite ! 50 (λ (u : Val). ‵ (fat fullShare (tyInt w64) l0 0 u)) (ap only (is6 .0)) refl $
         returns ! (look ! 50 refl) $ forget ! 4 refl $ forget ! 6 refl $ forget ! 8 refl $ forget ! 10 refl $ forget ! 12 refl $ forget ! 14 refl $ forget ! 16 refl $ forget ! 18 refl $ forget ! 20 refl $ forget ! 22 refl $ forget ! 24 refl $ forget ! 26 refl $ forget ! 28 refl $ forget ! 30 refl $ forget ! 32 refl $ forget ! 34 refl $ forget ! 36 refl $ forget ! 38 refl $ forget ! 40 refl $ forget ! 42 refl $ forget ! 44 refl $ forget ! 46 refl $ forget ! 48 refl $ forget ! 50 refl $
