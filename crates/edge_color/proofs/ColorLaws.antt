@@ -20,9 +20,9 @@ use Rattle.matching.specs.Matching.{log-up}
 use Rattle.matching.specs.Perfect.{Full, Perfect}
 use Rattle.matching.proofs.Powers.{log-up-law, log-up-under}
 use Rattle.edge_color.specs.EdgeColor.{Set-aside, set-aside, add-matchings, rbmg-edge-color-when-power-of-two, rbmg-edge-color}
-use Rattle.edge_color.specs.Coloured.{Colours}
+use Rattle.edge_color.specs.Coloring.{Coloring}
 use Rattle.edge_color.proofs.Moving.{full, weigh-add-matchings, add-matchings-law}
-use Rattle.edge_color.proofs.PowerOfTwo.{colours-one, power-law}
+use Rattle.edge_color.proofs.PowerOfTwo.{coloring-one, power-law}
 use Rattle.edge_color.proofs.SettingAside.{Aside-of, set-aside-law}
 
 -- a graph of degree 0 has no pair
@@ -35,9 +35,9 @@ no-pairs N side (p ∷ g) f =
     (omega
     (arith, weigh-cons (names (p .first)) p g, mul-le-mul-left (p .copies) once, mul-one (p .copies), f .positive .0))
 
-colours-none : (N : ℕ) (side : ℕ → ℕ) (g : Graph) → Full N side 0 g → Colours N side 0 g []
+coloring-none : (N : ℕ) (side : ℕ → ℕ) (g : Graph) → Full N side 0 g → Coloring N side 0 g []
 unfolding total
-colours-none N side g f =
+coloring-none N side g f =
     record { as-many = refl; perfect = tt; copies = λ w s. rw (no-pairs N side g f) (sym (weigh-none w)) }
 
 -- the first j matchings of a colouring and the others
@@ -50,7 +50,7 @@ pub record Cut (N : ℕ) (side : ℕ → ℕ) (j k : ℕ) (g : Graph) (cs : List
       total (λ (m : Graph). weigh w m) (take j cs) + total (λ (m : Graph). weigh w m) (drop j cs) ≡ weigh w g
 
 pub cut-law :
-    (N : ℕ) (side : ℕ → ℕ) (j k : ℕ) (g : Graph) (cs : List Graph) → j ≤ k → Colours N side k g cs →
+    (N : ℕ) (side : ℕ → ℕ) (j k : ℕ) (g : Graph) (cs : List Graph) → j ≤ k → Coloring N side k g cs →
     Cut N side j k g cs
 cut-law N side j k g cs le c =
     let whole : All (Perfect N side) (take j cs ++ drop j cs) = rw (take-append-drop j cs) (c .perfect) in
@@ -82,7 +82,7 @@ moves d more =
 module _ {N : ℕ} {side : ℕ → ℕ} {d k j r : ℕ} {g : Graph} {s : Set-aside} {h : Halves} {cs ds : List Graph} where
   parts-copies :
       Aside-of N side d g s → Split-of N side k (s .graph) h → Cut N side j k (h .first-half) cs →
-      Colours N side r (add-matchings (h .second-half) (take j cs)) ds → (w : ℕ → ℕ → ℕ) → Symmetric w →
+      Coloring N side r (add-matchings (h .second-half) (take j cs)) ds → (w : ℕ → ℕ → ℕ) → Symmetric w →
       total (λ (m : Graph). weigh w m) (ds ++ drop j cs ++ s .aside) ≡ weigh w g
   parts-copies a sp c b w y =
       let f : Graph → ℕ = λ (m : Graph). weigh w m in
@@ -99,8 +99,8 @@ module _ {N : ℕ} {side : ℕ → ℕ} {d k j r : ℕ} {g : Graph} {s : Set-asi
 
   parts-joined :
       Aside-of N side d g s → Split-of N side k (s .graph) h → Cut N side j k (h .first-half) cs →
-      Colours N side r (add-matchings (h .second-half) (take j cs)) ds → r + (k - j) + d % 2 ≡ d →
-      Colours N side d g (ds ++ drop j cs ++ s .aside)
+      Coloring N side r (add-matchings (h .second-half) (take j cs)) ds → r + (k - j) + d % 2 ≡ d →
+      Coloring N side d g (ds ++ drop j cs ++ s .aside)
   parts-joined a sp c b sum =
       record {
         as-many =
@@ -115,10 +115,10 @@ module _ {N : ℕ} {side : ℕ → ℕ} {d k j r : ℕ} {g : Graph} {s : Set-asi
 -- the last part of a round: the second half, with the matchings moved to it, is coloured
 last-part :
     (N : ℕ) (side : ℕ → ℕ) (d : ℕ) (g : Graph) (s : Set-aside) (h : Halves) (cs : List Graph) → 1 < d →
-    Aside-of N side d g s → Split-of N side (d / 2) (s .graph) h → Colours N side (d / 2) (h .first-half) cs →
+    Aside-of N side d g s → Split-of N side (d / 2) (s .graph) h → Coloring N side (d / 2) (h .first-half) cs →
     let e : ℕ = log-up (d / 2) in
     let j : ℕ = 2 ^ e - d / 2 in
-    Ran (Colours N side d g)
+    Ran (Coloring N side d g)
     (and-then (rbmg-edge-color-when-power-of-two N e (add-matchings (h .second-half) (take j cs)))
     (λ ds. ran (ds ++ drop j cs ++ s .aside)))
 last-part N side d g s h cs more a sp c =
@@ -138,12 +138,12 @@ last-part N side d g s h cs more a sp c =
 -- Module 7 of document 01: as many matchings as the degree, whose copies add up to the graph's.
 pub color-law :
     (fuel N : ℕ) (side : ℕ → ℕ) (left right : List ℕ) (d : ℕ) (g : Graph) → Regular N side d g → Positive g →
-    Partition N side left right → 0 < N → d ≤ fuel → Ran (Colours N side d g) (rbmg-edge-color fuel N left right d g)
+    Partition N side left right → 0 < N → d ≤ fuel → Ran (Coloring N side d g) (rbmg-edge-color fuel N left right d g)
 unfolding rbmg-edge-color
-color-law zero N side left right zero g r pos part some le = colours-none N side g (full r pos)
+color-law zero N side left right zero g r pos part some le = coloring-none N side g (full r pos)
 color-law zero N side left right (suc d) g r pos part some le = absurd (omega arith)
-color-law (suc fuel) N side left right zero g r pos part some le = colours-none N side g (full r pos)
-color-law (suc fuel) N side left right (suc zero) g r pos part some le = colours-one N side g (full r pos)
+color-law (suc fuel) N side left right zero g r pos part some le = coloring-none N side g (full r pos)
+color-law (suc fuel) N side left right (suc zero) g r pos part some le = coloring-one N side g (full r pos)
 color-law (suc fuel) N side left right (suc (suc d)) g r pos part some le =
     let k : ℕ = suc (suc d) / 2 in
     let more : 1 < suc (suc d) = omega arith in

@@ -23,7 +23,7 @@ use Rattle.matching.specs.Searched.{lefts, rights}
 use Rattle.matching.specs.declared.Table.{Table}
 use Rattle.matching.proofs.Tables.{Sides-kept, sides-kept, tabled-kept}
 use Rattle.edge_color.specs.EdgeColor.{Set-aside, set-aside, add-matchings, rbmg-edge-color-when-power-of-two, rbmg-edge-color}
-use Rattle.edge_color.specs.Coloured.{Colours}
+use Rattle.edge_color.specs.Coloring.{Coloring}
 use Rattle.edge_color.specs.Room.{Colorable, Power-fits, Power-colored, Color-fits, Aside-stored, Colored}
 use Rattle.edge_color.proofs.Moving.{full, add-matchings-law, add-matchings-words}
 use Rattle.edge_color.proofs.SettingAside.{Aside-of, set-aside-law}
@@ -135,10 +135,10 @@ module _ (t : Table) (s : List ℕ) (used g n d out r : ℕ) (f : Color-fits t s
         first-colored fuel le =
             rw (sides .left, sides .right) at (b .colors fuel le)
 
-        first-colours : Colours (2 * n) (f .side) (d / 2) (graph-at s₂ (t .ends) (t .pairs) m₁) cs
-        first-colours =
+        first-coloring : Coloring (2 * n) (f .side) (d / 2) (graph-at s₂ (t .ends) (t .pairs) m₁) cs
+        first-coloring =
             let e = first-colored (d / 2) (omega arith) in
-            subst (λ (x : Run (List Graph)). Ran (Colours (2 * n) (f .side) (d / 2) (graph-at s₂ (t .ends) (t .pairs) m₁)) x) e
+            subst (λ (x : Run (List Graph)). Ran (Coloring (2 * n) (f .side) (d / 2) (graph-at s₂ (t .ends) (t .pairs) m₁)) x) e
             (color-law (d / 2) (2 * n) (f .side) (lefts t n s) (rights t n s) (d / 2) (graph-at s₂ (t .ends) (t .pairs) m₁)
             (halves .first .regular) (halves .first .positive) (f .partition) (omega (arith, f .graph .some)) (omega arith))
 
@@ -206,7 +206,7 @@ module _ (t : Table) (s : List ℕ) (used g n d out r : ℕ) (f : Color-fits t s
           raised-full =
               let z = cut in
               let k : Cut (2 * n) (f .side) (r - d / 2) (d / 2) (graph-at s₂ (t .ends) (t .pairs) m₁) cs =
-              cut-law (2 * n) (f .side) (r - d / 2) (d / 2) (graph-at s₂ (t .ends) (t .pairs) m₁) cs (z .enough) first-colours in
+              cut-law (2 * n) (f .side) (r - d / 2) (d / 2) (graph-at s₂ (t .ends) (t .pairs) m₁) cs (z .enough) first-coloring in
               let degrees : d / 2 + length (take (r - d / 2) cs) ≡ r = omega (arith, k .moved, z .reaches) in
               rw raised
               (subst (λ (x : ℕ). Full (2 * n) (f .side) x (add-matchings (graph-at s₂ (t .ends) (t .pairs) (m₁ + 2 * (n * (d + 1)))) (take (r - d / 2) cs))) degrees

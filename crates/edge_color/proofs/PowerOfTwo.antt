@@ -15,19 +15,19 @@ use Rattle.euler.specs.Halved.{Split-of}
 use Rattle.matching.specs.Perfect.{Full, Perfect}
 use Rattle.matching.proofs.Halving.{split-power}
 use Rattle.edge_color.specs.EdgeColor.{rbmg-edge-color-when-power-of-two}
-use Rattle.edge_color.specs.Coloured.{Colours}
+use Rattle.edge_color.specs.Coloring.{Coloring}
 use Rattle.edge_color.proofs.Moving.{full}
 
 -- a graph of degree 1 is its own colouring
-pub colours-one : (N : ℕ) (side : ℕ → ℕ) (g : Graph) → Perfect N side g → Colours N side 1 g (g ∷ [])
+pub coloring-one : (N : ℕ) (side : ℕ → ℕ) (g : Graph) → Perfect N side g → Coloring N side 1 g (g ∷ [])
 unfolding total
-colours-one N side g h = record { as-many = refl; perfect = (h, tt); copies = λ w s. omega arith }
+coloring-one N side g h = record { as-many = refl; perfect = (h, tt); copies = λ w s. omega arith }
 
 -- the colourings of two graphs whose copies add up, one after the other
-pub colours-append :
-    (N : ℕ) (side : ℕ → ℕ) (c d : ℕ) (f g h : Graph) (cs ds : List Graph) → Colours N side c f cs → Colours N side d g ds →
-    ((w : ℕ → ℕ → ℕ) → Symmetric w → weigh w f + weigh w g ≡ weigh w h) → Colours N side (c + d) h (cs ++ ds)
-colours-append N side c d f g h cs ds a b sum =
+pub coloring-append :
+    (N : ℕ) (side : ℕ → ℕ) (c d : ℕ) (f g h : Graph) (cs ds : List Graph) → Coloring N side c f cs → Coloring N side d g ds →
+    ((w : ℕ → ℕ → ℕ) → Symmetric w → weigh w f + weigh w g ≡ weigh w h) → Coloring N side (c + d) h (cs ++ ds)
+coloring-append N side c d f g h cs ds a b sum =
     record {
       as-many = omega (arith, length-append cs ds, a .as-many, b .as-many);
       perfect = all-append _ cs ds (a .perfect) (b .perfect);
@@ -38,9 +38,9 @@ colours-append N side c d f g h cs ds a b sum =
 -- Module 6 of document 01: 2^e matchings, whose copies add up to the graph's.
 pub power-law :
     (N : ℕ) (side : ℕ → ℕ) (e : ℕ) (g : Graph) → Full N side (2 ^ e) g →
-    Ran (Colours N side (2 ^ e) g) (rbmg-edge-color-when-power-of-two N e g)
+    Ran (Coloring N side (2 ^ e) g) (rbmg-edge-color-when-power-of-two N e g)
 unfolding rbmg-edge-color-when-power-of-two
-power-law N side zero g f = colours-one N side g f
+power-law N side zero g f = coloring-one N side g f
 power-law N side (suc e) g f =
     ran-then _ _ (rbmg-split-into-two N g) _ (split-power N side e g (f .regular))
     (λ h s.
@@ -51,9 +51,9 @@ power-law N side (suc e) g f =
     (power-law N side e (h .second-half) (full (s .second-regular) (s .second-positive)))
     (λ ds b. join h s cs ds a b)))
   where
-    join : (h : Halves) → Split-of N side (2 ^ e) g h → (cs ds : List Graph) → Colours N side (2 ^ e) (h .first-half) cs →
-        Colours N side (2 ^ e) (h .second-half) ds → Colours N side (2 ^ suc e) g (cs ++ ds)
+    join : (h : Halves) → Split-of N side (2 ^ e) g h → (cs ds : List Graph) → Coloring N side (2 ^ e) (h .first-half) cs →
+        Coloring N side (2 ^ e) (h .second-half) ds → Coloring N side (2 ^ suc e) g (cs ++ ds)
     join h s cs ds a b =
         let twice : 2 ^ suc e ≡ 2 ^ e + 2 ^ e = omega (arith, two-pow e) in
         rw twice
-        (colours-append N side (2 ^ e) (2 ^ e) (h .first-half) (h .second-half) g cs ds a b (λ w k. s .copies w k))
+        (coloring-append N side (2 ^ e) (2 ^ e) (h .first-half) (h .second-half) g cs ds a b (λ w k. s .copies w k))

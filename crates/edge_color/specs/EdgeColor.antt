@@ -32,6 +32,7 @@ set-aside N left right d g =
     (λ m. ran (record { aside = m ∷ []; graph = remove-matching g m })) in
     pick (eqb (d % 2) 1) odd (ran (record { aside = []; graph = g }))
 
+-- one copy more of every pair of each of these matchings, one matching after the other
 unfoldable pub add-matchings : Graph → List Graph → Graph
 add-matchings g [] = g
 add-matchings g (m ∷ ms) = add-matchings (add-matching g m) ms

@@ -1,5 +1,5 @@
 pub mod EdgeColor
-pub mod Coloured
+pub mod Coloring
 pub mod Room
 pub mod Computing
 pub mod Examples

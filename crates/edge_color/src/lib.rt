@@ -30,6 +30,7 @@ pub fn rbmg_edge_color_when_power_of_two(
         matching::read_matching(s, g, n, out);
         return;
     }
+    // takes nothing: gives where the mark stands
     let u = mark::take(m, 0);
     let h = d / 2;
     let second = u + 2 * (n * (d + 1));
@@ -40,7 +41,8 @@ pub fn rbmg_edge_color_when_power_of_two(
     mark::give_back(m, u);
 }
 
-// Writes at `to` the graph at `g` without the matching of `n` numbers at `at`.
+// Writes at `to` the graph at `g` without the matching of `n` numbers at `at`. Nothing but `multigraph::remove_matching` with its
+// conditions in one `requires`: `set_aside` is proved by a walk, and there a callee has one (docs/WALKS.md).
 fn take_out(s: &mut [u32], places: usize, g: usize, to: usize, at: usize, n: usize)
     requires { ⌜ (places < 4294967296) × (g < 4294967296) × (to < 4294967296) × (at < 4294967296) × (n < 4294967296) ⌝ }
     ensures { λ r. ⌜ Removes-matching places g to at n (now (s .entry)) (now (s .exit)) ⌝ }

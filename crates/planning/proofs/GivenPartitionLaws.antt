@@ -19,7 +19,7 @@ use Rattle.multigraph.proofs.Ends.{between-symmetric}
 use Rattle.multigraph.proofs.Weights.{weigh-none}
 use Rattle.multigraph.proofs.Matchings.{Sound}
 use Rattle.edge_color.specs.EdgeColor.{rbmg-edge-color}
-use Rattle.edge_color.specs.Coloured.{Colours}
+use Rattle.edge_color.specs.Coloring.{Coloring}
 use Rattle.edge_color.proofs.ColorLaws.{color-law}
 use Rattle.matching.specs.Perfect.{Perfect}
 use Rattle.evening.specs.Evening.{add-appointments, padded, even-out}
@@ -64,14 +64,14 @@ degree-le-one N side (m ∷ ms) h v zero l = omega (arith, h .0 .regular .even v
 degree-le-one N side (m ∷ ms) h v (suc s) l = degree-le-one N side ms (h .1) v s l
 
 -- without parties there are no pairs, and no colours
-no-parties : (side : ℕ → ℕ) (g : Graph) → All (Across 0 side) g → Colours 0 side 0 g []
+no-parties : (side : ℕ → ℕ) (g : Graph) → All (Across 0 side) g → Coloring 0 side 0 g []
 unfolding total
 no-parties side [] h = record { as-many = refl; perfect = tt; copies = λ w s. sym (weigh-none w) }
 no-parties side (p ∷ g) h = absurd (omega (arith, h .0 .first-below))
 
 colour-any :
     (N : ℕ) (side : ℕ → ℕ) (left right : List ℕ) (d : ℕ) (g : Graph) → Regular N side d g → Positive g →
-    Partition N side left right → (N ≡ 0 → d ≡ 0) → Ran (Colours N side d g) (rbmg-edge-color d N left right d g)
+    Partition N side left right → (N ≡ 0 → d ≡ 0) → Ran (Coloring N side d g) (rbmg-edge-color d N left right d g)
 unfolding rbmg-edge-color
 colour-any zero side left right d g r pos part none = rw (none refl) (no-parties side g (r .across))
 colour-any (suc N) side left right d g r pos part none =
@@ -97,7 +97,7 @@ module _
   -- slots from the colours of the evened graph
   slots-law :
       (g : Graph) (ms : List Graph) → Evened N side' (largest-load P xs) list-pairs g →
-      Colours N side' (largest-load P xs) g ms → Ran (Proper-plan P xs) (give-slots xs ms)
+      Coloring N side' (largest-load P xs) g ms → Ran (Proper-plan P xs) (give-slots xs ms)
   slots-law g ms e c =
       ran-map proper (give-slots xs ms)
       (give-slots-law xs ms (all-map (λ m p. p .positive) ms (c .perfect))
@@ -129,6 +129,6 @@ module _
       ran-then (Evened N side' D list-pairs) (Proper-plan P xs) (even-out D list-pairs left' right') _
       (even-out-law N side' D list-pairs left' right' part sound (λ v h. degree-le P xs listed v))
       (λ g e.
-      ran-then (Colours N side' D g) (Proper-plan P xs) (rbmg-edge-color D N left' right' D g) (λ ms. give-slots xs ms)
+      ran-then (Coloring N side' D g) (Proper-plan P xs) (rbmg-edge-color D N left' right' D g) (λ ms. give-slots xs ms)
       (colour-any N side' left' right' D g (e .regular) (e .positive) part no-load)
       (λ ms c. slots-law g ms e c))

@@ -8,7 +8,7 @@ use Rattle.multigraph.specs.Multigraph.{Graph}
 use Rattle.multigraph.specs.Regular.{weigh, Symmetric}
 use Rattle.matching.specs.Perfect.{Perfect}
 
-pub record Colours (N : ℕ) (side : ℕ → ℕ) (d : ℕ) (g : Graph) (ms : List Graph) : Type 0 where
+pub record Coloring (N : ℕ) (side : ℕ → ℕ) (d : ℕ) (g : Graph) (ms : List Graph) : Type 0 where
   pub as-many : length ms ≡ d
   pub perfect : All (Perfect N side) ms
   pub copies : (w : ℕ → ℕ → ℕ) → Symmetric w → total (λ (m : Graph). weigh w m) ms ≡ weigh w g
