@@ -13,8 +13,8 @@ ghost use Rattle.euler.specs.CircuitBounds.{«Two-froms», «Two-walks»
 use crate::halves::head;
 use crate::halves::many;
 use crate::halves::push;
-use multigraph::EdgeIndex;
 use multigraph::end_of;
+use words::EdgeIndex;
 use words::set_word;
 use words::word_at;
 

@@ -4,8 +4,8 @@ ghost use mathlib.Core.Path.{_≡_};
 ghost use Prim.Native.Nat.{ℕ, _<_, _≤_};
 ghost use Rattle.euler.specs.Model.{Fits, appendM, startRingM, startM, siftM, siftAllM, ringEndM, endsM, fillM};
 ghost use Rattle.euler.specs.Bounds.{Appends, Sifts, «Sifts-all», «Rings-end», «Fills-ends», Fills};
-use multigraph::EdgeIndex;
 use multigraph::end_of;
+use words::EdgeIndex;
 use words::set_word;
 use words::word_at;
 

@@ -14,7 +14,7 @@ ghost use Rattle.matching.specs.Choosing.{«flagged-by», «flagged-entr
 ghost use Rattle.matching.specs.Searched.{«Adds-diagonal», «Builds-graph», «Can-halve», Halved, «Can-halve-all», «Halved-all»};
 ghost use Rattle.matching.specs.Searched.{«Can-search», «Search-done», «Searches-done», «Reads-matching», «Can-find», «Matching-found»};
 use mark::Mark;
-use multigraph::EdgeIndex;
+use words::EdgeIndex;
 use words::get;
 use words::put;
 use words::set_word;

@@ -11,14 +11,10 @@ ghost use lib.ListN.{length};
 ghost use Rattle.words.specs.Words.{word, «put-word»};
 ghost use Rattle.multigraph.specs.Places.{size, «copies-of», «Maps-places», «Adds-edge», «Adds-matching», «Removes-matching»};
 ghost use Rattle.multigraph.specs.Steps.{Writes, «less-of», «rest-words», «rest-next», «Copies-rest»};
+use words::EdgeIndex;
+use words::NodeIndex;
 use words::get;
 use words::put;
-
-// A party's number.
-pub struct NodeIndex(pub u32);
-
-// A pair's number: its row in the table of ends.
-pub struct EdgeIndex(pub u32);
 
 // The end of pair `e` on one side: the first end (0) or the second (1).
 pub fn end_of(s: &[u32], ends: usize, side: usize, e: EdgeIndex) -> NodeIndex

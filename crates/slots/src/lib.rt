@@ -16,7 +16,7 @@ ghost use Rattle.words.specs.Words.{word, «put-word»};
 ghost use Rattle.slots.specs.Stored.{«Gives-slots»};
 ghost use Rattle.slots.specs.Steps.{pushed, «matching-pushed», «all-pushed», «taken-words», «taken-slots», «given-words», «given-slots»};
 use edge_color::matching;
-use multigraph::EdgeIndex;
+use words::EdgeIndex;
 use words::get;
 use words::put;
 use words::put16;

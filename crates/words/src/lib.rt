@@ -6,6 +6,12 @@ ghost use Prim.Native.Nat.{ℕ, _+_, _<_, _≤_};
 ghost use lib.ListN.{length, replicate, drop};
 ghost use Rattle.words.specs.Words.{word, «put-word», «put-half-word»};
 
+// A party's number.
+pub struct NodeIndex(pub u32);
+
+// A pair's number: its row in the table of ends.
+pub struct EdgeIndex(pub u32);
+
 // The word at `i`, and 0 past the end.
 pub fn get(s: &[u32], i: usize) -> usize
     ensures { λ r. ⌜ (r ≡ word (now (s .entry)) i) × (r < 4294967296) ⌝ }
