@@ -85,12 +85,13 @@ fn add_to(s: &mut [u32], at: usize, copies: usize)
 }
 
 // A new entry, the last one of the graph at `g`, of which `m` stand there.
-fn push_entry(s: &mut [u32], g: usize, m: usize, e: usize, copies: usize)
+fn push_entry(s: &mut [u32], g: usize, m: usize, e: EdgeIndex, copies: usize)
     requires { ⌜ g < 4294967296 ⌝ }
     requires { ⌜ m < 4294967296 ⌝ }
-    ensures { λ r. ⌜ now (s .exit) ≡ put-word (put-word (put-word (now (s .entry)) (g + 2 + 2 * m) e) (g + 3 + 2 * m) copies) (g + 1) (m + 1) ⌝ }
+    ensures { λ r. ⌜ now (s .exit) ≡ put-word (put-word (put-word (now (s .entry)) (g + 2 + 2 * m) (e .0)) (g + 3 + 2 * m) copies) (g + 1) (m + 1) ⌝ }
 {
-    put(s, g + 2 + 2 * m, e);
+    let x = e.0 as usize;
+    put(s, g + 2 + 2 * m, x);
     put(s, g + 3 + 2 * m, copies);
     put(s, g + 1, m + 1);
 }
@@ -116,8 +117,7 @@ pub fn add_edge(
         return;
     }
     let m = get(s, g + 1);
-    let e = number.0 as usize;
-    push_entry(s, g, m, e, copies);
+    push_entry(s, g, m, number, copies);
     put(s, places + k, m + 1);
 }
 
@@ -149,15 +149,15 @@ pub fn add_matching(s: &mut [u32], places: usize, g: usize, m: usize, n: usize)
 }
 
 // How many copies of entry `i`, whose number is `e`, stay: one goes where the map says absent.
-fn left_over(s: &[u32], places: usize, g: usize, i: usize, e: usize) -> usize
+fn left_over(s: &[u32], places: usize, g: usize, i: usize, e: EdgeIndex) -> usize
     requires { ⌜ places < 4294967296 ⌝ }
     requires { ⌜ g < 4294967296 ⌝ }
     requires { ⌜ i < 4294967296 ⌝ }
-    requires { ⌜ e < 4294967296 ⌝ }
-    ensures { λ r. ⌜ r ≡ copies-of (now (s .entry)) g i - less-of (word (now (s .entry)) (places + e)) ⌝ }
+    ensures { λ r. ⌜ r ≡ copies-of (now (s .entry)) g i - less-of (word (now (s .entry)) (places + e .0)) ⌝ }
 {
+    let x = e.0 as usize;
     let c = get(s, g + 3 + 2 * i);
-    let place = get(s, places + e);
+    let place = get(s, places + x);
     if place > 0 {
         return c;
     }
@@ -178,7 +178,7 @@ fn rest_step(s: &mut [u32], places: usize, g: usize, to: usize, at: usize, i: us
     ensures { λ r. ⌜ (now (s .exit) ≡ rest-words places g to at i (now (s .entry))) × (r ≡ rest-next places g at i (now (s .entry))) ⌝ }
 {
     let e = get(s, g + 2 + 2 * i);
-    let left = left_over(s, places, g, i, e);
+    let left = left_over(s, places, g, i, EdgeIndex(e as u32));
     put(s, to + 2 + 2 * at, e);
     put(s, to + 3 + 2 * at, left);
     if left > 0 {

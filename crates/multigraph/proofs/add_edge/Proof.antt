@@ -17,9 +17,9 @@ returns c =
 
 returns-2 : tie.Need-returns-2
 returns-2 c =
-    let a = c .before .before .before .before .before .before .before .before .before .before .before .before .before .before .before .before .args in
-    let none : word (a .s .now) (a .places + a .key .0) ≡ 0 = omega (arith, c .before .before .before .before .before .before .before .before .before .before .before .before .get .ensures .0, c .before .before .before .before .before .before .before .before .before .before .before .if1 .left) in
-    let words : c .before .before .put .last .0 ≡ pushed-words (a .places) (a .g) (a .key .0) (a .number .0) (a .copies) (size (a .s .now) (a .g)) (a .s .now) = rw (c .before .before .before .before .before .before .push-entry .ensures, c .before .before .before .before .before .before .before .before .before .get2 .ensures .0) at (c .before .before .put .ensures) in
+    let a = c .before .before .before .before .before .before .before .before .before .before .before .before .before .before .before .args in
+    let none : word (a .s .now) (a .places + a .key .0) ≡ 0 = omega (arith, c .before .before .before .before .before .before .before .before .before .before .before .get .ensures .0, c .before .before .before .before .before .before .before .before .before .before .if1 .left) in
+    let words : c .before .before .put .last .0 ≡ pushed-words (a .places) (a .g) (a .key .0) (a .number .0) (a .copies) (size (a .s .now) (a .g)) (a .s .now) = rw (c .before .before .before .before .before .before .push-entry .ensures, c .before .before .before .before .before .before .before .before .get2 .ensures .0) at (c .before .before .put .ensures) in
     adds-new (a .places) (a .g) (a .key .0) (a .number .0) (a .copies) (a .s .now) (c .before .before .put .last .0) none (omega arith) words
 
 pub add-edge-spec : {M : Type 1} → statement M
@@ -37,7 +37,6 @@ add-edge-spec =
     returns
     (λ c. search needs)
     (λ c κs. search needs)
-    (λ c. search needs)
     (λ c κs. search needs)
     (λ c. search needs)
     (λ c. search needs)
