@@ -23,6 +23,7 @@ ghost use Rattle.two_color.specs.Bounds.{Appends, Pushes, Fills, Prepare
 ghost use Rattle.mark.specs.Taking.{«taken-more»};
 ghost use Rattle.two_color.specs.Contract.{«Can-color», Colored};
 use mark::Mark;
+use words::NodeIndex;
 use words::half_word_at;
 use words::set_word;
 use words::word_at;
@@ -58,12 +59,12 @@ fn clear_state(s: &mut [u32], u: usize, p: usize)
 }
 
 // A party without a colour and with an empty row.
-fn start_party(s: &mut [u32], u: usize, p: usize, d: usize, v: usize)
+fn start_party(s: &mut [u32], u: usize, p: usize, d: usize, w: NodeIndex)
     requires { ⌜ Small u p ⌝ }
-    requires { ⌜ v < 4294967296 ⌝ }
-    requires { ⌜ d * v < 4294967296 ⌝ }
-    ensures { λ r. ⌜ now (s .exit) ≡ startPartyM u p d v (now (s .entry)) ⌝ }
+    requires { ⌜ d * w .0 < 4294967296 ⌝ }
+    ensures { λ r. ⌜ now (s .exit) ≡ startPartyM u p d (w .0) (now (s .entry)) ⌝ }
 {
+    let v = w.0 as usize;
     words::put(s, u + 3 * p + v, 2);
     words::put(s, u + 4 * p + 5 + 2 * v, 0);
     words::put(s, u + 4 * p + 6 + 2 * v, u + 6 * p + 5 + d * v);
@@ -77,7 +78,7 @@ fn start_parties(s: &mut [u32], u: usize, p: usize, d: usize)
 {
     let mut v = 0;
     while v < p {
-        start_party(s, u, p, d, v);
+        start_party(s, u, p, d, NodeIndex(v as u32));
         v += 1;
     }
 }
@@ -111,30 +112,30 @@ fn fill_rows(s: &mut [u32], u: usize, p: usize, list: &[u16], near: usize, far: 
 }
 
 // A party gets its colour, goes on the stack and to the end of its side.
-fn color_party(s: &mut [u32], u: usize, p: usize, w: usize, color: usize)
+fn color_party(s: &mut [u32], u: usize, p: usize, w: NodeIndex, color: usize)
     requires { ⌜ Small u p ⌝ }
-    requires { ⌜ w < 4294967296 ⌝ }
-    requires { ⌜ Paints u p w color (now s) ⌝ }
-    ensures { λ r. ⌜ now (s .exit) ≡ colorPartyM u p w color (now (s .entry)) ⌝ }
+    requires { ⌜ Paints u p (w .0) color (now s) ⌝ }
+    ensures { λ r. ⌜ now (s .exit) ≡ colorPartyM u p (w .0) color (now (s .entry)) ⌝ }
 {
-    set_word(s, u + 3 * p + w, color);
-    append(s, u + 4 * p + 2, u + 2 * p, w);
+    let v = w.0 as usize;
+    set_word(s, u + 3 * p + v, color);
+    append(s, u + 4 * p + 2, u + 2 * p, v);
     if color == 0 {
-        append(s, u + 4 * p + 3, u, w);
+        append(s, u + 4 * p + 3, u, v);
         return;
     }
-    append(s, u + 4 * p + 4, u + p, w);
+    append(s, u + 4 * p + 4, u + p, v);
 }
 
 // A neighbour that is to have the colour `other`: nothing happens if it has, it gets it if it has none, and else it refuses.
 // Once it is refused nobody gets a colour.
-fn touch(s: &mut [u32], u: usize, p: usize, other: usize, w: usize)
+fn touch(s: &mut [u32], u: usize, p: usize, other: usize, w: NodeIndex)
     requires { ⌜ Small u p ⌝ }
-    requires { ⌜ w < 4294967296 ⌝ }
-    requires { ⌜ Touches u p other w (now s) ⌝ }
-    ensures { λ r. ⌜ now (s .exit) ≡ touchM u p other w (now (s .entry)) ⌝ }
+    requires { ⌜ Touches u p other (w .0) (now s) ⌝ }
+    ensures { λ r. ⌜ now (s .exit) ≡ touchM u p other (w .0) (now (s .entry)) ⌝ }
 {
-    let have = word_at(s, u + 3 * p + w);
+    let v = w.0 as usize;
+    let have = word_at(s, u + 3 * p + v);
     if have == other {
         return;
     }
@@ -155,16 +156,16 @@ fn look(s: &mut [u32], u: usize, p: usize, other: usize, at: usize)
     ensures { λ r. ⌜ now (s .exit) ≡ lookM u p other at (now (s .entry)) ⌝ }
 {
     let w = word_at(s, at);
-    touch(s, u, p, other, w);
+    touch(s, u, p, other, NodeIndex(w as u32));
 }
 
 // All neighbours of a party, in the order of its row.
-fn touch_all(s: &mut [u32], u: usize, p: usize, v: usize)
+fn touch_all(s: &mut [u32], u: usize, p: usize, w: NodeIndex)
     requires { ⌜ Small u p ⌝ }
-    requires { ⌜ v < 4294967296 ⌝ }
-    requires { ⌜ Looks-all u p v (now s) ⌝ }
-    ensures { λ r. ⌜ now (s .exit) ≡ touchAllM u p v (now (s .entry)) ⌝ }
+    requires { ⌜ Looks-all u p (w .0) (now s) ⌝ }
+    ensures { λ r. ⌜ now (s .exit) ≡ touchAllM u p (w .0) (now (s .entry)) ⌝ }
 {
+    let v = w.0 as usize;
     let color = words::get(s, u + 3 * p + v);
     let n = words::get(s, u + 4 * p + 5 + 2 * v);
     let row = words::get(s, u + 4 * p + 6 + 2 * v);
@@ -185,7 +186,7 @@ fn take_off(s: &mut [u32], u: usize, p: usize, h: usize)
 {
     let v = words::get(s, u + 2 * p + (h - 1));
     words::put(s, u + 4 * p + 2, h - 1);
-    touch_all(s, u, p, v);
+    touch_all(s, u, p, NodeIndex(v as u32));
 }
 
 // On to the next party, which gets 1 if it has no colour. After the last there is none, and nothing happens.
@@ -201,7 +202,7 @@ fn next_party(s: &mut [u32], u: usize, p: usize)
     let have = words::get(s, u + 3 * p + v);
     words::put(s, u + 4 * p + 1, v + 1);
     if have == 2 {
-        color_party(s, u, p, v, 1);
+        color_party(s, u, p, NodeIndex(v as u32), 1);
     }
 }
 

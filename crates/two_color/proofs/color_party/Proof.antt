@@ -7,33 +7,34 @@ use Rattle.two_color.proofs.color_party.Tie as tie
 
 append-requires : tie.Need-append-requires
 append-requires c κs =
-    let pre = c .before .before .before .before .before .before .pre in
-    (omega (arith, pre .0 .low, pre .0 .few), rw (c .before .before .before .set-word .ensures) (pre .1 .1 .stack))
+    let pre = c .before .before .before .before .before .before .before .pre in
+    (omega (arith, pre .0 .low, pre .0 .few), rw (c .before .before .before .set-word .ensures) (pre .1 .stack))
 
 append-requires-2 : tie.Need-append-requires-2
 append-requires-2 c κs =
-    let pre = c .before .before .before .before .before .before .before .before .before .before .before .pre in
-    (omega (arith, pre .0 .low), rw (c .before .before .before .before .append .ensures, c .before .before .before .before .before .before .before .before .set-word .ensures) (pre .1 .1 .left (c .before .if1 .taken)))
+    let pre = c .before .before .before .before .before .before .before .before .before .before .before .before .pre in
+    (omega (arith, pre .0 .low), rw (c .before .before .before .before .append .ensures, c .before .before .before .before .before .before .before .before .set-word .ensures) (pre .1 .left (c .before .if1 .taken)))
 
 append-requires-3 : tie.Need-append-requires-3
 append-requires-3 c κs =
-    let pre = c .before .before .before .before .before .before .before .before .before .before .before .pre in
-    (omega (arith, pre .0 .low, pre .0 .few), rw (c .before .before .before .before .append .ensures, c .before .before .before .before .before .before .before .before .set-word .ensures) (pre .1 .1 .right (c .before .if1 .left)))
+    let pre = c .before .before .before .before .before .before .before .before .before .before .before .before .pre in
+    (omega (arith, pre .0 .low, pre .0 .few), rw (c .before .before .before .before .append .ensures, c .before .before .before .before .before .before .before .before .set-word .ensures) (pre .1 .right (c .before .if1 .left)))
 
 returns : tie.Need-returns
 returns c =
-    let a = c .before .before .before .before .before .before .before .before .before .before .before .before .before .before .args in
-    cc (color-left (a .u) (a .p) (a .s .now) (a .w) (a .color) (c .before .before .before .before .if1 .taken))
+    let a = c .before .before .before .before .before .before .before .before .before .before .before .before .before .before .before .args in
+    cc (color-left (a .u) (a .p) (a .s .now) (a .w .0) (a .color) (c .before .before .before .before .if1 .taken))
 
 returns-2 : tie.Need-returns-2
 returns-2 c =
-    let a = c .before .before .before .before .before .before .before .before .before .before .before .before .before .before .args in
-    cc (color-right (a .u) (a .p) (a .s .now) (a .w) (a .color) (c .before .before .before .before .if1 .left))
+    let a = c .before .before .before .before .before .before .before .before .before .before .before .before .before .before .before .args in
+    cc (color-right (a .u) (a .p) (a .s .now) (a .w .0) (a .color) (c .before .before .before .before .if1 .left))
 
 pub color-party-spec : {M : Type 1} → statement M
 color-party-spec =
     tie.close
     (tie.spec
+    (λ c. search needs)
     (λ c. search needs)
     (λ c. search needs)
     (λ c. search needs)

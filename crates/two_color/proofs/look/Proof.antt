@@ -8,11 +8,11 @@ touch-requires : tie.Need-touch-requires
 touch-requires c κs =
     let pre = c .before .before .before .before .pre in
     let w = c .before .word-at in
-    (pre .0, (w .ensures .1, rw (w .ensures .0) (pre .1 .touches)))
+    (pre .0, rw (w .ensures .0) (pre .1 .touches))
 
 returns : tie.Need-returns
 unfolding lookM
 returns c = cc
 
 pub look-spec : {M : Type 1} → statement M
-look-spec = tie.close (tie.spec (λ c κs. search needs) touch-requires (λ c. search needs) returns)
+look-spec = tie.close (tie.spec (λ c κs. search needs) (λ c. search needs) touch-requires (λ c. search needs) returns)

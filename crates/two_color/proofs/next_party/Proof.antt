@@ -24,7 +24,7 @@ color-party-requires c κs =
     let below : v .result < a .p = omega (arith, c .before .before .before .before .before .before .before .before .if1 .left) in
     let free : word (a .s .now) (a .u + 3 * a .p + v .result) ≡ 2 = sym (c .before .before .before .before .before .before .get2 .ensures .0) ∙ c .before .if2 .taken in
     let paints : Paints (a .u) (a .p) (v .result) 1 (put-word (a .s .now) (a .u + 4 * a .p + 1) (v .result + 1)) = next-paints (a .u) (a .p) (a .s .now) (v .result) e below free (pre .1) in
-    (pre .0, (v .ensures .1, rw (c .before .before .before .before .put .ensures) paints))
+    (pre .0, rw (c .before .before .before .before .put .ensures) paints)
 
 returns-2 : tie.Need-returns-2
 returns-2 c =
@@ -61,6 +61,7 @@ next-party-spec =
     (λ c. search needs)
     (λ c. search needs)
     (λ c κs. search needs)
+    (λ c. search needs)
     color-party-requires
     (λ c. search needs)
     returns-2

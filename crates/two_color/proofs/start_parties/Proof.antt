@@ -25,7 +25,7 @@ start-party-requires : tie.Need-start-party-requires Inv-loop μ-loop
 start-party-requires c κs =
     let h : c .before .before .loop .v ≤ c .before .before .before .before .args .p = omega arith in
     let a = c .before .before .before .before .args in
-    (c .before .before .before .before .pre .0, (omega arith, omega (arith, mul-le-mul-left (a .d) h)))
+    (c .before .before .before .before .pre .0, omega (arith, mul-le-mul-left (a .d) h))
 
 loop-again : tie.Need-loop-again Inv-loop μ-loop
 loop-again c =
@@ -45,6 +45,7 @@ start-parties-spec =
     Inv-loop
     μ-loop
     loop-holds
+    (λ c. search needs)
     start-party-requires
     (λ c. search needs)
     (λ c. search needs)

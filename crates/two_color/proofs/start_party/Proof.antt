@@ -15,6 +15,7 @@ start-party-spec =
     (λ c. search needs)
     (λ c. search needs)
     (λ c. search needs)
+    (λ c. search needs)
     (λ c κs. search needs)
     (λ c. search needs)
     (λ c. search needs)

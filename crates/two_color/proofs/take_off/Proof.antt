@@ -8,7 +8,7 @@ touch-all-requires : tie.Need-touch-all-requires
 touch-all-requires c κs =
     let pre = c .before .before .before .before .before .before .before .before .pre in
     let v = c .before .before .before .before .before .get in
-    (pre .0, (v .ensures .1, rw (v .ensures .0, c .before .before .before .put .ensures) (pre .1 .1)))
+    (pre .0, rw (v .ensures .0, c .before .before .before .put .ensures) (pre .1 .1))
 
 returns : tie.Need-returns
 unfolding takeOffM
@@ -28,6 +28,7 @@ take-off-spec =
     (λ c. search needs)
     (λ c. search needs)
     (λ c κs. search needs)
+    (λ c. search needs)
     touch-all-requires
     (λ c. search needs)
     returns)

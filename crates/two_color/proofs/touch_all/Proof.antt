@@ -23,17 +23,17 @@ loop-holds c = (omega arith, refl, refl)
 
 look-requires : tie.Need-look-requires Inv-loop μ-loop
 look-requires c κs =
-    let a = c .before .before .before .before .before .before .before .before .before .before .args in
-    let pre = c .before .before .before .before .before .before .before .before .before .before .pre in
+    let a = c .before .before .before .before .before .before .before .before .before .before .before .args in
+    let pre = c .before .before .before .before .before .before .before .before .before .before .before .pre in
     let l = c .before .before .loop in
     let color = c .before .before .before .before .before .before .before .get in
     let n = c .before .before .before .before .before .get2 in
     let row = c .before .before .before .get3 in
-    (pre .0, looks-ask (a .u) (a .p) (a .s .now) (a .v) (color .result) (n .result) (row .result) (l .t) (l .s) (color .ensures .0) (n .ensures .0) (row .ensures .0) (l .inv .2) (c .before .loop-test .taken) (pre .1 .1))
+    (pre .0, looks-ask (a .u) (a .p) (a .s .now) (a .w .0) (color .result) (n .result) (row .result) (l .t) (l .s) (color .ensures .0) (n .ensures .0) (row .ensures .0) (l .inv .2) (c .before .loop-test .taken) (pre .1))
 
 loop-again : tie.Need-loop-again Inv-loop μ-loop
 loop-again c =
-    let a = c .before .before .before .before .before .before .before .before .before .before .before .before .before .args in
+    let a = c .before .before .before .before .before .before .before .before .before .before .before .before .before .before .args in
     let l = c .before .before .before .before .before .loop in
     let color = c .before .before .before .before .before .before .before .before .before .before .get .result in
     let row = c .before .before .before .before .before .before .get3 .result in
@@ -51,6 +51,7 @@ touch-all-spec =
     (tie.spec
     Inv-loop
     μ-loop
+    (λ c. search needs)
     (λ c. search needs)
     (λ c. search needs)
     (λ c. search needs)
