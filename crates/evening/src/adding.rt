@@ -5,6 +5,8 @@ ghost use Prim.Native.Nat.{_+_, _*_, _<_};
 ghost use lib.ListN.{length};
 ghost use Rattle.words.specs.Words.{word, «put-word»};
 ghost use Rattle.evening.specs.Adding.{pushed, «Has-place», «Adds-pair»};
+use words::EdgeIndex;
+use words::NodeIndex;
 use words::set_word;
 use words::word_at;
 
@@ -18,17 +20,27 @@ fn add_to(s: &mut [u32], at: usize, more: usize)
     set_word(s, at, c + more);
 }
 
-// A new pair with the ends `l` and `r`, the last one of the graph at `g`, which has `m`: its row in the table of ends, its entry, and
-// one pair more.
-fn push_pair(s: &mut [u32], ends: usize, g: usize, m: usize, l: usize, r: usize, copies: usize)
+// The new pair `e` with the ends `l` and `r`, the last one of the graph at `g`, which has as many as `e` says: its row in the table of
+// ends, its entry, and one pair more.
+fn push_pair(
+    s: &mut [u32],
+    ends: usize,
+    g: usize,
+    e: EdgeIndex,
+    l: NodeIndex,
+    r: NodeIndex,
+    copies: usize,
+)
     requires { ⌜ ends < 4294967296 ⌝ }
     requires { ⌜ g < 4294967296 ⌝ }
-    requires { ⌜ m < 4294967296 ⌝ }
-    requires { ⌜ (ends + 2 * m + 1 < length (now s)) × (g + 3 + 2 * m < length (now s)) ⌝ }
-    ensures { λ x. ⌜ now (s .exit) ≡ pushed ends g m l r copies (now (s .entry)) ⌝ }
+    requires { ⌜ (ends + 2 * e .0 + 1 < length (now s)) × (g + 3 + 2 * e .0 < length (now s)) ⌝ }
+    ensures { λ x. ⌜ now (s .exit) ≡ pushed ends g (e .0) (l .0) (r .0) copies (now (s .entry)) ⌝ }
 {
-    set_word(s, ends + 2 * m, l);
-    set_word(s, ends + 2 * m + 1, r);
+    let m = e.0 as usize;
+    let v = l.0 as usize;
+    let w = r.0 as usize;
+    set_word(s, ends + 2 * m, v);
+    set_word(s, ends + 2 * m + 1, w);
     set_word(s, g + 2 + 2 * m, m);
     set_word(s, g + 3 + 2 * m, copies);
     set_word(s, g + 1, m + 1);
@@ -39,21 +51,22 @@ pub(crate) fn add_pair(
     s: &mut [u32],
     ends: usize,
     g: usize,
-    e: usize,
-    l: usize,
-    r: usize,
+    e: EdgeIndex,
+    l: NodeIndex,
+    r: NodeIndex,
     copies: usize,
 )
     requires { ⌜ ends < 4294967296 ⌝ }
     requires { ⌜ g < 4294967296 ⌝ }
     requires { ⌜ copies < 4294967296 ⌝ }
     requires { ⌜ Has-place ends g (now s) ⌝ }
-    ensures { λ x. ⌜ Adds-pair ends g e l r copies (now (s .entry)) (now (s .exit)) ⌝ }
+    ensures { λ x. ⌜ Adds-pair ends g (e .0) (l .0) (r .0) copies (now (s .entry)) (now (s .exit)) ⌝ }
 {
+    let i = e.0 as usize;
     let m = word_at(s, g + 1);
-    if e < m {
-        add_to(s, g + 3 + 2 * e, copies);
+    if i < m {
+        add_to(s, g + 3 + 2 * i, copies);
         return;
     }
-    push_pair(s, ends, g, m, l, r, copies);
+    push_pair(s, ends, g, EdgeIndex(m as u32), l, r, copies);
 }

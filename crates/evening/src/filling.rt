@@ -10,6 +10,8 @@ use crate::adding::add_pair;
 use crate::ends::joins;
 use crate::rows::RowBases;
 use crate::rows::fill_rows;
+use words::EdgeIndex;
+use words::NodeIndex;
 use words::get;
 use words::put;
 
@@ -41,36 +43,42 @@ fn lacks(d: usize, x: usize) -> usize
 
 // The number of the pair with the ends `l` and `r`: that of an appointment in the row of `l` with these ends, or the next number
 // if there is none. A row has at most d half-edges and a party is filled at most once, so this is linear in all.
-fn find_pair(s: &[u32], list: &[u16], at: Bases, rows: RowBases, l: usize, r: usize) -> usize
-    requires { ⌜ Fill-small at rows × (l < 4294967296) × (r < 4294967296) ⌝ }
-    ensures { λ e. ⌜ Pair-found (now (list .entry)) at rows l r (now (s .entry)) e ⌝ }
+fn find_pair(s: &[u32], list: &[u16], at: Bases, rows: RowBases, l: NodeIndex, r: NodeIndex) -> EdgeIndex
+    requires { ⌜ Fill-small at rows ⌝ }
+    ensures { λ e. ⌜ Pair-found (now (list .entry)) at rows (l .0) (r .0) (now (s .entry)) (e .0) ⌝ }
 {
-    let from = rows.rows + rows.d * l;
+    let v = l.0 as usize;
+    let w = r.0 as usize;
+    let from = rows.rows + rows.d * v;
     let mut t = 0;
     while t < rows.d {
         let i = get(s, from + t) / 2;
-        let joined = joins(list, i, l, r);
+        let joined = joins(list, i, v, w);
         if joined == 1 {
-            return get(s, at.apair + i);
+            let e = get(s, at.apair + i);
+            return EdgeIndex(e as u32);
         }
         t += 1;
     }
-    get(s, at.g + 1)
+    let e = get(s, at.g + 1);
+    EdgeIndex(e as u32)
 }
 
 // Adds the smaller shortfall of `l` and `r` as copies of their pair, and to both degrees.
-fn fill(s: &mut [u32], list: &[u16], at: Bases, rows: RowBases, l: usize, r: usize)
-    requires { ⌜ Fill-small at rows × (l < 4294967296) × (r < 4294967296) ⌝ }
+fn fill(s: &mut [u32], list: &[u16], at: Bases, rows: RowBases, l: NodeIndex, r: NodeIndex)
+    requires { ⌜ Fill-small at rows ⌝ }
     requires { ⌜ Has-place (at .ends) (at .g) (now s) ⌝ }
-    ensures { λ x. ⌜ Filled (now (list .entry)) at rows l r (now (s .entry)) (now (s .exit)) ⌝ }
+    ensures { λ x. ⌜ Filled (now (list .entry)) at rows (l .0) (r .0) (now (s .entry)) (now (s .exit)) ⌝ }
 {
-    let dl = get(s, rows.counts + l);
-    let dr = get(s, rows.counts + r);
+    let v = l.0 as usize;
+    let w = r.0 as usize;
+    let dl = get(s, rows.counts + v);
+    let dr = get(s, rows.counts + w);
     let more = smaller(lacks(rows.d, dl), lacks(rows.d, dr));
     let e = find_pair(s, list, at, rows, l, r);
     add_pair(s, at.ends, at.g, e, l, r, more);
-    put(s, rows.counts + l, dl + more);
-    put(s, rows.counts + r, dr + more);
+    put(s, rows.counts + v, dl + more);
+    put(s, rows.counts + w, dr + more);
 }
 
 // One step: a full party is passed, or the smaller shortfall of two short ones is added. After the last left party nothing
@@ -109,7 +117,7 @@ fn even_step(
             r: passed.r + 1,
         };
     }
-    fill(s, list, at, rows, l, r);
+    fill(s, list, at, rows, NodeIndex(l as u32), NodeIndex(r as u32));
     passed
 }
 

@@ -10,6 +10,8 @@ use crate::adding::add_pair;
 use crate::representatives::rep_rows;
 use crate::rows::RowBases;
 use crate::rows::fill_rows;
+use words::EdgeIndex;
+use words::NodeIndex;
 use words::half_word_at;
 use words::put;
 use words::set_word;
@@ -17,16 +19,18 @@ use words::word_at;
 
 // The number of appointment `i`'s pair, for which its representative stands at `apair`: that of an earlier appointment, or the
 // next number.
-fn pair_of(s: &[u32], g: usize, apair: usize, i: usize) -> usize
+fn pair_of(s: &[u32], g: usize, apair: usize, i: usize) -> EdgeIndex
     requires { ⌜ (g < 4294967296) × (apair < 4294967296) × (i < 4294967296) ⌝ }
     requires { ⌜ (apair + i < length (now s)) × (g + 1 < length (now s)) ⌝ }
-    ensures { λ r. ⌜ r ≡ pair-of g apair i (now (s .entry)) ⌝ }
+    ensures { λ r. ⌜ r .0 ≡ pair-of g apair i (now (s .entry)) ⌝ }
 {
     let j = word_at(s, apair + i);
     if j < i {
-        return word_at(s, apair + j);
+        let e = word_at(s, apair + j);
+        return EdgeIndex(e as u32);
     }
-    word_at(s, g + 1)
+    let e = word_at(s, g + 1);
+    EdgeIndex(e as u32)
 }
 
 // One copy for appointment `i`: its pair gets it, and the pair's number takes the place of the representative.
@@ -38,8 +42,9 @@ fn add_appointment(s: &mut [u32], list: &[u16], at: Bases, i: usize)
     let e = pair_of(s, at.g, at.apair, i);
     let x = half_word_at(list, 2 * i);
     let y = half_word_at(list, 2 * i + 1);
-    add_pair(s, at.ends, at.g, e, x, y, 1);
-    set_word(s, at.apair + i, e);
+    add_pair(s, at.ends, at.g, e, NodeIndex(x as u32), NodeIndex(y as u32), 1);
+    let k = e.0 as usize;
+    set_word(s, at.apair + i, k);
 }
 
 // One copy for each appointment, in list order.

@@ -36,7 +36,7 @@ returns-4 c =
     right-full (omega (arith, c .before .before .before .before .before .before .before .before .before .before .before .before .before .before .before .before .before .before .before .before .before .if1 .left)) (λ q. c .before .before .before .before .before .before .before .before .before .before .before .before .if2 .left (sym e ∙ q)) (omega (arith, c .before .before .before .before .before .before .before .before .before .before .if3 .left)) (f ∙ c .before .if4 .taken) refl refl refl
 
 fill-requires : tie.Need-fill-requires
-fill-requires c κs = ((c .before .before .before .before .before .before .before .before .before .before .before .before .before .before .before .before .before .before .before .before .before .before .before .before .before .pre .0 .0, c .before .before .before .before .before .before .before .before .before .before .before .before .before .before .before .before .before .get .ensures .1, c .before .before .before .before .before .before .get3 .ensures .1), c .before .before .before .before .before .before .before .before .before .before .before .before .before .before .before .before .before .before .before .before .before .before .before .before .before .pre .1 (omega (arith, c .before .before .before .before .before .before .before .before .before .before .before .before .before .before .before .before .before .before .before .before .before .if1 .left)))
+fill-requires c κs = (c .before .before .before .before .before .before .before .before .before .before .before .before .before .before .before .before .before .before .before .before .before .before .before .before .before .pre .0 .0, c .before .before .before .before .before .before .before .before .before .before .before .before .before .before .before .before .before .before .before .before .before .before .before .before .before .pre .1 (omega (arith, c .before .before .before .before .before .before .before .before .before .before .before .before .before .before .before .before .before .before .before .before .before .if1 .left)))
 
 returns-5 : tie.Need-returns-5
 returns-5 c =
@@ -66,6 +66,8 @@ even-step-spec =
     add-t22
     (λ c. search needs)
     returns-4
+    (λ c. search needs)
+    (λ c. search needs)
     fill-requires
     (λ c. search needs)
     returns-5)

@@ -9,24 +9,26 @@ use Rattle.evening.proofs.filling.fill.Statement.{statement}
 use Rattle.evening.proofs.filling.fill.Tie as tie
 
 add-put : tie.Need-add-put
-add-put c = omega (arith, c .before .before .before .before .before .before .before .before .before .before .before .before .before .before .before .before .before .before .before .pre .0 .0 .counts, c .before .before .before .before .before .before .before .before .before .before .before .before .before .before .before .before .before .before .before .pre .0 .1)
+add-put c = omega (arith, c .before .before .before .before .before .before .before .before .before .before .before .before .before .before .before .before .before .before .before .before .before .pre .0 .counts, c .before .before .before .before .before .before .before .before .before .before .before .before .before .before .before .before .before .before .struct-known .given)
 
 add-put-3 : tie.Need-add-put-3
-add-put-3 c = omega (arith, c .before .before .before .before .before .before .before .before .before .before .before .before .before .before .before .before .before .before .before .before .before .before .before .before .pre .0 .0 .counts, c .before .before .before .before .before .before .before .before .before .before .before .before .before .before .before .before .before .before .before .before .before .before .before .before .pre .0 .2)
+add-put-3 c = omega (arith, c .before .before .before .before .before .before .before .before .before .before .before .before .before .before .before .before .before .before .before .before .before .before .before .before .before .before .pre .0 .counts, c .before .before .before .before .before .before .before .before .before .before .before .before .before .before .before .before .before .before .before .before .before .before .struct-known2 .given)
 
 add-put-4 : tie.Need-add-put-4
-add-put-4 c = omega (arith, c .before .before .before .before .before .before .before .before .before .before .before .before .before .before .before .before .get2 .ensures .1, c .before .before .before .before .before .before .before .before .before .before .before .before .before .smaller .ensures, c .before .before .before .before .before .before .before .before .before .before .before .before .before .before .lacks2 .ensures, c .before .before .before .before .before .before .before .before .before .before .before .before .before .before .before .before .before .before .before .before .before .before .before .before .pre .0 .0 .degree)
+add-put-4 c = omega (arith, c .before .before .before .before .before .before .before .before .before .before .before .before .before .before .before .before .get2 .ensures .1, c .before .before .before .before .before .before .before .before .before .before .before .before .before .smaller .ensures, c .before .before .before .before .before .before .before .before .before .before .before .before .before .before .lacks2 .ensures, c .before .before .before .before .before .before .before .before .before .before .before .before .before .before .before .before .before .before .before .before .before .before .before .before .before .before .pre .0 .degree)
 
 returns : tie.Need-returns
 returns c =
-    let a = c .before .before .before .before .before .before .before .before .before .before .before .before .before .before .before .before .before .before .before .before .before .before .before .before .before .before .before .args in
+    let a = c .before .before .before .before .before .before .before .before .before .before .before .before .before .before .before .before .before .before .before .before .before .before .before .before .before .before .before .before .before .args in
     let em : c .before .before .before .before .before .before .before .before .before .before .before .before .before .before .before .before .smaller .result ≡ min (a .rows .d - c .before .before .before .before .before .before .before .before .before .before .before .before .before .before .before .before .before .before .before .before .before .before .get .result) (a .rows .d - c .before .before .before .before .before .before .before .before .before .before .before .before .before .before .before .before .before .before .before .get2 .result) = rw (c .before .before .before .before .before .before .before .before .before .before .before .before .before .before .before .before .before .before .lacks .ensures, c .before .before .before .before .before .before .before .before .before .before .before .before .before .before .before .before .before .lacks2 .ensures) at (c .before .before .before .before .before .before .before .before .before .before .before .before .before .before .before .before .smaller .ensures) in
-    filled-by (a .list .now) (a .at) (a .rows) (a .l) (a .r) (a .s .now) (c .before .before .put2 .last .0) (c .before .before .before .before .before .before .before .before .before .before .before .before .add-pair .last .0) (c .before .before .before .before .before .before .before .put .last .0) (c .before .before .before .before .before .before .before .before .before .before .before .before .before .before .before .before .before .before .before .before .before .before .get .result) (c .before .before .before .before .before .before .before .before .before .before .before .before .before .before .before .before .before .before .before .get2 .result) (c .before .before .before .before .before .before .before .before .before .before .before .before .before .before .before .before .smaller .result) (c .before .before .before .before .before .before .before .before .before .before .before .before .before .before .find-pair .result) (c .before .before .before .before .before .before .before .before .before .before .before .before .before .before .before .before .before .before .before .before .before .before .get .ensures .0) (c .before .before .before .before .before .before .before .before .before .before .before .before .before .before .before .before .before .before .before .get2 .ensures .0) em (c .before .before .before .before .before .before .before .before .before .before .before .before .before .before .find-pair .ensures) (c .before .before .before .before .before .before .before .before .before .before .before .before .add-pair .ensures) (c .before .before .before .before .before .before .before .put .ensures) (c .before .before .put2 .ensures)
+    filled-by (a .list .now) (a .at) (a .rows) (a .l .0) (a .r .0) (a .s .now) (c .before .before .put2 .last .0) (c .before .before .before .before .before .before .before .before .before .before .before .before .add-pair .last .0) (c .before .before .before .before .before .before .before .put .last .0) (c .before .before .before .before .before .before .before .before .before .before .before .before .before .before .before .before .before .before .before .before .before .before .get .result) (c .before .before .before .before .before .before .before .before .before .before .before .before .before .before .before .before .before .before .before .get2 .result) (c .before .before .before .before .before .before .before .before .before .before .before .before .before .before .before .before .smaller .result) (c .before .before .before .before .before .before .before .before .before .before .before .before .before .before .find-pair .result .0) (c .before .before .before .before .before .before .before .before .before .before .before .before .before .before .before .before .before .before .before .before .before .before .get .ensures .0) (c .before .before .before .before .before .before .before .before .before .before .before .before .before .before .before .before .before .before .before .get2 .ensures .0) em (c .before .before .before .before .before .before .before .before .before .before .before .before .before .before .find-pair .ensures) (c .before .before .before .before .before .before .before .before .before .before .before .before .add-pair .ensures) (c .before .before .before .before .before .before .before .put .ensures) (c .before .before .put2 .ensures)
 
 pub fill-spec : {M : Type 1} → statement M
 fill-spec =
     tie.close
     (tie.spec
+    (λ c. search needs)
+    (λ c. search needs)
     (λ c. search needs)
     (λ c κs. search needs)
     (λ c. search needs)

@@ -18,15 +18,15 @@ add-pair-requires c κs =
 
 returns : tie.Need-returns
 returns c =
-    let a = c .before .before .before .before .before .before .before .before .before .before .before .before .before .before .before .args in
-    let ee : c .before .before .before .before .before .before .before .before .before .before .before .pair-of .result ≡ pair-of (a .at .g) (a .at .apair) (a .i) (a .s .now) = c .before .before .before .before .before .before .before .before .before .before .before .pair-of .ensures in
-    let ex : c .before .before .before .before .before .before .before .before .before .before .half-word-at .result ≡ first-of (a .list .now) (a .i) = c .before .before .before .before .before .before .before .before .before .before .half-word-at .ensures .0 in
-    let ey : c .before .before .before .before .before .before .before .before .before .half-word-at2 .result ≡ second-of (a .list .now) (a .i) = c .before .before .before .before .before .before .before .before .before .half-word-at2 .ensures .0 in
-    let h = c .before .before .before .before .before .before .before .before .before .before .before .before .before .before .before .pre .0 in
-    let inside = c .before .before .before .before .before .before .before .before .before .before .before .before .before .before .before .pre .1 in
+    let a = c .before .before .before .before .before .before .before .before .before .before .before .before .before .before .before .before .args in
+    let ee : c .before .before .before .before .before .before .before .before .before .before .before .before .pair-of .result .0 ≡ pair-of (a .at .g) (a .at .apair) (a .i) (a .s .now) = c .before .before .before .before .before .before .before .before .before .before .before .before .pair-of .ensures in
+    let ex : c .before .before .before .before .before .before .before .before .before .before .before .half-word-at .result ≡ first-of (a .list .now) (a .i) = c .before .before .before .before .before .before .before .before .before .before .before .half-word-at .ensures .0 in
+    let ey : c .before .before .before .before .before .before .before .before .before .before .half-word-at2 .result ≡ second-of (a .list .now) (a .i) = c .before .before .before .before .before .before .before .before .before .before .half-word-at2 .ensures .0 in
+    let h = c .before .before .before .before .before .before .before .before .before .before .before .before .before .before .before .before .pre .0 in
+    let inside = c .before .before .before .before .before .before .before .before .before .before .before .before .before .before .before .before .pre .1 in
     let fit = fits (a .list .now) (a .at) (a .i) (a .s .now) h inside (omega (arith, ex)) (omega (arith, ey)) in
-    let add : Pair-added (a .at .ends) (a .at .g) (pair-of (a .at .g) (a .at .apair) (a .i) (a .s .now)) (first-of (a .list .now) (a .i)) (second-of (a .list .now) (a .i)) 1 (a .s .now) (c .before .before .before .before .before .before .before .add-pair .last .0) = (rw (ee, ex, ey) at (c .before .before .before .before .before .before .before .add-pair .ensures)) fit in
-    built (a .list .now) (a .at) (a .i) (a .s .now) h inside fit (c .before .before .before .before .before .before .before .add-pair .last .0) (c .before .before .set-word .last .0) add (rw ee at (c .before .before .set-word .ensures))
+    let add : Pair-added (a .at .ends) (a .at .g) (pair-of (a .at .g) (a .at .apair) (a .i) (a .s .now)) (first-of (a .list .now) (a .i)) (second-of (a .list .now) (a .i)) 1 (a .s .now) (c .before .before .before .before .before .before .before .before .add-pair .last .0) = (rw (ee, ex, ey) at (c .before .before .before .before .before .before .before .before .add-pair .ensures)) fit in
+    built (a .list .now) (a .at) (a .i) (a .s .now) h inside fit (c .before .before .before .before .before .before .before .before .add-pair .last .0) (c .before .before .set-word .last .0) add (rw ee at (c .before .before .set-word .ensures))
 
 pub add-appointment-spec : {M : Type 1} → statement M
 add-appointment-spec =
@@ -38,7 +38,10 @@ add-appointment-spec =
     (λ c. search needs)
     (λ c. search needs)
     (λ c κs. search needs)
+    (λ c. search needs)
+    (λ c. search needs)
     add-pair-requires
+    (λ c. search needs)
     (λ c. search needs)
     (λ c κs. search needs)
     (λ c. search needs)

@@ -23,7 +23,9 @@ pair-of-spec =
     (λ c κs. search needs)
     (λ c. search needs)
     (λ c κs. search needs)
+    (λ c. search needs)
     returns
     (λ c. search needs)
     (λ c κs. search needs)
+    (λ c. search needs)
     returns-2)
