@@ -43,7 +43,14 @@ fn lacks(d: usize, x: usize) -> usize
 
 // The number of the pair with the ends `l` and `r`: that of an appointment in the row of `l` with these ends, or the next number
 // if there is none. A row has at most d half-edges and a party is filled at most once, so this is linear in all.
-fn find_pair(s: &[u32], list: &[u16], at: Bases, rows: RowBases, l: NodeIndex, r: NodeIndex) -> EdgeIndex
+fn find_pair(
+    s: &[u32],
+    list: &[u16],
+    at: Bases,
+    rows: RowBases,
+    l: NodeIndex,
+    r: NodeIndex,
+) -> EdgeIndex
     requires { ⌜ Fill-small at rows ⌝ }
     ensures { λ e. ⌜ Pair-found (now (list .entry)) at rows (l .0) (r .0) (now (s .entry)) (e .0) ⌝ }
 {

@@ -42,7 +42,15 @@ fn add_appointment(s: &mut [u32], list: &[u16], at: Bases, i: usize)
     let e = pair_of(s, at.g, at.apair, i);
     let x = half_word_at(list, 2 * i);
     let y = half_word_at(list, 2 * i + 1);
-    add_pair(s, at.ends, at.g, e, NodeIndex(x as u32), NodeIndex(y as u32), 1);
+    add_pair(
+        s,
+        at.ends,
+        at.g,
+        e,
+        NodeIndex(x as u32),
+        NodeIndex(y as u32),
+        1,
+    );
     let k = e.0 as usize;
     set_word(s, at.apair + i, k);
 }

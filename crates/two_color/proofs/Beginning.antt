@@ -16,7 +16,7 @@ use Rattle.appointments.specs.Appointments.{Appt, appts, load}
 use Rattle.appointments.proofs.Loads.{Listed, load-reverse}
 use Rattle.two_color.specs.TwoColor.{colour-of, second-ends, first-ends, neighbours, side}
 use Rattle.two_color.specs.Model.{Small, right-place, colour-place, refused-place, next-place, stack-count, left-count, right-count, row-count, row-start, row-place, clearStateM, startPartyM, startPartiesM, fillRowsM, prepareM}
-use Rattle.two_color.specs.Bounds.{Fills, Prepares}
+use Rattle.two_color.specs.Bounds.{Can-fill, Can-prepare}
 use Rattle.two_color.specs.Contract.{Can-color}
 use Rattle.two_color.proofs.Held.{newest, held-none, Rows}
 use Rattle.two_color.proofs.Showing.{within-refl, Shows}
@@ -215,7 +215,7 @@ module _ (u p d : ℕ) (list s : List ℕ) (can : Can-color p d u list s) (some 
   abbrev after-firsts : List ℕ
   after-firsts = fillRowsM u p list 0 1 (length list / 2) parties
 
-  firsts : Filled u p d parties (λ v. second-ends v ys) after-firsts × Fills u p list 0 1 (length list / 2) parties
+  firsts : Filled u p d parties (λ v. second-ends v ys) after-firsts × Can-fill u p list 0 1 (length list / 2) parties
   unfolding ys
   firsts =
       fill-filled u p d small parties fits (can .narrow) list 0 1 _ _ (first-ends-of p list) (length list / 2)
@@ -223,7 +223,7 @@ module _ (u p d : ℕ) (list s : List ℕ) (can : Can-color p d u list s) (some 
 
   seconds :
       Filled u p d parties (λ v. second-ends v ys ++ first-ends v ys) (prepareM u p d list s)
-      × Fills u p list 1 0 (length list / 2) after-firsts
+      × Can-fill u p list 1 0 (length list / 2) after-firsts
   unfolding prepareM parties cleared ys
   seconds =
       fill-filled u p d small parties fits (can .narrow) list 1 0 _ _ (second-ends-of p list) (length list / 2)
@@ -233,7 +233,7 @@ module _ (u p d : ℕ) (list s : List ℕ) (can : Can-color p d u list s) (some 
   full-rows = seconds .0
 
   -- The rows have room for all that they get.
-  pub prepared-fits : Prepares u p d list s
+  pub prepared-fits : Can-prepare u p d list s
   unfolding parties cleared
   prepared-fits = record { firsts = firsts .1; seconds = seconds .1 }
 

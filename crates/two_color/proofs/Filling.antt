@@ -18,7 +18,7 @@ use Rattle.appointments.specs.Appointments.{Appt, appt}
 use Rattle.appointments.proofs.Loads.{Listed}
 use Rattle.two_color.specs.TwoColor.{far-ends}
 use Rattle.two_color.specs.Model.{Small, row-count, row-start, row-place, appendM, pushEndM, fillRowsM}
-use Rattle.two_color.specs.Bounds.{Pushes, Fills}
+use Rattle.two_color.specs.Bounds.{Can-push, Can-fill}
 use Rattle.two_color.proofs.Regions.{Same}
 use Rattle.two_color.proofs.Held.{Held, held-same, held-more, Appended, append-does, Rows}
 use Rattle.two_color.proofs.Backwards.{backwards}
@@ -60,7 +60,7 @@ module _ (u p d : ℕ) (small : Small u p) (s₀ : List ℕ) (fits : u + 6 * p +
         append-does (row-count u p v) (row-place u p d v) (length (f v)) w s (x .rows .held v below .count) (omega (arith, x .frame .len)) (omega (arith, x .frame .len)) (λ q. omega arith) (omega arith) w-low
 
     -- it has a place in its row
-    pushes : Pushes u p v s
+    pushes : Can-push u p v s
     pushes =
         let len : length s ≡ length s₀ = x .frame .len in
         let end : d * v + d ≤ d * p = row-end d v p below in
@@ -109,7 +109,7 @@ module _ (u p d : ℕ) (small : Small u p) (s₀ : List ℕ) (fits : u + 6 * p +
     pub fill-filled :
         (n : ℕ) (f : ℕ → List ℕ) (s : List ℕ) → All (Listed p) (backwards list n) →
         ((v : ℕ) → v < p → length (f v) + length (ends v (backwards list n)) ≤ d) → Filled u p d s₀ f s →
-        Filled u p d s₀ (λ v. f v ++ ends v (backwards list n)) (fillRowsM u p list near far n s) × Fills u p list near far n s
+        Filled u p d s₀ (λ v. f v ++ ends v (backwards list n)) (fillRowsM u p list near far n s) × Can-fill u p list near far n s
     unfolding fillRowsM backwards pushEndM far-ends
     fill-filled zero f s listed wide x = (filled-as f _ (λ v. sym (append-nil (f v))) x, tt)
     fill-filled (suc i) f s listed wide x =

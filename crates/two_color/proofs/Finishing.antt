@@ -14,7 +14,7 @@ use Rattle.appointments.specs.Appointments.{Appt, appts}
 use Rattle.two_color.specs.TwoColor.{Colouring, neighbours, Search, going, refused, search-below, side, sides, two-color}
 use Rattle.two_color.specs.Contract.{region, Can-color, Colored}
 use Rattle.two_color.specs.Model.{Small, right-place, refused-place, left-count, prepareM, stepsM}
-use Rattle.two_color.specs.Bounds.{Steps-all}
+use Rattle.two_color.specs.Bounds.{Can-step-all}
 use Rattle.two_color.specs.declared.TwoColoring.the-variants.{Sides, NotBipartite}
 use Rattle.two_color.proofs.Colouring.{sides-length, coloured-all}
 use Rattle.two_color.proofs.Search.{neighbours-below}
@@ -63,7 +63,7 @@ module _ (u p d : ℕ) (list s : List ℕ) (can : Can-color p d u list s) (some 
   met v = all-map (λ w h. h .1) (neighbours v (appts list)) (neighbours-below p (appts list) 0 (can .listed) v)
 
   -- Every step can be made.
-  pub all-fit : (t : List ℕ) → t ≡ first-words u p d list s → Steps-all u p (2 * p) t
+  pub all-fit : (t : List ℕ) → t ≡ first-words u p d list s → Can-step-all u p (2 * p) t
   unfolding xs
   all-fit t e = rw e (steps-fit u p small (first-words u p d list s) fits d xs (begun .rows) met (begun .inside) (2 * p) (begun .shows))
 

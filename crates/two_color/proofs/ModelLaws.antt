@@ -7,7 +7,7 @@ use native.Mathlib.Numerals.{add-one}
 use borrow.Author.Tests.{eq-eqb, ne-eqb, lt-ltb, le-ltb}
 use Rattle.words.specs.Words.{word, put-word}
 use Rattle.two_color.specs.Model.{right-place, colour-place, refused-place, next-place, stack-count, left-count, right-count, row-count, row-start, appendM, startPartyM, startPartiesM, pushEndM, fillRowsM, stacked, colorPartyM, touchM, lookM, looksM, takeOffM, nextPartyM, stepM, stepsM}
-use Rattle.two_color.specs.Bounds.{Pushes, Fills, Paints, Looks, Looks-all, Goes-on}
+use Rattle.two_color.specs.Bounds.{Can-push, Can-fill, Can-color-party, Can-look, Can-look-all, Can-go-on}
 
 module _ (u p : ℕ) (s : List ℕ) where
   pub color-left : (w color : ℕ) → color ≡ 0 → colorPartyM u p w color s ≡ appendM (left-count u p) u w (stacked u p w color s)
@@ -46,7 +46,7 @@ module _ (u p : ℕ) (s : List ℕ) where
   unfolding nextPartyM
   next-passes v e h k = rw (e, lt-ltb v p h, ne-eqb (word s (colour-place u p v)) 2 k)
 
-  pub next-paints : (v : ℕ) → word s (next-place u p) ≡ v → v < p → word s (colour-place u p v) ≡ 2 → Goes-on u p s → Paints u p v 1 (put-word s (next-place u p) (v + 1))
+  pub next-paints : (v : ℕ) → word s (next-place u p) ≡ v → v < p → word s (colour-place u p v) ≡ 2 → Can-go-on u p s → Can-color-party u p v 1 (put-word s (next-place u p) (v + 1))
   next-paints v e h k g = rw e at (g .paints) h k
 
   pub step-rests : (word s (refused-place u p) ≡ 0 → ⊥) → stepM u p s ≡ s
@@ -68,7 +68,7 @@ module _ (u p : ℕ) (s : List ℕ) where
   -- the loop of `touch_all`: its next neighbour can be looked at, and one turn further
   pub looks-ask :
       (v color n row t : ℕ) (x : List ℕ) → color ≡ word s (colour-place u p v) → n ≡ word s (row-count u p v) → row ≡ word s (row-start u p v) →
-      x ≡ looksM u p (1 - color % 2) row t s → t < n → Looks-all u p v s → Looks u p (1 - color % 2) (row + t) x
+      x ≡ looksM u p (1 - color % 2) row t s → t < n → Can-look-all u p v s → Can-look u p (1 - color % 2) (row + t) x
   looks-ask v color n row t x ec en er ex l h = rw (ex, er, ec) (h .looks t (omega arith))
 
   pub looks-more :
@@ -81,13 +81,13 @@ module _ (u p : ℕ) (s : List ℕ) where
   steps-more k = rw (add-one k)
 
   -- the loop of `fill_rows`: its next push has room, and what is left after it is left of the same whole
-  pub fill-asks : (list : List ℕ) (near far i : ℕ) → 0 < i → Fills u p list near far i s → Pushes u p (word list (2 * (i - 1) + near)) s
+  pub fill-asks : (list : List ℕ) (near far i : ℕ) → 0 < i → Can-fill u p list near far i s → Can-push u p (word list (2 * (i - 1) + near)) s
   fill-asks list near far zero h f = absurd (omega arith)
   fill-asks list near far (suc i) h f = let e : suc i - 1 ≡ i = omega arith in rw e (f .0)
 
   pub fill-on :
-      (list : List ℕ) (near far i : ℕ) (t : List ℕ) → 0 < i → Fills u p list near far i s → t ≡ pushEndM u p list (2 * (i - 1) + near) (2 * (i - 1) + far) s →
-      Fills u p list near far (i - 1) t × (fillRowsM u p list near far (i - 1) t ≡ fillRowsM u p list near far i s)
+      (list : List ℕ) (near far i : ℕ) (t : List ℕ) → 0 < i → Can-fill u p list near far i s → t ≡ pushEndM u p list (2 * (i - 1) + near) (2 * (i - 1) + far) s →
+      Can-fill u p list near far (i - 1) t × (fillRowsM u p list near far (i - 1) t ≡ fillRowsM u p list near far i s)
   unfolding fillRowsM
   fill-on list near far zero t h f e = absurd (omega arith)
   fill-on list near far (suc i) t h f e = let q : suc i - 1 ≡ i = omega arith in rw (e, q) (f .1, refl)

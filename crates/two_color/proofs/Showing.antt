@@ -12,7 +12,7 @@ use Rattle.words.proofs.Frames.{here, away, length-put}
 use Rattle.words.proofs.Sums.{all-map}
 use Rattle.two_color.specs.TwoColor.{Coloured-party, Colouring, coloured, colour-of, Search, going, refused, side}
 use Rattle.two_color.specs.Model.{Small, right-place, stack-place, colour-place, refused-place, next-place, stack-count, left-count, right-count, appendM, stacked, colorPartyM}
-use Rattle.two_color.specs.Bounds.{Appends, Paints}
+use Rattle.two_color.specs.Bounds.{Can-append, Can-color-party}
 use Rattle.two_color.proofs.ModelLaws.{color-left, color-right}
 use Rattle.two_color.proofs.Colouring.{colour-new, colour-other, still-coloured, Each-once, side-same, side-other, sides-length, coloured-le}
 use Rattle.two_color.proofs.Regions.{Same}
@@ -47,8 +47,8 @@ record Painted (u p w c k a h n : ℕ) (s t : List ℕ) : Type 0 where
   top : word t (u + 2 * p + h) ≡ w
   count : word t k ≡ n + 1
   last : word t (a + n) ≡ w
-  stack-fits : Appends (stack-count u p) (stack-place u p) (put-word s (colour-place u p w) c)
-  side-fits : Appends k a (stacked u p w c s)
+  stack-fits : Can-append (stack-count u p) (stack-place u p) (put-word s (colour-place u p w) c)
+  side-fits : Can-append k a (stacked u p w c s)
   other : (i : ℕ) → (i ≡ u + 3 * p + w → ⊥) → (i ≡ u + 4 * p + 2 → ⊥) → (i ≡ u + 2 * p + h → ⊥) → (i ≡ k → ⊥) → (i ≡ a + n → ⊥) → word t i ≡ word s i
 
 -- k counts a side, and a is where it stands
@@ -180,7 +180,7 @@ module _ (u p : ℕ) (small : Small u p) (s₀ : List ℕ) (fits : u + 4 * p + 5
         }
 
     -- A party without a colour gets c and goes on the stack and to the end of its side, where there is a place for it.
-    pub color-shows : Shows u p s₀ s so-far stack next → Shows u p s₀ (colorPartyM u p w c s) (coloured w c ∷ so-far) (w ∷ stack) next × Paints u p w c s
+    pub color-shows : Shows u p s₀ s so-far stack next → Shows u p s₀ (colorPartyM u p w c s) (coloured w c ∷ so-far) (w ∷ stack) next × Can-color-party u p w c s
     color-shows x =
         let inside : u + 4 * p + 5 ≤ length s = omega (arith, x .core .frame .len) in
         let coloured-low : suc (length so-far) ≤ p = coloured-le p (coloured w c ∷ so-far) (below, two, free, x .core .each-once) in

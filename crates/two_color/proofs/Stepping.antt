@@ -15,7 +15,7 @@ use Rattle.appointments.specs.Appointments.{Appt}
 use Rattle.two_color.specs.TwoColor.{Colouring, colour-of, neighbours, Search, going, refused, touch, touch-all, pop, side}
 use Rattle.two_color.specs.Contract.{region}
 use Rattle.two_color.specs.Model.{Small, stack-place, colour-place, refused-place, next-place, stack-count, left-count, right-count, row-count, row-start, row-place, touchM, lookM, looksM, touchAllM, takeOffM, nextPartyM, stepM, stepsM}
-use Rattle.two_color.specs.Bounds.{Touches, Looks, Looks-all, Takes-off, Goes-on, Steps, Steps-all}
+use Rattle.two_color.specs.Bounds.{Can-touch, Can-look, Can-look-all, Can-take-off, Can-go-on, Can-step, Can-step-all}
 use Rattle.two_color.proofs.ModelLaws.{touch-rests, touch-refuses, touch-colors, touch-passes, next-none, next-colors, next-passes, step-rests, step-next, step-off}
 use Rattle.two_color.proofs.Colouring.{colour-le, sides-length, coloured-le}
 use Rattle.two_color.proofs.Regions.{region-all}
@@ -60,7 +60,7 @@ module _ (u p : ℕ) (small : Small u p) (s₀ : List ℕ) (fits : u + 4 * p + 5
       go (no q) (no z) =
           rw (touch-passes u p s (1 - c) w (omega (arith, e, colour-le p so-far (x .core .each-once) w)), ne-eqb (colour-of w so-far) c q, ne-eqb (colour-of w so-far) 2 z) x
 
-  touch-fits : (c w : ℕ) → c ≤ 1 → w < p → (s : List ℕ) (r : Search) (k : ℕ) → Shown u p s₀ s r k → Touches u p (1 - c) w s
+  touch-fits : (c w : ℕ) → c ≤ 1 → w < p → (s : List ℕ) (r : Search) (k : ℕ) → Shown u p s₀ s r k → Can-touch u p (1 - c) w s
   touch-fits c w two below s refused k h = record { colour = omega (arith, h .1 .len); paints = λ e z. absurd (omega (arith, h .0)) }
   touch-fits c w two below s (going so-far stack) k x =
       record {
@@ -82,7 +82,7 @@ module _ (u p : ℕ) (small : Small u p) (s₀ : List ℕ) (fits : u + 4 * p + 5
         rw (touch-all-snoc c ws w r, e) (touch-shows c w two (a n (omega arith)) t (touch-all c ws r) k old)
 
     -- each of them can be looked at
-    looks-fit : (n : ℕ) → row + n ≤ length s₀ → ((i : ℕ) → i < n → word s₀ (row + i) < p) → (t : ℕ) → t < n → Looks u p (1 - c) (row + t) (looksM u p (1 - c) row t s)
+    looks-fit : (n : ℕ) → row + n ≤ length s₀ → ((i : ℕ) → i < n → word s₀ (row + i) < p) → (t : ℕ) → t < n → Can-look u p (1 - c) (row + t) (looksM u p (1 - c) row t s)
     looks-fit n inside a t l =
         let y : List ℕ = looksM u p (1 - c) row t s in
         let old : Shown u p s₀ y (touch-all c (region s₀ row t) r) k = looks-show t (λ i m. a i (omega arith)) in
@@ -122,7 +122,7 @@ module _ (u p : ℕ) (small : Small u p) (s₀ : List ℕ) (fits : u + 4 * p + 5
   module _ (d : ℕ) (xs : List Appt) (rows : Rows u p d (λ v. neighbours v xs) s₀) (met : (v : ℕ) → All (λ w. w < p) (neighbours v xs)) (inside : (v : ℕ) → v < p → row-place u p d v + length (neighbours v xs) ≤ length s₀) where
     -- ── a party comes off ──
 
-    row-shows : (v : ℕ) → v < p → (s : List ℕ) (so-far : Colouring) (stack : List ℕ) (k : ℕ) → colour-of v so-far ≤ 1 → Shows u p s₀ s so-far stack k → Shown u p s₀ (touchAllM u p v s) (touch-all (colour-of v so-far) (neighbours v xs) (going so-far stack)) k × Looks-all u p v s
+    row-shows : (v : ℕ) → v < p → (s : List ℕ) (so-far : Colouring) (stack : List ℕ) (k : ℕ) → colour-of v so-far ≤ 1 → Shows u p s₀ s so-far stack k → Shown u p s₀ (touchAllM u p v s) (touch-all (colour-of v so-far) (neighbours v xs) (going so-far stack)) k × Can-look-all u p v s
     unfolding touchAllM
     row-shows v below s so-far stack k two x =
         let row : ℕ = u + 6 * p + 5 + d * v in
@@ -143,7 +143,7 @@ module _ (u p : ℕ) (small : Small u p) (s₀ : List ℕ) (fits : u + 4 * p + 5
           },
         )
 
-    off-shows : (s : List ℕ) (so-far : Colouring) (v : ℕ) (stack : List ℕ) (k : ℕ) → Shows u p s₀ s so-far (v ∷ stack) k → Shown u p s₀ (takeOffM u p (suc (length stack)) s) (pop xs (going so-far (v ∷ stack))) k × Takes-off u p (suc (length stack)) s
+    off-shows : (s : List ℕ) (so-far : Colouring) (v : ℕ) (stack : List ℕ) (k : ℕ) → Shows u p s₀ s so-far (v ∷ stack) k → Shown u p s₀ (takeOffM u p (suc (length stack)) s) (pop xs (going so-far (v ∷ stack))) k × Can-take-off u p (suc (length stack)) s
     unfolding takeOffM pop newest
     off-shows s so-far v stack k x =
         let all : word s (u + 2 * p + length stack) ∷ newest s (stack-place u p) (length stack) ≡ v ∷ stack = x .core .waiting in
@@ -168,7 +168,7 @@ module _ (u p : ℕ) (small : Small u p) (s₀ : List ℕ) (fits : u + 4 * p + 5
         (here s (next-place u p) (k + 1) (omega (arith, x .core .frame .len)) (omega (arith, small .few)) ∙ omega arith)
         (away s (next-place u p) (stack-count u p) (k + 1) (λ e. omega arith) ∙ x .core .height)
 
-    next-fits : (s : List ℕ) (so-far : Colouring) (k : ℕ) → Shows u p s₀ s so-far [] k → Goes-on u p s
+    next-fits : (s : List ℕ) (so-far : Colouring) (k : ℕ) → Shows u p s₀ s so-far [] k → Can-go-on u p s
     next-fits s so-far k x =
         record {
           paints = rw (x .core .party) (λ below e.
@@ -204,7 +204,7 @@ module _ (u p : ℕ) (small : Small u p) (s₀ : List ℕ) (fits : u + 4 * p + 5
         ]
 
     -- it can be made
-    step-fits : (s : List ℕ) (r : Search) (k : ℕ) → Shown u p s₀ s r k → Steps u p s
+    step-fits : (s : List ℕ) (r : Search) (k : ℕ) → Shown u p s₀ s r k → Can-step u p s
     step-fits s refused k h = record { next = λ z e. absurd (omega (arith, h .0)); off = λ z n. absurd (omega (arith, h .0)) }
     step-fits s (going so-far (v ∷ stack)) k x =
         record { next = λ z e. absurd (omega (arith, x .core .height)); off = λ z n. rw (x .core .height) (off-shows s so-far v stack k x .1) }
@@ -219,7 +219,7 @@ module _ (u p : ℕ) (small : Small u p) (s₀ : List ℕ) (fits : u + 4 * p + 5
         let more : At (stepM u p (stepsM u p n s₀)) (turn p xs last) = step-shows (stepsM u p n s₀) (last .search) (last .next) (steps-show n x) in
         rw (iterate-suc-out n (turn p xs) (stage (going [] []) 0)) more
 
-    pub steps-fit : (n : ℕ) → Shows u p s₀ s₀ [] [] 0 → Steps-all u p n s₀
+    pub steps-fit : (n : ℕ) → Shows u p s₀ s₀ [] [] 0 → Can-step-all u p n s₀
     steps-fit n x =
         record {
           steps = λ k l.

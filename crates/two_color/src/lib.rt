@@ -19,7 +19,7 @@ ghost use Prim.Native.Nat.{_+_, _*_, _/_, _<_, _≤_};
 ghost use lib.ListN.{length};
 ghost use Rattle.words.specs.Words.{word};
 ghost use Rattle.two_color.specs.Model.{Small, appendM, clearStateM, startPartyM, startPartiesM, pushEndM, fillRowsM, colorPartyM, touchM, lookM, touchAllM, takeOffM, nextPartyM, stepM, stepsM, prepareM};
-ghost use Rattle.two_color.specs.Bounds.{Appends, Pushes, Fills, Prepares, Paints, Touches, Looks, «Looks-all», «Takes-off», «Goes-on», Steps, «Steps-all»};
+ghost use Rattle.two_color.specs.Bounds.{«Can-append», «Can-push», «Can-fill», «Can-prepare», «Can-color-party», «Can-touch», «Can-look», «Can-look-all», «Can-take-off», «Can-go-on», «Can-step», «Can-step-all»};
 ghost use Rattle.mark.specs.Taking.{«taken-more»};
 ghost use Rattle.two_color.specs.Contract.{«Can-color», Colored};
 use mark::Mark;
@@ -37,7 +37,7 @@ pub enum TwoColoring {
 // Puts `w` at the end of the list whose length stands at `k` and whose words start at `a`. Rows, stack and sides are such lists.
 fn append(s: &mut [u32], k: usize, a: usize, w: usize)
     requires { ⌜ a < 1099511627776 ⌝ }
-    requires { ⌜ Appends k a (now s) ⌝ }
+    requires { ⌜ Can-append k a (now s) ⌝ }
     ensures { λ r. ⌜ now (s .exit) ≡ appendM k a w (now (s .entry)) ⌝ }
 {
     let n = word_at(s, k);
@@ -87,7 +87,7 @@ fn start_parties(s: &mut [u32], u: usize, p: usize, d: usize)
 fn push_end(s: &mut [u32], u: usize, p: usize, list: &[u16], i: usize, j: usize)
     requires { ⌜ Small u p ⌝ }
     requires { ⌜ (i < length (now list)) × (j < length (now list)) ⌝ }
-    requires { ⌜ Pushes u p (word (now list) i) (now s) ⌝ }
+    requires { ⌜ Can-push u p (word (now list) i) (now s) ⌝ }
     ensures { λ r. ⌜ now (s .exit) ≡ pushEndM u p (now (list .entry)) i j (now (s .entry)) ⌝ }
 {
     let v = half_word_at(list, i);
@@ -101,7 +101,7 @@ fn fill_rows(s: &mut [u32], u: usize, p: usize, list: &[u16], near: usize, far: 
     requires { ⌜ Small u p ⌝ }
     requires { do ⌜ (← ⟦list.len()⟧) ≤ 8192 ⌝ }
     requires { ⌜ (near ≤ 1) × (far ≤ 1) ⌝ }
-    requires { do ⌜ Fills u p (now list) near far ((← ⟦list.len()⟧) / 2) (now s) ⌝ }
+    requires { do ⌜ Can-fill u p (now list) near far ((← ⟦list.len()⟧) / 2) (now s) ⌝ }
     ensures { λ r. do ⌜ now (s .exit) ≡ fillRowsM u p (now (list .entry)) near far ((← ⟦list.len()⟧ .entry) / 2) (now (s .entry)) ⌝ }
 {
     let mut i = list.len() / 2;
@@ -114,7 +114,7 @@ fn fill_rows(s: &mut [u32], u: usize, p: usize, list: &[u16], near: usize, far: 
 // A party gets its colour, goes on the stack and to the end of its side.
 fn color_party(s: &mut [u32], u: usize, p: usize, w: NodeIndex, color: usize)
     requires { ⌜ Small u p ⌝ }
-    requires { ⌜ Paints u p (w .0) color (now s) ⌝ }
+    requires { ⌜ Can-color-party u p (w .0) color (now s) ⌝ }
     ensures { λ r. ⌜ now (s .exit) ≡ colorPartyM u p (w .0) color (now (s .entry)) ⌝ }
 {
     let v = w.0 as usize;
@@ -131,7 +131,7 @@ fn color_party(s: &mut [u32], u: usize, p: usize, w: NodeIndex, color: usize)
 // Once it is refused nobody gets a colour.
 fn touch(s: &mut [u32], u: usize, p: usize, other: usize, w: NodeIndex)
     requires { ⌜ Small u p ⌝ }
-    requires { ⌜ Touches u p other (w .0) (now s) ⌝ }
+    requires { ⌜ Can-touch u p other (w .0) (now s) ⌝ }
     ensures { λ r. ⌜ now (s .exit) ≡ touchM u p other (w .0) (now (s .entry)) ⌝ }
 {
     let v = w.0 as usize;
@@ -152,7 +152,7 @@ fn touch(s: &mut [u32], u: usize, p: usize, other: usize, w: NodeIndex)
 // The neighbour whose number stands at `at`.
 fn look(s: &mut [u32], u: usize, p: usize, other: usize, at: usize)
     requires { ⌜ Small u p ⌝ }
-    requires { ⌜ Looks u p other at (now s) ⌝ }
+    requires { ⌜ Can-look u p other at (now s) ⌝ }
     ensures { λ r. ⌜ now (s .exit) ≡ lookM u p other at (now (s .entry)) ⌝ }
 {
     let w = word_at(s, at);
@@ -162,7 +162,7 @@ fn look(s: &mut [u32], u: usize, p: usize, other: usize, at: usize)
 // All neighbours of a party, in the order of its row.
 fn touch_all(s: &mut [u32], u: usize, p: usize, w: NodeIndex)
     requires { ⌜ Small u p ⌝ }
-    requires { ⌜ Looks-all u p (w .0) (now s) ⌝ }
+    requires { ⌜ Can-look-all u p (w .0) (now s) ⌝ }
     ensures { λ r. ⌜ now (s .exit) ≡ touchAllM u p (w .0) (now (s .entry)) ⌝ }
 {
     let v = w.0 as usize;
@@ -181,7 +181,7 @@ fn touch_all(s: &mut [u32], u: usize, p: usize, w: NodeIndex)
 fn take_off(s: &mut [u32], u: usize, p: usize, h: usize)
     requires { ⌜ Small u p ⌝ }
     requires { ⌜ (0 < h) × (h < 4294967296) ⌝ }
-    requires { ⌜ Takes-off u p h (now s) ⌝ }
+    requires { ⌜ Can-take-off u p h (now s) ⌝ }
     ensures { λ r. ⌜ now (s .exit) ≡ takeOffM u p h (now (s .entry)) ⌝ }
 {
     let v = words::get(s, u + 2 * p + (h - 1));
@@ -192,7 +192,7 @@ fn take_off(s: &mut [u32], u: usize, p: usize, h: usize)
 // On to the next party, which gets 1 if it has no colour. After the last there is none, and nothing happens.
 fn next_party(s: &mut [u32], u: usize, p: usize)
     requires { ⌜ Small u p ⌝ }
-    requires { ⌜ Goes-on u p (now s) ⌝ }
+    requires { ⌜ Can-go-on u p (now s) ⌝ }
     ensures { λ r. ⌜ now (s .exit) ≡ nextPartyM u p (now (s .entry)) ⌝ }
 {
     let v = words::get(s, u + 4 * p + 1);
@@ -210,7 +210,7 @@ fn next_party(s: &mut [u32], u: usize, p: usize)
 // refused nothing happens.
 fn step(s: &mut [u32], u: usize, p: usize)
     requires { ⌜ Small u p ⌝ }
-    requires { ⌜ Steps u p (now s) ⌝ }
+    requires { ⌜ Can-step u p (now s) ⌝ }
     ensures { λ r. ⌜ now (s .exit) ≡ stepM u p (now (s .entry)) ⌝ }
 {
     let refused = words::get(s, u + 4 * p);
@@ -228,7 +228,7 @@ fn step(s: &mut [u32], u: usize, p: usize)
 // Each party is passed once and comes off once: 2·p steps suffice, and one after the end does nothing.
 fn all_steps(s: &mut [u32], u: usize, p: usize)
     requires { ⌜ Small u p ⌝ }
-    requires { ⌜ Steps-all u p (2 * p) (now s) ⌝ }
+    requires { ⌜ Can-step-all u p (2 * p) (now s) ⌝ }
     ensures { λ r. ⌜ now (s .exit) ≡ stepsM u p (2 * p) (now (s .entry)) ⌝ }
 {
     let n = 2 * p;
@@ -245,7 +245,7 @@ fn prepare(s: &mut [u32], u: usize, p: usize, d: usize, list: &[u16])
     requires { ⌜ Small u p ⌝ }
     requires { do ⌜ (← ⟦list.len()⟧) ≤ 8192 ⌝ }
     requires { ⌜ d * p ≤ 8192 ⌝ }
-    requires { ⌜ Prepares u p d (now list) (now s) ⌝ }
+    requires { ⌜ Can-prepare u p d (now list) (now s) ⌝ }
     ensures { λ r. ⌜ now (s .exit) ≡ prepareM u p d (now (list .entry)) (now (s .entry)) ⌝ }
 {
     clear_state(s, u, p);

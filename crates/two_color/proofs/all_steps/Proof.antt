@@ -4,7 +4,7 @@ use mathlib.Core.Path.{_≡_, refl, sym, _∙_, ap, subst}
 use native.Mathlib.Omega.{arith}
 use lib.ListN.{length}
 use Rattle.two_color.specs.Model.{stepM, stepsM}
-use Rattle.two_color.specs.Bounds.{Steps}
+use Rattle.two_color.specs.Bounds.{Can-step}
 use Rattle.two_color.proofs.ModelLaws.{steps-more}
 use borrow.Author.Needs.{needs}
 use Rattle.two_color.proofs.all_steps.Statement.{statement}
@@ -25,7 +25,7 @@ step-requires c κs =
     let a = c .before .before .before .before .args in
     let pre = c .before .before .before .before .pre in
     let l = c .before .before .loop in
-    (pre .0, subst (Steps (a .u) (a .p)) (sym (l .inv .2)) (pre .1 .steps (l .k) (c .before .loop-test .taken)))
+    (pre .0, subst (Can-step (a .u) (a .p)) (sym (l .inv .2)) (pre .1 .steps (l .k) (c .before .loop-test .taken)))
 
 loop-again : tie.Need-loop-again Inv-loop μ-loop
 loop-again c =

@@ -5,7 +5,7 @@ use mathlib.Core.Path.{_≡_, refl, _∙_}
 use native.Mathlib.Omega.{arith}
 use lib.ListN.{length}
 use Rattle.two_color.specs.Model.{fillRowsM}
-use Rattle.two_color.specs.Bounds.{Fills}
+use Rattle.two_color.specs.Bounds.{Can-fill}
 use Rattle.two_color.proofs.ModelLaws.{fill-asks, fill-on}
 use borrow.Author.Needs.{needs}
 use Rattle.two_color.proofs.fill_rows.Statement.{statement}
@@ -13,7 +13,7 @@ use Rattle.two_color.proofs.fill_rows.Tie as tie
 
 abbrev Inv-loop : tie.InvT-loop
 Inv-loop s₀ u p list near far i₀ s i =
-    (i ≤ length list / 2) × (length s ≡ length s₀) × Fills u p list near far i s × (fillRowsM u p list near far i s ≡ fillRowsM u p list near far (length list / 2) s₀)
+    (i ≤ length list / 2) × (length s ≡ length s₀) × Can-fill u p list near far i s × (fillRowsM u p list near far i s ≡ fillRowsM u p list near far (length list / 2) s₀)
 
 abbrev μ-loop : tie.MeasureT-loop
 μ-loop s₀ u p list near far i₀ s i = i

@@ -3,7 +3,7 @@ use Prim.Native.Nat.{_+_, _*_, _≤_, _<_}
 use mathlib.Core.Path.{_≡_, sym, _∙_}
 use native.Mathlib.Omega.{arith}
 use Rattle.words.specs.Words.{word, put-word}
-use Rattle.two_color.specs.Bounds.{Paints}
+use Rattle.two_color.specs.Bounds.{Can-color-party}
 use Rattle.two_color.proofs.ModelLaws.{next-paints, next-none, next-colors, next-passes}
 use borrow.Author.Needs.{needs}
 use Rattle.two_color.proofs.next_party.Statement.{statement}
@@ -23,7 +23,7 @@ color-party-requires c κs =
     let e : word (a .s .now) (a .u + 4 * a .p + 1) ≡ v .result = sym (v .ensures .0) in
     let below : v .result < a .p = omega (arith, c .before .before .before .before .before .before .before .before .if1 .left) in
     let free : word (a .s .now) (a .u + 3 * a .p + v .result) ≡ 2 = sym (c .before .before .before .before .before .before .get2 .ensures .0) ∙ c .before .if2 .taken in
-    let paints : Paints (a .u) (a .p) (v .result) 1 (put-word (a .s .now) (a .u + 4 * a .p + 1) (v .result + 1)) = next-paints (a .u) (a .p) (a .s .now) (v .result) e below free (pre .1) in
+    let paints : Can-color-party (a .u) (a .p) (v .result) 1 (put-word (a .s .now) (a .u + 4 * a .p + 1) (v .result + 1)) = next-paints (a .u) (a .p) (a .s .now) (v .result) e below free (pre .1) in
     (pre .0, rw (c .before .before .before .before .put .ensures) paints)
 
 returns-2 : tie.Need-returns-2

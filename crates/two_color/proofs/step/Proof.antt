@@ -4,7 +4,7 @@ use mathlib.Core.Path.{_≡_, sym, _∙_, ap, subst}
 use native.Mathlib.Omega.{arith}
 use Rattle.words.specs.Words.{word}
 use Rattle.two_color.specs.Model.{takeOffM}
-use Rattle.two_color.specs.Bounds.{Takes-off}
+use Rattle.two_color.specs.Bounds.{Can-take-off}
 use Rattle.two_color.proofs.ModelLaws.{step-rests, step-next, step-off}
 use borrow.Author.Needs.{needs}
 use Rattle.two_color.proofs.step.Statement.{statement}
@@ -34,8 +34,8 @@ take-off-requires c κs =
     let pre = c .before .before .before .before .before .before .before .before .pre in
     let h = c .before .before .get2 in
     let z : word (a .s .now) (a .u + 4 * a .p) ≡ 0 = omega (arith, c .before .before .before .before .before .get .ensures .0, c .before .before .before .before .if1 .left) in
-    let off : Takes-off (a .u) (a .p) (word (a .s .now) (a .u + 4 * a .p + 2)) (a .s .now) = pre .1 .off z (λ k. c .before .if2 .left (h .ensures .0 ∙ k)) in
-    (pre .0, ((omega (arith, c .before .if2 .left), h .ensures .1), subst (λ n. Takes-off (a .u) (a .p) n (a .s .now)) (sym (h .ensures .0)) off))
+    let off : Can-take-off (a .u) (a .p) (word (a .s .now) (a .u + 4 * a .p + 2)) (a .s .now) = pre .1 .off z (λ k. c .before .if2 .left (h .ensures .0 ∙ k)) in
+    (pre .0, ((omega (arith, c .before .if2 .left), h .ensures .1), subst (λ n. Can-take-off (a .u) (a .p) n (a .s .now)) (sym (h .ensures .0)) off))
 
 returns-3 : tie.Need-returns-3
 returns-3 c =
