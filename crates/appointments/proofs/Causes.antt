@@ -1,7 +1,7 @@
 -- Document 01's table of refusals, checks 1 to 8: a number and a place are given exactly where the cause beside them holds
 -- and every earlier check passed. Assumes nothing.
 use Prim.Native.Nat.{ℕ, _*_, _%_, _≤_, _<_}
-use mathlib.Core.Path.{_≡_, refl, subst₂}
+use mathlib.Core.Path.{_≡_, refl, sym, subst₂}
 use mathlib.Core.Bool.{Bool, true, false}
 use mathlib.Core.List.{List}
 use native.Mathlib.Omega.{arith}
@@ -14,7 +14,7 @@ use Rattle.appointments.specs.Appointments.{appts, largest-load, scratch
 use Rattle.appointments.specs.Checks.{First, at, nowhere, first-from, has-blank, has-unlisted, Check, passed, refused, bar, bar-at, checks-1-to-5, checks}
 use Rattle.appointments.proofs.Loads.{Listed}
 use Rattle.appointments.proofs.FirstFrom.{First-at, nowhere-all, all-nowhere, found-is-first, first-is-found}
-use Rattle.appointments.proofs.ChecksLaws.{Filled, Good-list, filled-test, test-filled, test-listed, even-test, test-even, good-goes-on}
+use Rattle.appointments.proofs.ChecksLaws.{Filled, Good-list, filled-test, test-filled, test-listed, even-test, test-even, good-goes-on, refused-passed}
 
 -- The cause of each number and place.
 pub data Cause (P : ℕ) (list : List ℕ) (slots scratch : ℕ) : ℕ → ℕ → Type 0 where
@@ -82,7 +82,7 @@ bar-at-cause C (at j) k next n i own later e =
 bar-at-cause C nowhere k next n i own later e = later refl e
 
 pub never-refused {ℓ} : {X : Type ℓ} (n i : ℕ) → passed ≡ refused n i → X
-never-refused n i e = let z : _≡_ {A = ℕ} 0 1 = cc in absurd (omega arith)
+never-refused n i e = refused-passed n i (sym e)
 
 module _ (P : ℕ) (list : List ℕ) (slots scratch n i : ℕ) where
   -- checks 6 to 8, of a good list
@@ -117,13 +117,13 @@ module _ (P : ℕ) (list : List ℕ) (slots scratch n i : ℕ) where
       let l : All (Listed P) (appts list) = all-map (test-listed P) (appts list) (nowhere-all 0 (has-unlisted P) (appts list) t₅) in
       late-cause (record { parties = p; even = e; few = a; filled = f; listed = l })
 
--- Checks 1 to 8 refuse with their own numbers.
-pub cause-number : {P : ℕ} {list : List ℕ} {slots scratch n i : ℕ} → Cause P list slots scratch n i → (0 < n) × (n ≤ 8)
+-- Checks 1 to 8 refuse with their own numbers, and their places are 0 or lie in a list of at most 4,096 appointments.
+pub cause-number : {P : ℕ} {list : List ℕ} {slots scratch n i : ℕ} → Cause P list slots scratch n i → (0 < n) × (n ≤ 8) × (i ≤ 4096)
 cause-number (many-parties h) = omega arith
 cause-number (odd-length p h) = omega arith
 cause-number (many-appts p e h) = omega arith
-cause-number (blank-end p e a h) = omega arith
-cause-number (unlisted-end p e a f h) = omega arith
+cause-number (blank-end p e a h) = omega (arith, h .inside)
+cause-number (unlisted-end p e a f h) = omega (arith, h .inside)
 cause-number (large-product g h) = omega arith
 cause-number (few-slots g p h) = omega arith
 cause-number (small-scratch g p r h) = omega arith

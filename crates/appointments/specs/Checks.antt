@@ -44,6 +44,22 @@ abbrev pub bar-at : First → ℕ → Check → Check
 bar-at (at i) number next = refused number i
 bar-at nowhere number next = next
 
+-- 1: P above 1,024
+abbrev pub check-parties : ℕ → Check → Check
+check-parties P next = bar (ltb 1024 P) 1 next
+
+-- 2: list length odd
+abbrev pub check-even : List ℕ → Check → Check
+check-even list next = bar (eqb (length list % 2) 1) 2 next
+
+-- 3: A above 4,096
+abbrev pub check-count : ℕ → Check → Check
+check-count A next = bar (ltb 4096 A) 3 next
+
+-- 7: slot buffer below A entries
+abbrev pub check-slots : ℕ → ℕ → Check → Check
+check-slots slots A next = bar (ltb slots A) 7 next
+
 -- Checks 4 and 5, those of the ends. 4 covers the whole list before 5 begins.
 abbrev pub check-ends : ℕ → List ℕ → Check → Check
 check-ends P list next =
@@ -54,9 +70,9 @@ check-ends P list next =
 -- Checks 1 to 5, those of the list alone.
 unfoldable pub checks-1-to-5 : ℕ → List ℕ → Check → Check
 checks-1-to-5 P list next =
-    bar (ltb 1024 P) 1
-    (bar (eqb (length list % 2) 1) 2
-    (bar (ltb 4096 (length (appts list))) 3
+    check-parties P
+    (check-even list
+    (check-count (length (appts list))
     (check-ends P list next)))
 
 -- Checks 1 to 8, of P, the list and the lengths of the slot buffer and of scratch.
@@ -65,6 +81,6 @@ checks P list slots scratch =
     let D : ℕ = largest-load P (appts list) in
     checks-1-to-5 P list
     (bar (ltb 8192 (D * P)) 6
-    (bar (ltb slots (length (appts list))) 7
+    (check-slots slots (length (appts list))
     (bar (ltb scratch (scratch-words P D)) 8
     passed)))

@@ -80,7 +80,7 @@ fn largest(loads: &[u32], p: usize) -> usize
 }
 
 // D: the largest load among the parties below `p`.
-pub fn largest_load(p: usize, list: &[u16]) -> usize
+fn largest_load(p: usize, list: &[u16]) -> usize
     requires { do ⌜ (p ≤ 1024) × ((← ⟦list.len()⟧) ≤ 8192) × ((← ⟦list.len()⟧) % 2 ≡ 0) ⌝ }
     ensures { λ r. ⌜ r ≡ largest-load p (appts (now (list .entry))) ⌝ }
 {
