@@ -9,12 +9,9 @@ use Rattle.words.specs.Basics.{All}
 use Rattle.appointments.specs.Appointments.{appts}
 use Rattle.appointments.proofs.Loads.{appts-length}
 use Rattle.desk.specs.Answers.{accepted}
-use Rattle.desk.specs.Filed.{bytes-of, words-of, rows, rows-list, rows-slots, filed-length, filed-bytes, writing-answer, writing-output, Header, header, filed-rows, reading-answer, reading-list, reading-slots}
+use Rattle.desk.specs.Filed.{bytes-of, words-of, rows, rows-list, rows-slots, filed-length, filed-bytes, writing-answer, writing-output, Header, header-of, header, filed-rows, reading-answer, reading-list, reading-slots, Reads-back, Writes-back}
 use Rattle.desk.proofs.Bytes.{Word, Byte, words-length, words-of-bytes, bytes-of-words, list-of-rows, slots-of-rows, rows-are, rows-back}
 use Rattle.desk.proofs.FiledLaws.{filed-rows-length, Writable, writable-accepted, accepted-writable, filed-bytes-length, writing-wrote, Readable, readable-accepted, accepted-readable, list-read, slots-read, reading-list-read, reading-slots-read}
-
-abbrev pub header-of : ℕ → ℕ → Header
-header-of P A = record { parties = P; appointments = A }
 
 -- ── reading undoes writing ──
 
@@ -68,12 +65,6 @@ module _ (P : ℕ) (list slots output : List ℕ) (w : Writable P list slots out
         reading-slots-read (filed-bytes P list slots) lists seats written-readable
         ∙ ap (λ (l : List ℕ). l ++ drop (header (filed-bytes P list slots) .appointments) seats) slots-back
         ∙ ap (λ (k : ℕ). take (length (appts list)) slots ++ drop k seats) appointments-written
-
--- What reading these bytes gives: P, A, the list and its slots; the entries of the two buffers past those stay.
-pub record Reads-back (P : ℕ) (list slots bytes lists seats : List ℕ) : Type 0 where
-  pub answer : reading-answer bytes lists seats ≡ accepted (header-of P (length (appts list)))
-  pub ends : reading-list bytes lists seats ≡ list ++ drop (length list) lists
-  pub plan : reading-slots bytes lists seats ≡ take (length (appts list)) slots ++ drop (length (appts list)) seats
 
 -- Reading undoes writing: from the bytes that writing gave, as many as it said, reading into buffers that are long enough
 -- gives back P, A, the list and its slots.
@@ -153,11 +144,6 @@ module _ (bytes lists seats : List ℕ) where
           slot-room = omega (arith, slots-got-room);
           room = omega (arith, r .whole);
         }
-
--- What writing gives of what was read: these bytes; the output past them stays.
-pub record Writes-back (bytes : List ℕ) (P : ℕ) (list slots output : List ℕ) : Type 0 where
-  pub answer : writing-answer P list slots output ≡ accepted (length bytes)
-  pub wrote : writing-output P list slots output ≡ bytes ++ drop (length bytes) output
 
 writes-back : (bytes lists seats : List ℕ) (r : Readable bytes lists seats) → All Byte bytes → (output : List ℕ) → length bytes ≤ length output
     → Writes-back bytes (header bytes .parties) (list-got bytes lists seats) (slots-got bytes lists seats) output

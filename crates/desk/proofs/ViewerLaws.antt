@@ -1,5 +1,5 @@
--- The viewer's laws: what it shows holds each of the party's positions once, ascending, with its slot; enough steps from 0 on
--- show exactly that; and at the end it stays. Assumes nothing.
+-- What the viewer shows of a party holds each of the party's positions once, ascending, with its slot. (That its steps show
+-- exactly that, and that it stays at the end, is in ViewerSteps.antt.) Assumes nothing.
 use Prim.Native.Nat.{ℕ, zero, suc, _+_, _≤_, _<_}
 use mathlib.Core.Path.{_≡_, refl}
 use mathlib.Core.Bool.{Bool, true, false}
@@ -10,24 +10,7 @@ use lib.ListN.{length, getD}
 use Rattle.words.specs.Basics.{pick, is, total, All}
 use Rattle.words.proofs.Sums.{is-eq, is-ne, all-map, total-all-zero}
 use Rattle.appointments.specs.Appointments.{Appt, appts, names}
-use Rattle.desk.specs.Viewer.{named, Seen, seen, view-from, view}
-
--- ── what the viewer shows of a party ──
-
--- An entry tells of an appointment that names the party: its position, and the slot there.
-pub record Shows (party : ℕ) (slots : List ℕ) (xs : List Appt) (s : Seen) : Type 0 where
-  pub inside : s .position < length xs
-  pub names-it : (d : Appt) → 0 < names party (getD xs (s .position) d)
-  pub slot-there : s .slot ≡ getD slots (s .position) 0
-
--- ascending positions, none twice
-abbrev pub Ascending : List Seen → Type 0
-Ascending [] = Unit {0}
-Ascending (s ∷ later) = All (λ t. s .position < t .position) later × Ascending later
-
--- how often a position is shown
-abbrev pub shown-at : ℕ → List Seen → ℕ
-shown-at i sequence = total (λ s. is i (s .position)) sequence
+use Rattle.desk.specs.Viewer.{named, Seen, seen, view-from, view, Shows, Ascending, shown-at, Sequence}
 
 module _ (party : ℕ) (slots : List ℕ) where
   -- one appointment more: it is shown if it names the party
@@ -103,13 +86,6 @@ module _ (party : ℕ) (slots : List ℕ) where
       go : (b : Bool) → named party x ≡ b → shown-at (k + 1 + i) (view-from party slots (k + 1) xs) ≡ pick (named party (getD xs i d)) 1 0 → shown-at (k + suc i) (view-from party slots k (x ∷ xs)) ≡ pick (named party (getD xs i d)) 1 0
       go true e rest = rw (from-named k x xs e, same) (omega (arith, rest, is-ne {u = k + 1 + i} {v = k} (λ q. omega arith)))
       go false e rest = rw (from-other k x xs e, same) rest
-
--- What the viewer is to show of a party: each entry is an appointment of the party with its slot; the positions ascend; and
--- each position whose appointment names the party, once or twice, comes exactly once.
-pub record Sequence (party : ℕ) (list slots : List ℕ) (sequence : List Seen) : Type 0 where
-  pub each : All (Shows party slots (appts list)) sequence
-  pub ascending : Ascending sequence
-  pub once : (i : ℕ) (d : Appt) → i < length (appts list) → 0 < names party (getD (appts list) i d) → shown-at i sequence ≡ 1
 
 shows-whole : (party : ℕ) (slots : List ℕ) (xs : List Appt) (s : Seen) → Shows-from party slots 0 xs s → Shows party slots xs s
 shows-whole party slots xs s f =

@@ -9,7 +9,7 @@ use lib.ListN.{length, drop, length-drop, drop-of-length-le}
 use lib.Seq.{drop-drop}
 use Rattle.appointments.specs.Appointments.{Appt, appts}
 use Rattle.appointments.specs.Checks.{First, at, nowhere, first-from}
-use Rattle.desk.specs.Viewer.{named, seen, found, end, view-step, view-next, view-steps, view-from, view}
+use Rattle.desk.specs.Viewer.{named, seen, found, end, view-step, view-next, view-steps, view-from, view, Stays}
 use Rattle.desk.proofs.ViewerLaws.{from-named, from-other}
 
 module _ (party : ℕ) (slots : List ℕ) where
@@ -122,13 +122,8 @@ module _ (party : ℕ) (list slots : List ℕ) where
   unfolding view
   steps-show-all n h = steps-from n 0 h
 
-  -- At the end the viewer stays: it stands at A, and says end again.
-  pub record Stays (from : ℕ) : Type 0 where
-    pub stands : view-next party list slots from ≡ length (appts list)
-    pub ended : view-step party list slots (view-next party list slots from) ≡ end
-    pub still : view-next party list slots (view-next party list slots from) ≡ view-next party list slots from
-
-  pub end-stays : (from : ℕ) → view-step party list slots from ≡ end → Stays from
+  -- At the end the viewer stays.
+  pub end-stays : (from : ℕ) → view-step party list slots from ≡ end → Stays party list slots from
   end-stays from e =
       let stands : view-next party list slots from ≡ length (appts list) = next-end from e in
       let ended : view-step party list slots (view-next party list slots from) ≡ end = step-past (view-next party list slots from) (omega arith) in

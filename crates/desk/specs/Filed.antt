@@ -1,11 +1,12 @@
--- Document 01's filed plan: its bytes, writing it and reading it. Assumes nothing.
+-- Document 01's filed plan: its bytes, writing it and reading it, and what it means that each undoes the other. Assumes nothing.
 use Prim.Native.Nat.{ℕ, _+_, _*_, _%_, _/_}
+use mathlib.Core.Path.{_≡_}
 use mathlib.Core.Bool.{not, _||_}
-use mathlib.Core.List.{List, [], _∷_}
+use mathlib.Core.List.{List, [], _∷_, _++_}
 use lib.Dec.{eqb, ltb}
-use lib.ListN.{length, getD, drop}
+use lib.ListN.{length, getD, take, drop}
 use Rattle.appointments.specs.Appointments.{Appt, appts}
-use Rattle.appointments.specs.Checks.{Check, passed, bar}
+use Rattle.appointments.specs.Checks.{Check, passed, bar, check-parties, check-even, check-count, check-slots}
 use Rattle.desk.specs.Answers.{Answer, accepted, refused, answer, after}
 
 -- 16-bit numbers as bytes, low byte first
@@ -52,10 +53,10 @@ filed-bytes P list slots = bytes-of (P ∷ length (appts list) ∷ rows (appts l
 unfoldable pub writing-checks : ℕ → List ℕ → List ℕ → List ℕ → Check
 writing-checks P list slots output =
     let A : ℕ = length (appts list) in
-    bar (ltb 1024 P) 1
-    (bar (eqb (length list % 2) 1) 2
-    (bar (ltb 4096 A) 3
-    (bar (ltb (length slots) A) 7
+    check-parties P
+    (check-even list
+    (check-count A
+    (check-slots (length slots) A
     (bar (ltb (length output) (filed-length A)) 13
     passed))))
 
@@ -74,9 +75,12 @@ pub record Header : Type 0 where
   pub parties : ℕ
   pub appointments : ℕ
 
+abbrev pub header-of : ℕ → ℕ → Header
+header-of P A = record { parties = P; appointments = A }
+
 unfoldable pub header : List ℕ → Header
 unfolding words-of
-header bytes = record { parties = getD (words-of bytes) 0 0; appointments = getD (words-of bytes) 1 0 }
+header bytes = header-of (getD (words-of bytes) 0 0) (getD (words-of bytes) 1 0)
 
 -- the rows in the bytes of a filed plan
 unfoldable pub filed-rows : List ℕ → List ℕ
@@ -89,8 +93,8 @@ unfolding header
 reading-checks bytes list slots =
     let A : ℕ = header bytes .appointments in
     bar (ltb (length bytes) 4 || not (eqb (length bytes) (filed-length A))) 12
-    (bar (ltb 1024 (header bytes .parties)) 1
-    (bar (ltb 4096 A) 3
+    (check-parties (header bytes .parties)
+    (check-count A
     (bar (ltb (length list) (2 * A) || ltb (length slots) A) 13
     passed)))
 
@@ -116,3 +120,16 @@ reading-list bytes list slots = after (reading-answer bytes list slots) (rows-li
 unfoldable pub reading-slots : List ℕ → List ℕ → List ℕ → List ℕ
 unfolding reading-answer rows-slots filed-rows
 reading-slots bytes list slots = after (reading-answer bytes list slots) (rows-slots (filed-rows bytes)) slots
+
+-- ── reading undoes writing, and writing reading ──
+
+-- What reading these bytes gives: P, A, the list and its slots; the entries of the two buffers past those stay.
+pub record Reads-back (P : ℕ) (list slots bytes lists seats : List ℕ) : Type 0 where
+  pub answer : reading-answer bytes lists seats ≡ accepted (header-of P (length (appts list)))
+  pub ends : reading-list bytes lists seats ≡ list ++ drop (length list) lists
+  pub plan : reading-slots bytes lists seats ≡ take (length (appts list)) slots ++ drop (length (appts list)) seats
+
+-- What writing gives of what was read: these bytes; the output past them stays.
+pub record Writes-back (bytes : List ℕ) (P : ℕ) (list slots output : List ℕ) : Type 0 where
+  pub answer : writing-answer P list slots output ≡ accepted (length bytes)
+  pub wrote : writing-output P list slots output ≡ bytes ++ drop (length bytes) output

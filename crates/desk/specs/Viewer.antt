@@ -1,19 +1,21 @@
--- Document 01's viewer over a list and its slots: opening it, one step of it, and all that it shows. Assumes nothing.
-use Prim.Native.Nat.{ℕ, zero, suc, _+_, _%_}
+-- Document 01's viewer over a list and its slots: opening it, one step of it, all that it shows, and what that is to be: each
+-- of the party's positions, ascending, and then the end, where it stays. Assumes nothing.
+use Prim.Native.Nat.{ℕ, zero, suc, _+_, _<_}
+use mathlib.Core.Path.{_≡_}
 use mathlib.Core.Bool.{Bool}
 use mathlib.Core.List.{List, [], _∷_}
-use lib.Dec.{eqb, ltb}
+use lib.Dec.{ltb}
 use lib.ListN.{length, getD, drop}
-use Rattle.words.specs.Basics.{pick}
+use Rattle.words.specs.Basics.{pick, is, total, All}
 use Rattle.appointments.specs.Appointments.{Appt, appts, names}
-use Rattle.appointments.specs.Checks.{First, at, nowhere, first-from, Check, passed, bar}
+use Rattle.appointments.specs.Checks.{First, at, nowhere, first-from, Check, passed, check-even, check-slots}
 use Rattle.desk.specs.Answers.{Answer, answer}
 
 -- Opening refuses 2, then 7.
 unfoldable pub viewer-checks : List ℕ → List ℕ → Check
 viewer-checks list slots =
-    bar (eqb (length list % 2) 1) 2
-    (bar (ltb (length slots) (length (appts list))) 7
+    check-even list
+    (check-slots (length slots) (length (appts list))
     passed)
 
 unfoldable pub viewer-answer : List ℕ → List ℕ → Answer Unit
@@ -54,11 +56,12 @@ unfoldable pub view-next : ℕ → List ℕ → List ℕ → ℕ → ℕ
 unfolding view-step
 view-next party list slots from = next-of (length (appts list)) (view-step party list slots from)
 
--- What n steps show, one after the other, the first from a position.
+-- what a step showed, and then what later ones show
 abbrev pub and-on : Step → List Seen → List Seen
 and-on (found s) later = s ∷ later
 and-on end later = later
 
+-- What n steps show, one after the other, the first from a position.
 unfoldable pub view-steps : ℕ → ℕ → List ℕ → List ℕ → ℕ → List Seen
 unfolding view-step view-next
 view-steps zero party list slots from = []
@@ -75,3 +78,33 @@ view-from party slots i (x ∷ xs) =
 unfoldable pub view : ℕ → List ℕ → List ℕ → List Seen
 unfolding view-from
 view party list slots = view-from party slots 0 (appts list)
+
+-- ── what the viewer is to show of a party ──
+
+-- An entry tells of an appointment that names the party: its position, and the slot there.
+pub record Shows (party : ℕ) (slots : List ℕ) (xs : List Appt) (s : Seen) : Type 0 where
+  pub inside : s .position < length xs
+  pub names-it : (d : Appt) → 0 < names party (getD xs (s .position) d)
+  pub slot-there : s .slot ≡ getD slots (s .position) 0
+
+-- ascending positions, none twice
+abbrev pub Ascending : List Seen → Type 0
+Ascending [] = Unit {0}
+Ascending (s ∷ later) = All (λ t. s .position < t .position) later × Ascending later
+
+-- how often a position is shown
+abbrev pub shown-at : ℕ → List Seen → ℕ
+shown-at i sequence = total (λ s. is i (s .position)) sequence
+
+-- What the viewer is to show of a party: each entry is an appointment of the party with its slot; the positions ascend; and
+-- each position whose appointment names the party, once or twice, comes exactly once.
+pub record Sequence (party : ℕ) (list slots : List ℕ) (sequence : List Seen) : Type 0 where
+  pub each : All (Shows party slots (appts list)) sequence
+  pub ascending : Ascending sequence
+  pub once : (i : ℕ) (d : Appt) → i < length (appts list) → 0 < names party (getD (appts list) i d) → shown-at i sequence ≡ 1
+
+-- At the end the viewer stays: it stands at A, and says end again.
+pub record Stays (party : ℕ) (list slots : List ℕ) (from : ℕ) : Type 0 where
+  pub stands : view-next party list slots from ≡ length (appts list)
+  pub ended : view-step party list slots (view-next party list slots from) ≡ end
+  pub still : view-next party list slots (view-next party list slots from) ≡ view-next party list slots from
