@@ -3,7 +3,7 @@
 -- accepted list's plan has no clash and as few slots as any, D of them, each of which every busiest party meets exactly once.
 -- That such a plan exists is König's theorem (a bipartite multigraph has an edge colouring with as many colours as its
 -- largest degree). And no planning fails. Assumes nothing.
-use Prim.Native.Nat.{ℕ, _≤_}
+use Prim.Native.Nat.{ℕ, _≤_, _<_}
 use mathlib.Core.Path.{_≡_, refl, sym, _∙_}
 use mathlib.Core.List.{List, _++_}
 use native.Mathlib.Omega.{arith}
@@ -27,6 +27,12 @@ planned-same D E e = cc
 
 pub refusal-number : (n i k j : ℕ) → refusal n i ≡ refusal k j → n ≡ k
 refusal-number n i k j e = cc
+
+-- A refusal's number is one of document 01's table, and its place is 0 or lies in a list of at most 4,096 appointments.
+pub record Small-refusal (n i : ℕ) : Type 0 where
+  pub some : 0 < n
+  pub number : n ≤ 9
+  pub place : i ≤ 4096
 
 -- ── the three cases ──
 
@@ -96,20 +102,25 @@ module _ (P : ℕ) (list slots scratch : List ℕ) where
           rw (e, f .found) (plan-demand P list (length slots) (length scratch) e f (drop (length (f .slots)) slots))
       go (odd e f) = rw (e, f .found) (nine-demand P list (length slots) (length scratch) e f slots)
 
-  -- no refusal has a number above 9
-  pub refusal-le-9 : (n i : ℕ) → plan-answer P list slots scratch ≡ refusal n i → n ≤ 9
+  -- Every refusal is small.
+  pub refusal-small : (n i : ℕ) → plan-answer P list slots scratch ≡ refusal n i → Small-refusal n i
   unfolding plan-answer
-  refusal-le-9 n i = go (came P list (length slots) (length scratch))
+  refusal-small n i = go (came P list (length slots) (length scratch))
     where
-      go : Came P list (length slots) (length scratch) → plan-answer P list slots scratch ≡ refusal n i → n ≤ 9
+      go : Came P list (length slots) (length scratch) → plan-answer P list slots scratch ≡ refusal n i → Small-refusal n i
       go (barred k j e) q =
           let r : refusal k j ≡ refusal n i = rw e at q in
-          omega (arith, cause-number (refused-cause P list (length slots) (length scratch) k j e) .1, refusal-number k j n i r)
+          let number : k ≡ n = cc in
+          let place : j ≡ i = cc in
+          let small = cause-number (refused-cause P list (length slots) (length scratch) k j e) in
+          record { some = omega (arith, small .0); number = omega (arith, small .1); place = omega (arith, small .2) }
       go (found e f) q = planned-refusal (largest-load P (appts list)) n i (rw (e, f .found) at q)
       go (odd e f) q =
           let r : refusal 9 0 ≡ refusal n i = rw (e, f .found) at q in
-          omega (arith, refusal-number 9 0 n i r)
+          let number : 9 ≡ n = cc in
+          let place : 0 ≡ i = cc in
+          record { some = omega arith; number = omega arith; place = omega arith }
 
   -- No planning fails: the number that no table has is never given.
   pub never-failed : plan-answer P list slots scratch ≡ refusal 1000 0 → ⊥
-  never-failed e = omega (arith, refusal-le-9 1000 0 e)
+  never-failed e = omega (arith, refusal-small 1000 0 e .number)

@@ -42,6 +42,12 @@ module _ {P D q u l : ℕ} {list s t : List ℕ} (r : Ready P D q list s) where
         found = rw zero-add at (c .answers .1);
       }
 
+-- slots planned from words that are as long as those before
+pub planned-from :
+    {P : ℕ} {list slots after s t v : List ℕ} → length t ≡ length s → Slots-planned P list slots after t v →
+    Slots-planned P list slots after s v
+planned-from e x = record { slots-of = x .slots-of; found = x .found; held = x .held; len = x .len ∙ e }
+
 -- without parties there is no appointment, and nothing to give
 none-listed : (xs : List Appt) → All (Listed 0) xs → xs ≡ []
 none-listed [] h = refl

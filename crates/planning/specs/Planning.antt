@@ -14,15 +14,18 @@ pub data Outcome : Type 0 where
   graph-not-bipartite : Outcome
   no-outcome : Outcome
 
+-- the slots that module 8 gives are the plan
 abbrev pub outcome : Run (List ℕ) → Outcome
 outcome (ran slots) = plan slots
 outcome failed = no-outcome
 
+-- with two sides the slots of module 8; with two neighbours on one side `GraphNotBipartite`
 abbrev pub given-sides : ℕ → List Appt → Sides → Outcome
 given-sides P xs (sides left right) = outcome (bipartite-edge-color-given-partition P xs left right)
 given-sides P xs not-bipartite = graph-not-bipartite
 given-sides P xs unfinished = no-outcome
 
+-- The outcome of a list between P parties: `two_color` finds the sides, and module 8 the slots.
 unfoldable pub bipartite-edge-color : ℕ → List Appt → Outcome
 bipartite-edge-color P xs = given-sides P xs (two-color P xs)
 

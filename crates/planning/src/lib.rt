@@ -62,7 +62,8 @@ fn color(s: &mut [u32], taken: usize, t: Table, g: usize, n: usize, d: usize, ou
     edge_color::rbmg_edge_color(s, &mut m, t, g, n, d, out);
 }
 
-// The matchings of the evened graph, and from them a slot for each appointment.
+// The matchings of the evened graph, and from them a slot for each appointment. The graph is done with when the slots are given,
+// so its words, from 11·q on, take the first link of each pair.
 fn color_and_give(
     s: &mut [u32],
     slots: &mut [u16],
@@ -87,6 +88,24 @@ fn color_and_give(
     slots::give_slots(s, slots, list.len() / 2, n, d, 10 * q, 9 * q, 11 * q);
 }
 
+// `bipartite_edge_color_given_partition`: the slots of a list whose first `left` parties, as `two_color` wrote them, stand on the left.
+fn bipartite_edge_color_given_partition(
+    s: &mut [u32],
+    slots: &mut [u16],
+    list: &[u16],
+    p: usize,
+    d: usize,
+    q: usize,
+    left: usize,
+)
+    requires { ⌜ Sided p d q left (now list) (now s) ⌝ }
+    requires { ⌜ length (appts (now list)) ≤ length (now slots) ⌝ }
+    ensures { λ r. ⌜ Slots-planned p (now (list .entry)) (now (slots .entry)) (now (slots .exit)) (now (s .entry)) (now (s .exit)) ⌝ }
+{
+    let n = prepare(s, list, p, d, q, left);
+    color_and_give(s, slots, list, p, d, q, n);
+}
+
 // The answer to a list that passed the checks, and its slots; scratch, of W words, is left as it happens to be.
 fn work_out(s: &mut [u32], slots: &mut [u16], list: &[u16], p: usize, d: usize, q: usize) -> Answer
     requires { ⌜ Ready p d q (now list) (now s) ⌝ }
@@ -100,8 +119,7 @@ fn work_out(s: &mut [u32], slots: &mut [u16], list: &[u16], p: usize, d: usize, 
     let TwoColoring::Sides(left) = colored else {
         return Answer::Refused(9, 0);
     };
-    let n = prepare(s, list, p, d, q, left);
-    color_and_give(s, slots, list, p, d, q, n);
+    bipartite_edge_color_given_partition(s, slots, list, p, d, q, left);
     Answer::Planned(d)
 }
 

@@ -1,5 +1,4 @@
 -- `planning::work_out` meets its contract: no parties, two neighbours on one side, or a plan. Assumes nothing.
-use mathlib.Core.Path.{_∙_}
 use native.Mathlib.Omega.{arith}
 use Rattle.two_color.proofs.Passing.{passed-can-color}
 use Rattle.planning.proofs.WorkingOut.{two-colored, worked-none, worked-odd, worked-plan}
@@ -18,14 +17,15 @@ two-sides-requires c κs =
 returns-2 : tie.Need-returns-2
 returns-2 c = worked-odd (rw (c .enum-told .given .1) at (c .before .before .before .before .two-sides .ensures))
 
-prepare-requires : tie.Need-prepare-requires
-prepare-requires c κs =
-    two-colored (c .before .before .before .before .before .before .before .before .before .before .before .before .pre .0) (omega arith) (rw (c .before .before .colored .given .1) at (c .before .before .before .before .before .before .two-sides .ensures))
+given-partition-requires : tie.Need-bipartite-edge-color-given-partition-requires
+given-partition-requires c κs =
+    let start = c .before .before .before .before .before .before .before .before .before .before .before .before .before in
+    (two-colored (start .pre .0) (omega arith) (rw (c .before .before .before .colored .given .1) at (c .before .before .before .before .before .before .before .two-sides .ensures)), start .pre .1)
 
 returns-3 : tie.Need-returns-3
 returns-3 c =
-    let colored = c .before .before .before .before .before .before .before .before .before .before .before .before .before .before .before .before .two-sides .ensures in
-    worked-plan (c .before .before .before .before .before .before .before .before .before .prepare .ensures .1 ∙ colored .keeps .len) (c .before .before .before .before .color-and-give .ensures)
+    let colored = c .before .before .before .before .before .before .before .before .before .before .before .before .two-sides .ensures in
+    worked-plan (colored .keeps .len) (c .before .before .before .before .bipartite-edge-color-given-partition .ensures)
 
 pub work-out-spec : {M : Type 1} → statement M
 work-out-spec =
@@ -37,8 +37,7 @@ work-out-spec =
     (λ c. search needs)
     (λ c. search needs)
     returns-2
-    prepare-requires
-    (λ c κs. search needs)
+    given-partition-requires
     (λ c. search needs)
     (λ c. search needs)
     returns-3)
