@@ -1,6 +1,6 @@
 -- The planning call: its answer, and the slots and scratch afterwards, for acceptance and for every refusal. Assumes nothing.
-use Prim.Native.Nat.{ℕ, zero, suc}
-use mathlib.Core.List.{List, [], _∷_, _++_}
+use Prim.Native.Nat.{ℕ}
+use mathlib.Core.List.{List, [], _++_}
 use lib.ListN.{length, drop, replicate}
 use Rattle.words.specs.Basics.{Run, ran, failed}
 use Rattle.appointments.specs.Appointments.{Appt, appts, largest-load, scratch-words}

@@ -13,19 +13,14 @@ use Rattle.planning.specs.Planning.{planned, refusal, plan-answer, plan-slots}
 use Rattle.planning.specs.Planning as Planning
 use Rattle.planning.specs.Told.{answer-of}
 use Rattle.planning.specs.declared.Answer.{Answer}
-use Rattle.planning.proofs.Demand3.{demand-3}
 use Rattle.text.specs.Reading.{Input, input, malformed, read-text}
 use Rattle.text.specs.Printing.{printed, plan-lines, refusal-line}
 use Rattle.text.specs.Text.{lent-slots, lent-scratch, planned-report, input-report, report, text-output}
 use Rattle.text.specs.Told.{Read-as}
-use Rattle.text.specs.Placed.{Room, Printed, Good-parties}
+use Rattle.text.specs.Placed.{Room, Printed, Passes-1-to-5}
 use Rattle.text.specs.declared.parsing.ReadInput.{ReadInput}
 use Rattle.text.specs.declared.parsing.ReadInput.the-variants as read
-use Rattle.text.proofs.TextLaws.{Plans-fit, demand-3-fits, planned-passes, answer-fits, output-fits}
-
--- The slots of a plan that main gets have at most five digits.
-plans-fit : Plans-fit
-plans-fit = demand-3-fits λ P list. demand-3 P list lent-slots lent-scratch
+use Rattle.text.proofs.TextLaws.{plans-fit, planned-passes, answer-fits, output-fits}
 
 -- bytes that 1,801 hold have room
 room : (bytes out : List ℕ) → length bytes ≤ 1801 → 1801 ≤ length out → Room out 0 bytes
@@ -55,7 +50,7 @@ module _ (P : ℕ) (list : List ℕ) where
   -- planned with D
   pub plan-needs :
       (D : ℕ) (slots out : List ℕ) → Answered (planned D) → slots ≡ main-slots → 1801 ≤ length out →
-      Good-parties P list × Room out 0 (plan-lines P list D slots)
+      Passes-1-to-5 P list × Room out 0 (plan-lines P list D slots)
   plan-needs D slots out e s h =
       (good-goes-on P list passed (planned-passes P list lent-slots lent-scratch D e .0 .good), rw s (room (bytes-of (planned D)) out (bytes-fit (planned D) e) h))
 

@@ -13,8 +13,8 @@ use Rattle.appointments.specs.Appointments.{Appt, appts}
 use Rattle.appointments.proofs.Flat.{rest-cons, rest-none, appts-count}
 use Rattle.desk.specs.Waiting.{waiting}
 use Rattle.text.specs.Ascii.{ascii, space, line-feed}
-use Rattle.text.specs.Printing.{decimal-by, decimal, line, appointment-lines, party-lines, plan-lines, refusal-line}
-use Rattle.text.specs.Placed.{Room, Placed, Printed, field, appointment-line, party-line}
+use Rattle.text.specs.Printing.{decimal-by, decimal, line, party-line, appointment-lines, party-lines, plan-lines, refusal-line}
+use Rattle.text.specs.Placed.{Room, Placed, Printed, field, appointment-line-at}
 use borrow.Author.Tests.{lt-ltb, le-ltb, ltb-false}
 use lib.Dec.{ltb}
 use Rattle.words.specs.Basics.{pick}
@@ -106,7 +106,7 @@ unfolding ascii
 party-fields P xs v waits e = rw e (line-3 (ascii "party") (decimal v) (decimal (waiting P xs v)))
 
 pub appointment-fields : (list slots : List ℕ) (i first second slot : ℕ) → first ≡ getD list (2 * i) 0 → second ≡ getD list (2 * i + 1) 0 → slot ≡ getD slots i 0
-    → appointment-line list slots i ≡ field (decimal i) space ++ (field (decimal first) space ++ (field (decimal second) space ++ field (decimal slot) line-feed))
+    → appointment-line-at list slots i ≡ field (decimal i) space ++ (field (decimal first) space ++ (field (decimal second) space ++ field (decimal slot) line-feed))
 appointment-fields list slots i first second slot p q r =
     rw (p, q, r) (line-4 (decimal i) (decimal (getD list (2 * i) 0)) (decimal (getD list (2 * i + 1) 0)) (decimal (getD slots i 0)))
 
@@ -153,7 +153,7 @@ module _ {o : List ℕ} {start : ℕ} {whole now : List ℕ} {at : ℕ} {rest : 
 -- ── the lines ──
 
 pub appointment-next : (list slots : List ℕ) (i : ℕ) → i < length list / 2
-    → appointment-lines i (drop i (appts list)) slots ≡ appointment-line list slots i ++ appointment-lines (i + 1) (drop (i + 1) (appts list)) slots
+    → appointment-lines i (drop i (appts list)) slots ≡ appointment-line-at list slots i ++ appointment-lines (i + 1) (drop (i + 1) (appts list)) slots
 unfolding appointment-lines
 appointment-next list slots i h = rw (rest-cons list i h)
 

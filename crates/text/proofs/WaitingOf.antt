@@ -9,8 +9,8 @@ use Rattle.desk.specs.Waiting.{waiting, waiting-answer}
 use Rattle.desk.specs.Told.{asked-of}
 use Rattle.desk.specs.declared.asking.Asked.the-variants as asked
 use Rattle.desk.proofs.WaitingLaws.{askable-accepted}
-use Rattle.text.specs.Placed.{Good-parties}
+use Rattle.text.specs.Placed.{Passes-1-to-5}
 
-pub waits : (P : ℕ) (list : List ℕ) (party : ℕ) → Good-parties P list → party < P → asked-of (waiting-answer P list party) ≡ asked.Waits (waiting P (appts list) party)
+pub waits : (P : ℕ) (list : List ℕ) (party : ℕ) → Passes-1-to-5 P list → party < P → asked-of (waiting-answer P list party) ≡ asked.Waits (waiting P (appts list) party)
 waits P list party g h =
     ap asked-of (askable-accepted P list party (record { good = passed-good P list passed g .0; below = h }))

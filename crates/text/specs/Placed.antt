@@ -4,11 +4,9 @@ use mathlib.Core.Path.{_≡_}
 use mathlib.Core.List.{List, [], _∷_, _++_}
 use lib.ListN.{length, getD, drop}
 use lib.Seq.{sets}
-use Rattle.appointments.specs.Appointments.{Appt}
+use Rattle.appointments.specs.Appointments.{appt}
 use Rattle.appointments.specs.Checks.{passed, checks-1-to-5}
-use Rattle.desk.specs.Waiting.{waiting}
-use Rattle.text.specs.Ascii.{ascii}
-use Rattle.text.specs.Printing.{decimal, line}
+use Rattle.text.specs.Printing.{appointment-line}
 
 -- the buffer has room for the bytes from a place on
 pub record Room (buffer : List ℕ) (at : ℕ) (bytes : List ℕ) : Type 0 where
@@ -29,14 +27,10 @@ abbrev pub field : List ℕ → ℕ → List ℕ
 field bytes end = bytes ++ (end ∷ [])
 
 -- the list passes checks 1 to 5, so each party has a waiting
-abbrev pub Good-parties : ℕ → List ℕ → Type 0
-Good-parties P list = checks-1-to-5 P list passed ≡ passed
+abbrev pub Passes-1-to-5 : ℕ → List ℕ → Type 0
+Passes-1-to-5 P list = checks-1-to-5 P list passed ≡ passed
 
 -- the line of the appointment at a position of the list
-abbrev pub appointment-line : List ℕ → List ℕ → ℕ → List ℕ
-appointment-line list slots i =
-    line (decimal i ∷ decimal (getD list (2 * i) 0) ∷ decimal (getD list (2 * i + 1) 0) ∷ decimal (getD slots i 0) ∷ [])
-
--- the line of a party
-abbrev pub party-line : ℕ → List Appt → ℕ → List ℕ
-party-line P xs v = line (ascii "party" ∷ decimal v ∷ decimal (waiting P xs v) ∷ [])
+abbrev pub appointment-line-at : List ℕ → List ℕ → ℕ → List ℕ
+appointment-line-at list slots i =
+    appointment-line i (appt (getD list (2 * i) 0) (getD list (2 * i + 1) 0)) (getD slots i 0)

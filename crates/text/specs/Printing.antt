@@ -25,20 +25,25 @@ line [] = line-feed ∷ []
 line (field ∷ []) = field ++ (line-feed ∷ [])
 line (field ∷ next ∷ more) = field ++ (space ∷ line (next ∷ more))
 
--- position, ends and slot of each appointment, counted from position i
+-- the line of an appointment: its position, ends and slot
+abbrev pub appointment-line : ℕ → Appt → ℕ → List ℕ
+appointment-line i x slot = line (decimal i ∷ decimal (x .first) ∷ decimal (x .second) ∷ decimal slot ∷ [])
+
+-- the line of a party: its number and its waiting
+abbrev pub party-line : ℕ → List Appt → ℕ → List ℕ
+party-line P xs v = line (ascii "party" ∷ decimal v ∷ decimal (waiting P xs v) ∷ [])
+
+-- the lines of the appointments, counted from position i
 unfoldable pub appointment-lines : ℕ → List Appt → List ℕ → List ℕ
 unfolding line decimal
 appointment-lines i [] slots = []
-appointment-lines i (x ∷ xs) slots =
-    line (decimal i ∷ decimal (x .first) ∷ decimal (x .second) ∷ decimal (getD slots i 0) ∷ [])
-    ++ appointment-lines (i + 1) xs slots
+appointment-lines i (x ∷ xs) slots = appointment-line i x (getD slots i 0) ++ appointment-lines (i + 1) xs slots
 
--- the k parties from v on, each with its waiting
+-- the lines of the k parties from v on
 unfoldable pub party-lines : ℕ → List Appt → ℕ → ℕ → List ℕ
 unfolding line decimal ascii waiting
 party-lines P xs v zero = []
-party-lines P xs v (suc k) =
-    line (ascii "party" ∷ decimal v ∷ decimal (waiting P xs v) ∷ []) ++ party-lines P xs (v + 1) k
+party-lines P xs v (suc k) = party-line P xs v ++ party-lines P xs (v + 1) k
 
 -- What there is to print: an accepted plan (P, list, D and slots), or a refusal (number and place).
 pub data Report : Type 0 where

@@ -11,11 +11,12 @@ use Rattle.appointments.specs.Appointments.{Appt, appt}
 use Rattle.appointments.specs.Checks.{blank}
 use Rattle.text.specs.Ascii.{line-feed, comma}
 
--- Bytes parted at each separator: one part more than there are separators.
+-- a byte before the first part
 abbrev pub onto : ℕ → List (List ℕ) → List (List ℕ)
 onto b [] = (b ∷ []) ∷ []
 onto b (part ∷ more) = (b ∷ part) ∷ more
 
+-- Bytes parted at each separator: one part more than there are separators.
 unfoldable pub parts : ℕ → List ℕ → List (List ℕ)
 parts separator [] = [] ∷ []
 parts separator (b ∷ bytes) =
@@ -93,11 +94,12 @@ read-lines P n (line ∷ next ∷ more) =
     let later = read-lines P (n + 1) (next ∷ more) in
     and-then-lines n (appointment-of line) later
 
--- The first line is P, which may not be empty. Without a line feed there is no line.
+-- the lines from line 2 on, if the first one is a number
 abbrev pub with-parties : Option ℕ → List (List ℕ) → Input
 with-parties (some P) more = read-lines P 2 more
 with-parties none more = malformed 1
 
+-- The first line is P, which may not be empty. Without a line feed there is no line.
 abbrev pub read-first : List (List ℕ) → Input
 read-first [] = malformed 1
 read-first (rest ∷ []) = malformed 1

@@ -15,6 +15,7 @@ lent-slots = replicate 4096 0
 abbrev pub lent-scratch : List ℕ
 lent-scratch = replicate 16384 0
 
+-- what there is to print of the planning call's answer and slots
 abbrev pub planned-report : ℕ → List ℕ → Answer → List ℕ → Report
 planned-report P list (planned D) slots = plan P list D slots
 planned-report P list (refusal number place) slots = refused number place
@@ -32,6 +33,7 @@ report bytes =
     let read = input-report (read-text bytes) in
     pick (ltb 4096 (length bytes)) (refused 11 0) read
 
+-- Main's output of its input.
 unfoldable pub text-output : List ℕ → List ℕ
 unfolding report plan-lines refusal-line
 text-output bytes = printed (report bytes)

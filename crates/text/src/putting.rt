@@ -7,8 +7,8 @@ ghost use Prim.Native.Nat.{_+_, _*_, _<_};
 ghost use lib.ListN.{length};
 ghost use Rattle.appointments.specs.Appointments.{appts};
 ghost use Rattle.desk.specs.Waiting.{waiting};
-ghost use Rattle.text.specs.Printing.{decimal, «appointment-lines», «party-lines», «plan-lines», «refusal-line»};
-ghost use Rattle.text.specs.Placed.{Placed, Printed, Room, field, «Good-parties», «appointment-line», «party-line»};
+ghost use Rattle.text.specs.Printing.{decimal, «party-line», «appointment-lines», «party-lines», «plan-lines», «refusal-line»};
+ghost use Rattle.text.specs.Placed.{Placed, Printed, Room, field, «Passes-1-to-5», «appointment-line-at»};
 
 // Puts one byte.
 fn put_byte(out: &mut [u8], at: usize, byte: u8) -> usize
@@ -19,7 +19,7 @@ fn put_byte(out: &mut [u8], at: usize, byte: u8) -> usize
     at + 1
 }
 
-// Puts a word.
+// Puts bytes one after the other.
 fn put_bytes(out: &mut [u8], at: usize, bytes: &[u8]) -> usize
     requires { ⌜ Room (now out) at (now bytes) ⌝ }
     ensures { λ r. ⌜ Placed (now (out .entry)) at (now (bytes .entry)) (now (out .exit)) r ⌝ }
@@ -55,8 +55,8 @@ fn put_field(out: &mut [u8], at: usize, n: usize, end: u8) -> usize
 
 // Puts the line of the appointment at a position: the position, its ends and its slot.
 fn put_appointment(list: &[u16], slots: &[u16], i: usize, out: &mut [u8], at: usize) -> usize
-    requires { ⌜ (2 * i + 1 < length (now list)) × Room (now out) at (appointment-line (now list) (now slots) i) ⌝ }
-    ensures { λ r. ⌜ Placed (now (out .entry)) at (appointment-line (now (list .entry)) (now (slots .entry)) i) (now (out .exit)) r ⌝ }
+    requires { ⌜ (2 * i + 1 < length (now list)) × Room (now out) at (appointment-line-at (now list) (now slots) i) ⌝ }
+    ensures { λ r. ⌜ Placed (now (out .entry)) at (appointment-line-at (now (list .entry)) (now (slots .entry)) i) (now (out .exit)) r ⌝ }
 {
     let first = words::get16(list, 2 * i);
     let second = words::get16(list, 2 * i + 1);
@@ -84,7 +84,7 @@ fn put_appointments(list: &[u16], slots: &[u16], out: &mut [u8], start: usize) -
 
 // The waiting of a party, which the desk gives of every list that passes checks 1 to 5.
 fn waiting_of(p: u16, list: &[u16], party: u16) -> usize
-    requires { ⌜ Good-parties p (now list) × (party < p) ⌝ }
+    requires { ⌜ Passes-1-to-5 p (now list) × (party < p) ⌝ }
     ensures { λ r. ⌜ r ≡ waiting p (appts (now (list .entry))) party ⌝ }
 {
     let asked = desk::asking::waiting(p, list, party);
@@ -96,7 +96,7 @@ fn waiting_of(p: u16, list: &[u16], party: u16) -> usize
 
 // Puts the line of a party: the party and its waiting.
 fn put_party(p: u16, list: &[u16], party: u16, out: &mut [u8], at: usize) -> usize
-    requires { ⌜ Good-parties p (now list) × ((party < p) × Room (now out) at (party-line p (appts (now list)) party)) ⌝ }
+    requires { ⌜ Passes-1-to-5 p (now list) × ((party < p) × Room (now out) at (party-line p (appts (now list)) party)) ⌝ }
     ensures { λ r. ⌜ Placed (now (out .entry)) at (party-line p (appts (now (list .entry))) party) (now (out .exit)) r ⌝ }
 {
     let waits = waiting_of(p, list, party);
@@ -107,7 +107,7 @@ fn put_party(p: u16, list: &[u16], party: u16, out: &mut [u8], at: usize) -> usi
 
 // Puts the lines of all parties.
 fn put_parties(p: u16, list: &[u16], out: &mut [u8], start: usize) -> usize
-    requires { ⌜ Good-parties p (now list) × Room (now out) start (party-lines p (appts (now list)) 0 p) ⌝ }
+    requires { ⌜ Passes-1-to-5 p (now list) × Room (now out) start (party-lines p (appts (now list)) 0 p) ⌝ }
     ensures { λ r. ⌜ Placed (now (out .entry)) start (party-lines p (appts (now (list .entry))) 0 p) (now (out .exit)) r ⌝ }
 {
     let mut at = start;
@@ -121,7 +121,7 @@ fn put_parties(p: u16, list: &[u16], out: &mut [u8], start: usize) -> usize
 
 // Puts an accepted plan: D, then the appointments, then the parties. It gives the number of bytes.
 pub(crate) fn put_plan(p: u16, list: &[u16], d: usize, slots: &[u16], out: &mut [u8]) -> usize
-    requires { ⌜ Good-parties p (now list) × Room (now out) 0 (plan-lines p (now list) d (now slots)) ⌝ }
+    requires { ⌜ Passes-1-to-5 p (now list) × Room (now out) 0 (plan-lines p (now list) d (now slots)) ⌝ }
     ensures { λ r. ⌜ Printed (plan-lines p (now (list .entry)) d (now (slots .entry))) r (now (out .entry)) (now (out .exit)) ⌝ }
 {
     let at_number = put_bytes(out, 0, b"plan ");

@@ -4,7 +4,7 @@ use mathlib.Core.Path.{_≡_}
 use mathlib.Core.List.{List, _++_}
 use Rattle.text.specs.Ascii.{space, line-feed}
 use Rattle.text.specs.Printing.{decimal}
-use Rattle.text.specs.Placed.{Room, field, appointment-line}
+use Rattle.text.specs.Placed.{Room, field, appointment-line-at}
 use Rattle.text.proofs.PlacingSteps.{room-first, room-then, placed-then, appointment-fields}
 use borrow.Author.Needs.{needs}
 use Rattle.text.proofs.putting.put_appointment.Statement.{statement}
@@ -16,7 +16,7 @@ Fields c =
     field (decimal (c .before .before .before .before .before .before .args .i)) space
     ++ (field (decimal (c .before .before .get16 .result)) space ++ (field (decimal (c .before .get162 .result)) space ++ field (decimal (c .get163 .result)) line-feed))
 
-fields : (c : tie.After-get163) → appointment-line (c .before .before .before .before .before .before .args .list .now) (c .before .before .before .before .before .before .args .slots .now) (c .before .before .before .before .before .before .args .i) ≡ Fields c
+fields : (c : tie.After-get163) → appointment-line-at (c .before .before .before .before .before .before .args .list .now) (c .before .before .before .before .before .before .args .slots .now) (c .before .before .before .before .before .before .args .i) ≡ Fields c
 fields c =
     appointment-fields (c .before .before .before .before .before .before .args .list .now) (c .before .before .before .before .before .before .args .slots .now) (c .before .before .before .before .before .before .args .i) _ _ _
     (c .before .before .get16 .ensures .0) (c .before .get162 .ensures .0) (c .get163 .ensures .0)

@@ -4,8 +4,8 @@ use mathlib.Core.Path.{_≡_}
 use mathlib.Core.List.{List, _++_}
 use Rattle.appointments.specs.Appointments.{appts}
 use Rattle.text.specs.Ascii.{ascii, space, line-feed}
-use Rattle.text.specs.Printing.{decimal}
-use Rattle.text.specs.Placed.{Room, field, party-line}
+use Rattle.text.specs.Printing.{decimal, party-line}
+use Rattle.text.specs.Placed.{Room, field}
 use Rattle.text.proofs.PlacingSteps.{room-first, room-then, placed-then, party-fields}
 use borrow.Author.Needs.{needs}
 use Rattle.text.proofs.putting.put_party.Statement.{statement}
