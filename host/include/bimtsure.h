@@ -60,7 +60,8 @@ struct bimtsure_read bimtsure_read_plan(const uint8_t *bytes, size_t bytes_len, 
 
 /* Opens a viewer over a list and its slots (refuses by 2 and 7) and takes one step of it, from a position to the next
  * appointment of a party: found is 1, with the appointment's position and slot; or 0 at the end. The next step starts at `next`,
- * which is A at the end. Begin at 0. Positions are as wide as a length, since opening bounds no list. */
+ * which is A at the end. Begin at 0. Positions are as wide as a length, since opening bounds no list. There is no place: opening
+ * refuses with place 0. */
 struct bimtsure_seen {
     uint32_t number;
     uint32_t found;

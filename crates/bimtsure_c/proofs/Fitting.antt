@@ -13,13 +13,12 @@ use Rattle.appointments.proofs.Answering.{d-small}
 use Rattle.appointments.proofs.Causes.{bar-cause, bar-at-cause, never-refused}
 use Rattle.appointments.proofs.ChecksLaws.{good-goes-on}
 use Rattle.appointments.proofs.FirstFrom.{found-is-first}
-use Rattle.desk.specs.Answers.{Answer, accepted, refused, answer}
+use Rattle.desk.specs.Answers.{accepted, refused, answer}
 use Rattle.desk.specs.Waiting.{waiting, waiting-checks, waiting-answer}
-use Rattle.desk.specs.Filed.{filed-length, writing-checks, writing-answer, Header, header, reading-checks, reading-answer}
+use Rattle.desk.specs.Filed.{filed-length, writing-checks, writing-answer, header-of, header, reading-checks, reading-answer}
 use Rattle.desk.specs.Viewer.{viewer-checks, viewer-answer}
 use Rattle.desk.proofs.WaitingLaws.{accepted-askable, waiting-and-load}
 use Rattle.desk.proofs.FiledLaws.{accepted-writable, accepted-readable}
-use Rattle.bimtsure_c.proofs.Telling.{header-of}
 
 -- a number and a place below 2^32
 abbrev pub Both-fit : ℕ → ℕ → Type 0

@@ -2,7 +2,7 @@
 use Prim.Native.Nat.{ℕ}
 use mathlib.Core.Path.{_≡_, refl}
 use Rattle.desk.specs.Answers.{Answer, accepted, refused, number-of, place-of, figure-of}
-use Rattle.desk.specs.Filed.{Header, parties-of, appointments-of}
+use Rattle.desk.specs.Filed.{Header, header-of, parties-of, appointments-of}
 use Rattle.desk.specs.Viewer.{Step, found, end}
 use Rattle.desk.specs.Told.{asked-of, filed-of, read-of, opened-of, shown-of}
 use Rattle.desk.specs.declared.asking.Asked.the-variants as asked
@@ -29,9 +29,6 @@ filed-written (refused k i) n e = cc
 pub filed-refused : (a : Answer ℕ) (n i : ℕ) → filed-of a ≡ filed.Refused n i → a ≡ refused n i
 filed-refused (accepted m) n i e = cc
 filed-refused (refused k j) n i e = cc
-
-abbrev pub header-of : ℕ → ℕ → Header
-header-of P A = record { parties = P; appointments = A }
 
 pub read-plan : (a : Answer Header) (P A : ℕ) → read-of a ≡ read.Plan P A → a ≡ accepted (header-of P A)
 read-plan (accepted h) P A e =

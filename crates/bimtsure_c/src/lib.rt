@@ -52,7 +52,7 @@ pub struct BimtsureRead {
 }
 
 // Number; 1 for an appointment with its position and slot, or 0 for the end; and where the viewer then stands. Positions are as
-// wide as a list's length, since opening bounds no list.
+// wide as a list's length, since opening bounds no list. There is no place: opening refuses with place 0.
 #[repr(C)]
 pub struct BimtsureView {
     pub number: u32,

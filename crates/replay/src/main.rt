@@ -1,6 +1,7 @@
 // Runs the planning call on stored lists, and compares each answer with the stored one, which is the Rust's. Standard input has
 // a line for each list, as `P first-second .. = planned D s0 s1 ..` or `P first-second .. = refused NUMBER PLACE`; a remark may
-// follow a `#`. README.txt says how the lines were made. A line that can't be read counts as different.
+// follow a `#`. README.txt says how the lines were made. A line without a number before its `=` counts as different;
+// numbers are cut to 16 bits.
 use libc::STDIN_FILENO;
 use libc::STDOUT_FILENO;
 use planning::Answer;

@@ -3,7 +3,8 @@
 use mathlib.Core.Path.{_≡_}
 use native.Mathlib.Omega.{arith}
 use Rattle.planning.specs.Planning.{planned, refusal, plan-answer}
-use Rattle.bimtsure_c.proofs.PlanNumbers.{told-planned, told-refused, planned-says, refusal-says, refusal-by, planned-small, refusal-small}
+use Rattle.planning.proofs.Demand3.{refusal-small}
+use Rattle.bimtsure_c.proofs.PlanNumbers.{told-planned, told-refused, planned-says, refusal-says, refusal-by, planned-small}
 use borrow.Author.Needs.{needs}
 use Rattle.bimtsure_c.proofs.bimtsure_plan.Statement.{statement}
 use Rattle.bimtsure_c.proofs.bimtsure_plan.Tie as tie
