@@ -28,11 +28,11 @@ fn first_not_below(list: &[u16], bound: usize) -> Found
     let a = list.len() / 2;
     let mut i = 0;
     while i < a {
-        let first = words::half_word_at(list, 2 * i);
+        let first = words::word16_at(list, 2 * i);
         if bound <= first {
             return Found::At(i);
         }
-        let second = words::half_word_at(list, 2 * i + 1);
+        let second = words::word16_at(list, 2 * i + 1);
         if bound <= second {
             return Found::At(i);
         }
@@ -57,7 +57,7 @@ fn count_loads(list: &[u16], loads: &mut [u32])
 {
     let mut i = 0;
     while i < list.len() {
-        let v = words::half_word_at(list, i);
+        let v = words::word16_at(list, i);
         add_load(loads, v);
         i += 1;
     }

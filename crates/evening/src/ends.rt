@@ -4,7 +4,7 @@ ghost use lib.ListN.{length};
 ghost use Rattle.multigraph.specs.Regular.{«Same-ends»};
 ghost use Rattle.evening.specs.Ends.{Says, Earlier, Joins};
 use words::get16;
-use words::half_word_at;
+use words::word16_at;
 
 // Are `x` and `y` the ends `a` and `b`, one way round or the other?
 pub(crate) fn same_ends(a: usize, b: usize, x: usize, y: usize) -> usize
@@ -43,7 +43,7 @@ pub(crate) fn earlier(list: &[u16], j: usize, i: usize, v: usize, w: usize) -> u
     if i < j {
         return 0;
     }
-    let x = half_word_at(list, 2 * j);
-    let y = half_word_at(list, 2 * j + 1);
+    let x = word16_at(list, 2 * j);
+    let y = word16_at(list, 2 * j + 1);
     same_ends(v, w, x, y)
 }

@@ -12,10 +12,10 @@ use crate::rows::RowBases;
 use crate::rows::fill_rows;
 use words::EdgeIndex;
 use words::NodeIndex;
-use words::half_word_at;
 use words::put;
 use words::set_word;
 use words::word_at;
+use words::word16_at;
 
 // The number of appointment `i`'s pair, for which its representative stands at `apair`: that of an earlier appointment, or the
 // next number.
@@ -40,8 +40,8 @@ fn add_appointment(s: &mut [u32], list: &[u16], at: Bases, i: usize)
     ensures { λ r. ⌜ Built (now (list .entry)) at (i + 1) (now (s .entry)) (now (s .exit)) ⌝ }
 {
     let e = pair_of(s, at.g, at.apair, i);
-    let x = half_word_at(list, 2 * i);
-    let y = half_word_at(list, 2 * i + 1);
+    let x = word16_at(list, 2 * i);
+    let y = word16_at(list, 2 * i + 1);
     add_pair(
         s,
         at.ends,

@@ -7,9 +7,9 @@ ghost use Prim.Native.Nat.{_<_};
 ghost use Rattle.evening.specs.Representatives.{mate, Finds, «Rep-found», «Reps-fit», «Row-done», «Reps-done»};
 use crate::ends::earlier;
 use crate::rows::RowBases;
-use words::half_word_at;
 use words::set_word;
 use words::word_at;
+use words::word16_at;
 
 // The half-edge at the other end of the same appointment.
 fn other_half(h: usize) -> usize
@@ -27,9 +27,9 @@ fn find_rep(s: &mut [u32], list: &[u16], map: usize, apair: usize, h: usize)
     ensures { λ r. ⌜ Rep-found (now (list .entry)) map apair h (now (s .entry)) (now (s .exit)) ⌝ }
 {
     let i = h / 2;
-    let v = half_word_at(list, h);
+    let v = word16_at(list, h);
     let f = other_half(h);
-    let w = half_word_at(list, f);
+    let w = word16_at(list, f);
     let j = word_at(s, map + w);
     let found = earlier(list, j, i, v, w);
     if found == 1 {

@@ -5,9 +5,9 @@ ghost use Prim.Native.Nat.{_+_, _*_, _<_, _≤_};
 ghost use lib.ListN.{length};
 ghost use Rattle.words.specs.Words.{word, «put-word»};
 ghost use Rattle.evening.specs.Rows.{Cleared, Pushes, «row-pushed», «Rows-fit», «Rows-filled»};
-use words::half_word_at;
 use words::set_word;
 use words::word_at;
+use words::word16_at;
 
 // Where the rows lie: how many parties have one; the words of each, d; where the counters stand, one for each party; and where the
 // rows stand, that of party 0 first.
@@ -49,7 +49,7 @@ pub(crate) fn fill_rows(s: &mut [u32], list: &[u16], at: RowBases)
     clear_words(s, at.counts, at.parties);
     let mut h = 0;
     while h < list.len() {
-        let v = half_word_at(list, h);
+        let v = word16_at(list, h);
         push_row(s, at, v, h);
         h += 1;
     }

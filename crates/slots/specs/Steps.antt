@@ -3,7 +3,7 @@
 -- places (`few` in Stored.antt). Assumes nothing.
 use Prim.Native.Nat.{ℕ, zero, suc, _+_, _*_, _/_, _%_}
 use mathlib.Core.List.{List}
-use Rattle.words.specs.Words.{word, put-word, put-half-word}
+use Rattle.words.specs.Words.{word, put-word, put-word16}
 
 -- The pair at place t has this slot: its number makes room for its link so far, and its link is now this place.
 unfoldable pub pushed : ℕ → ℕ → ℕ → ℕ → List ℕ → List ℕ
@@ -29,7 +29,7 @@ unfoldable pub taken-words : ℕ → ℕ → ℕ → List ℕ → List ℕ
 taken-words out links at s = put-word s (links + word s at) (word s (out + link links at s % 16384))
 
 unfoldable pub taken-slots : ℕ → ℕ → ℕ → List ℕ → List ℕ → List ℕ
-taken-slots links at i s slots = put-half-word slots i (link links at s / 16384)
+taken-slots links at i s slots = put-word16 slots i (link links at s / 16384)
 
 -- k appointments from i on
 unfoldable pub given-words : ℕ → ℕ → ℕ → ℕ → ℕ → List ℕ → List ℕ

@@ -24,9 +24,9 @@ ghost use Rattle.mark.specs.Taking.{«taken-more»};
 ghost use Rattle.two_color.specs.Contract.{«Can-color», Colored};
 use mark::Mark;
 use words::NodeIndex;
-use words::half_word_at;
 use words::set_word;
 use words::word_at;
+use words::word16_at;
 
 // The sides, with the number of parties on the left; or some closed round of appointments has odd length.
 pub enum TwoColoring {
@@ -90,8 +90,8 @@ fn push_end(s: &mut [u32], u: usize, p: usize, list: &[u16], i: usize, j: usize)
     requires { ⌜ Can-push u p (word (now list) i) (now s) ⌝ }
     ensures { λ r. ⌜ now (s .exit) ≡ pushEndM u p (now (list .entry)) i j (now (s .entry)) ⌝ }
 {
-    let v = half_word_at(list, i);
-    let w = half_word_at(list, j);
+    let v = word16_at(list, i);
+    let w = word16_at(list, j);
     let row = word_at(s, u + 4 * p + 6 + 2 * v);
     append(s, u + 4 * p + 5 + 2 * v, row, w);
 }

@@ -13,5 +13,5 @@ abbrev pub put-word : List ℕ → ℕ → ℕ → List ℕ
 put-word s i x = set s i (x % 4294967296)
 
 -- x, cut to 16 bits, put at i; past the end nothing happens
-abbrev pub put-half-word : List ℕ → ℕ → ℕ → List ℕ
-put-half-word s i x = set s i (x % 65536)
+abbrev pub put-word16 : List ℕ → ℕ → ℕ → List ℕ
+put-word16 s i x = set s i (x % 65536)

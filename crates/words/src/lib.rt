@@ -4,7 +4,7 @@ ghost use mathlib.Core.Path.{_≡_};
 ghost use mathlib.Core.List.{_++_};
 ghost use Prim.Native.Nat.{ℕ, _+_, _<_, _≤_};
 ghost use lib.ListN.{length, replicate, drop};
-ghost use Rattle.words.specs.Words.{word, «put-word», «put-half-word»};
+ghost use Rattle.words.specs.Words.{word, «put-word», «put-word16»};
 
 // A party's number.
 pub struct NodeIndex(pub u32);
@@ -45,7 +45,7 @@ pub fn get16(s: &[u16], i: usize) -> usize
 
 // Puts `x`, cut to 16 bits, at `i`; past the end nothing happens.
 pub fn put16(s: &mut [u16], i: usize, x: usize)
-    ensures { λ r. ⌜ now (s .exit) ≡ put-half-word (now (s .entry)) i x ⌝ }
+    ensures { λ r. ⌜ now (s .exit) ≡ put-word16 (now (s .entry)) i x ⌝ }
 {
     if i < s.len() {
         s[i] = (x % 65536) as u16;
@@ -70,7 +70,7 @@ pub fn set_word(s: &mut [u32], i: usize, x: usize)
 }
 
 // The 16-bit word at `i`, which is a place: no test.
-pub fn half_word_at(s: &[u16], i: usize) -> usize
+pub fn word16_at(s: &[u16], i: usize) -> usize
     requires { ⌜ i < length (now s) ⌝ }
     ensures { λ r. ⌜ (r ≡ word (now (s .entry)) i) × (r < 65536) ⌝ }
 {

@@ -30,7 +30,7 @@ loop-again c =
     let i = c .before .before .before .before .before .before .loop .i in
     let s = c .before .before .before .before .before .before .loop .loads in
     let inv = c .before .before .before .before .before .before .loop .inv in
-    let v : c .before .before .before .before .half-word-at .result ≡ word l i = c .before .before .before .before .half-word-at .ensures .0 in
+    let v : c .before .before .before .before .word16-at .result ≡ word l i = c .before .before .before .before .word16-at .ensures .0 in
     let e : c .before .before .add-load .last .0 ≡ put-word s (word l i) (word s (word l i) + 1) = cc (c .before .before .add-load .ensures) in (
       search needs,
       ap length e ∙ length-put s (word l i) (word s (word l i) + 1) ∙ inv .1,

@@ -30,7 +30,7 @@ returns c =
     let i = c .before .before .before .loop .i in
     let l = c .before .before .before .before .before .args .list .now in
     let b = c .before .before .before .before .before .args .bound in
-    let h : b ≤ word l (2 * i) = omega (arith, c .before .half-word-at .ensures .0) in
+    let h : b ≤ word l (2 * i) = omega (arith, c .before .word16-at .ensures .0) in
     ap found (sym (c .before .before .before .loop .inv .1 ∙ search-first l b i (omega arith) h))
 
 returns-2 : tie.Need-returns-2 Inv-loop μ-loop
@@ -38,8 +38,8 @@ returns-2 c =
     let i = c .before .before .before .before .before .loop .i in
     let l = c .before .before .before .before .before .before .before .args .list .now in
     let b = c .before .before .before .before .before .before .before .args .bound in
-    let g : word l (2 * i) < b = omega (arith, c .before .before .before .half-word-at .ensures .0) in
-    let h : b ≤ word l (2 * i + 1) = omega (arith, c .before .half-word-at2 .ensures .0) in
+    let g : word l (2 * i) < b = omega (arith, c .before .before .before .word16-at .ensures .0) in
+    let h : b ≤ word l (2 * i + 1) = omega (arith, c .before .word16-at2 .ensures .0) in
     ap found (sym (c .before .before .before .before .before .loop .inv .1 ∙ search-second l b i (omega arith) g h))
 
 loop-again : tie.Need-loop-again Inv-loop μ-loop
@@ -47,8 +47,8 @@ loop-again c =
     let i = c .before .before .before .before .before .loop .i in
     let l = c .before .before .before .before .before .before .before .args .list .now in
     let b = c .before .before .before .before .before .before .before .args .bound in
-    let g : word l (2 * i) < b = omega (arith, c .before .before .before .half-word-at .ensures .0) in
-    let h : word l (2 * i + 1) < b = omega (arith, c .before .half-word-at2 .ensures .0) in
+    let g : word l (2 * i) < b = omega (arith, c .before .before .before .word16-at .ensures .0) in
+    let h : word l (2 * i + 1) < b = omega (arith, c .before .word16-at2 .ensures .0) in
     (search needs, c .before .before .before .before .before .loop .inv .1 ∙ search-on l b i (omega arith) g h)
 
 returns-3 : tie.Need-returns-3 Inv-loop μ-loop

@@ -10,7 +10,7 @@ use Rattle.two_color.proofs.push_end.Tie as tie
 append-requires : tie.Need-append-requires
 append-requires c κs =
     let a = c .before .before .before .before .before .before .before .args in
-    let e : c .before .before .before .before .half-word-at .result ≡ word (a .list .now) (a .i) = c .before .before .before .before .half-word-at .ensures .0 in
+    let e : c .before .before .before .before .word16-at .result ≡ word (a .list .now) (a .i) = c .before .before .before .before .word16-at .ensures .0 in
     let r : c .before .word-at .result ≡ word (a .s .now) (row-start (a .u) (a .p) (word (a .list .now) (a .i))) = rw e at (c .before .word-at .ensures .0) in
     (omega (arith, c .before .word-at .ensures .1), rw (e, r) (c .before .before .before .before .before .before .before .pre .1 .1 .appends))
 

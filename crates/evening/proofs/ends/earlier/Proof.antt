@@ -13,7 +13,7 @@ returns c = inr (λ e. omega (arith, e .0, c .if1 .taken), refl)
 returns-2 : tie.Need-returns-2
 returns-2 c =
     let a = c .before .before .before .before .before .args in
-    let joined : Says (c .same-ends .result) (Joins (a .list .now) (a .j) (a .v) (a .w)) = rw (c .before .before .half-word-at .ensures .0, c .before .half-word-at2 .ensures .0) at (c .same-ends .ensures) in
+    let joined : Says (c .same-ends .result) (Joins (a .list .now) (a .j) (a .v) (a .w)) = rw (c .before .before .word16-at .ensures .0, c .before .word16-at2 .ensures .0) at (c .same-ends .ensures) in
     ⊎-elim (λ x. inl ((omega arith, x .0), x .1)) (λ x. inr (λ y. x .0 (y .1), x .1)) joined
 
 pub earlier-spec : {M : Type 1} → statement M

@@ -20,8 +20,8 @@ returns : tie.Need-returns
 returns c =
     let a = c .before .before .before .before .before .before .before .before .before .before .before .before .before .before .before .before .args in
     let ee : c .before .before .before .before .before .before .before .before .before .before .before .before .pair-of .result .0 ≡ pair-of (a .at .g) (a .at .apair) (a .i) (a .s .now) = c .before .before .before .before .before .before .before .before .before .before .before .before .pair-of .ensures in
-    let ex : c .before .before .before .before .before .before .before .before .before .before .before .half-word-at .result ≡ first-of (a .list .now) (a .i) = c .before .before .before .before .before .before .before .before .before .before .before .half-word-at .ensures .0 in
-    let ey : c .before .before .before .before .before .before .before .before .before .before .half-word-at2 .result ≡ second-of (a .list .now) (a .i) = c .before .before .before .before .before .before .before .before .before .before .half-word-at2 .ensures .0 in
+    let ex : c .before .before .before .before .before .before .before .before .before .before .before .word16-at .result ≡ first-of (a .list .now) (a .i) = c .before .before .before .before .before .before .before .before .before .before .before .word16-at .ensures .0 in
+    let ey : c .before .before .before .before .before .before .before .before .before .before .word16-at2 .result ≡ second-of (a .list .now) (a .i) = c .before .before .before .before .before .before .before .before .before .before .word16-at2 .ensures .0 in
     let h = c .before .before .before .before .before .before .before .before .before .before .before .before .before .before .before .before .pre .0 in
     let inside = c .before .before .before .before .before .before .before .before .before .before .before .before .before .before .before .before .pre .1 in
     let fit = fits (a .list .now) (a .at) (a .i) (a .s .now) h inside (omega (arith, ex)) (omega (arith, ey)) in

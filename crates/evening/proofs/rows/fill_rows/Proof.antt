@@ -27,9 +27,9 @@ push-row-requires : tie.Need-push-row-requires Inv-loop μ-loop
 push-row-requires c κs =
     let a = c .before .before .before .before .before .before .before .before .before .before .args in
     let h = c .before .before .before .before .before .before .before .before .before .before .pre in
-    let e : c .before .half-word-at .result ≡ word (a .list .now) (c .before .before .before .loop .h) = c .before .half-word-at .ensures .0 in
-    let v : c .before .half-word-at .result < a .at .parties = rw e (h .ends (c .before .before .before .loop .h) (omega arith)) in
-    let less : c .before .half-word-at .result ≤ a .at .parties = omega arith in
+    let e : c .before .word16-at .result ≡ word (a .list .now) (c .before .before .before .loop .h) = c .before .word16-at .ensures .0 in
+    let v : c .before .word16-at .result < a .at .parties = rw e (h .ends (c .before .before .before .loop .h) (omega arith)) in
+    let less : c .before .word16-at .result ≤ a .at .parties = omega arith in
     let lp = c .before .before .before .loop in
     let none = filled-none (a .list .now) (a .at) (a .s .now) h (c .before .before .before .before .before .before .clear-words .last .0) (c .before .before .before .before .before .before .clear-words .ensures) in
     let place = pushes (a .list .now) (a .at) (a .s .now) h (lp .h) (lp .s) (omega arith) (lp .inv .2 (a .s .now) h none) in
@@ -39,7 +39,7 @@ loop-again : tie.Need-loop-again Inv-loop μ-loop
 loop-again c =
     let a = c .before .before .before .before .before .before .before .before .before .before .before .before .before .args in
     let lp = c .before .before .before .before .before .before .loop in
-    let e : c .before .before .before .before .half-word-at .result ≡ word (a .list .now) (lp .h) = c .before .before .before .before .half-word-at .ensures .0 in
+    let e : c .before .before .before .before .word16-at .result ≡ word (a .list .now) (lp .h) = c .before .before .before .before .word16-at .ensures .0 in
     (search needs, search needs, λ first k x. filled-more (a .list .now) (a .at) first k (lp .h) (lp .s) (omega arith) (lp .inv .2 first k x) (c .before .before .push-row .last .0) (rw e at (c .before .before .push-row .ensures)))
 
 returns : tie.Need-returns Inv-loop μ-loop
