@@ -20,7 +20,7 @@ use Rattle.text.specs.Told.{Read-as}
 use Rattle.text.specs.Placed.{Room, Printed, Passes-1-to-5}
 use Rattle.text.specs.declared.parsing.ReadInput.{ReadInput}
 use Rattle.text.specs.declared.parsing.ReadInput.the-variants as read
-use Rattle.text.proofs.TextLaws.{plans-fit, planned-passes, answer-fits, output-fits}
+use Rattle.text.proofs.TextLaws.{planned-passes, answer-fits, output-fits}
 
 -- bytes that 1,801 hold have room
 room : (bytes out : List ℕ) → length bytes ≤ 1801 → 1801 ≤ length out → Room out 0 bytes
@@ -40,7 +40,7 @@ module _ (P : ℕ) (list : List ℕ) where
   bytes-of a = printed (planned-report P list a main-slots)
 
   bytes-fit : (a : Planning.Answer) → Answered a → length (bytes-of a) ≤ 1801
-  bytes-fit a e = subst (λ b. length (bytes-of b) ≤ 1801) e (answer-fits plans-fit P list)
+  bytes-fit a e = subst (λ b. length (bytes-of b) ≤ 1801) e (answer-fits P list)
 
   pub bytes-printed :
       (a : Planning.Answer) → Answered a → (n : ℕ) (out after : List ℕ) → Printed (bytes-of a) n out after →
@@ -109,7 +109,7 @@ output-read bytes i h e = rw (le-ltb 4096 (length bytes) h, e)
 
 -- Main's bytes have room in 1,801,
 pub output-room : (bytes line out : List ℕ) → text-output bytes ≡ line → 1801 ≤ length out → Room out 0 line
-output-room bytes line out e h = rw (← e) (room (text-output bytes) out (output-fits plans-fit bytes) h)
+output-room bytes line out e h = rw (← e) (room (text-output bytes) out (output-fits bytes) h)
 
 -- and what is printed is what main prints; it stands in the output.
 pub output-printed :

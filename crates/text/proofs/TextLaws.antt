@@ -31,47 +31,9 @@ planned-passes P list slots scratch D e =
     let demand = demand-3 P list slots scratch in
     (passed-passes P list (length slots) (length scratch) (demand .only-passed D e), demand .plan D e .largest)
 
--- ── the whole output ──
-
--- every slot of a plan that main gets has at most five digits
-abbrev pub Plans-fit : Type 0
-Plans-fit =
-    (P : ℕ) (list : List ℕ) (D : ℕ) → plan-answer P list lent-slots lent-scratch ≡ planned D
+-- By demand 3 the slots of a plan that main gets are below D, which is below 1,000: they have at most five digits.
+plans-fit : (P : ℕ) (list : List ℕ) (D : ℕ) → plan-answer P list lent-slots lent-scratch ≡ planned D
     → Slots-fit list (plan-slots P list lent-slots lent-scratch)
-
--- the report of an answer
-pub answer-fits : Plans-fit → (P : ℕ) (list : List ℕ) → length (printed (planned-report P list (plan-answer P list lent-slots lent-scratch) (plan-slots P list lent-slots lent-scratch))) ≤ 1801
-answer-fits fit P list = go (plan-answer P list lent-slots lent-scratch) refl
-  where
-    go : (a : Answer) → plan-answer P list lent-slots lent-scratch ≡ a → length (printed (planned-report P list a (plan-slots P list lent-slots lent-scratch))) ≤ 1801
-    go (planned D) e =
-        let p : Passes P list 4096 16384 × (largest-load P (appts list) ≡ D) = planned-passes P list lent-slots lent-scratch D e in
-        let slots : List ℕ = plan-slots P list lent-slots lent-scratch in
-        subst (λ (E : ℕ). length (plan-lines P list E slots) ≤ 1801) (p .1) (plan-fits P list slots (p .0) (fit P list D e))
-    go (refusal number place) e =
-        let small = refusal-small P list lent-slots lent-scratch number place e in
-        omega (arith, refusal-fits number place (omega (arith, small .number)) (omega (arith, small .place)))
-
-input-fits : Plans-fit → (bytes : List ℕ) → length bytes ≤ 4096 → length (printed (input-report (read-text bytes))) ≤ 1801
-input-fits fit bytes h = go (read-text bytes) refl
-  where
-    go : (i : Input) → read-text bytes ≡ i → length (printed (input-report i)) ≤ 1801
-    go (input P list) e = answer-fits fit P list
-    go (malformed n) e = omega (arith, refusal-fits 10 n (omega arith) (omega (arith, malformed-place bytes n e)))
-
--- Main's output has at most 1,801 bytes, whatever its input.
-pub output-fits : Plans-fit → (bytes : List ℕ) → length (text-output bytes) ≤ 1801
-unfolding text-output report
-output-fits fit bytes = go (ltb 4096 (length bytes)) refl
-  where
-    go : (t : Bool) → ltb 4096 (length bytes) ≡ t → length (printed (pick t (Report.refused 11 0) (input-report (read-text bytes)))) ≤ 1801
-    go true e = omega (arith, refusal-fits 11 0 (omega arith) (omega arith))
-    go false e = input-fits fit bytes (ltb-false 4096 (length bytes) e)
-
--- ── that the plans fit, from demand 3 ──
-
--- By demand 3 main's slots are below D, and D is below 1,000.
-pub plans-fit : Plans-fit
 plans-fit P list D e j h =
     let after : List ℕ = plan-slots P list lent-slots lent-scratch in
     let p : Passes P list 4096 16384 × (largest-load P (appts list) ≡ D) = planned-passes P list lent-slots lent-scratch D e in
@@ -79,3 +41,34 @@ plans-fit P list D e j h =
     let below : getD (take (length (appts list)) after) j 0 < D = all-at (λ (s : ℕ). s < D) (take (length (appts list)) after) 0 (plan .below) j (omega (arith, plan .plan-of)) in
     let same : getD (take (length (appts list)) after) j 0 ≡ getD after j 0 = getD-take (length (appts list)) after j 0 h in
     omega (arith, small-load P (appts list) (omega (arith, p .0 .scratch-room)), p .1)
+
+-- ── the whole output ──
+
+-- the report of an answer
+pub answer-fits : (P : ℕ) (list : List ℕ) → length (printed (planned-report P list (plan-answer P list lent-slots lent-scratch) (plan-slots P list lent-slots lent-scratch))) ≤ 1801
+answer-fits P list = go (plan-answer P list lent-slots lent-scratch) refl
+  where
+    go : (a : Answer) → plan-answer P list lent-slots lent-scratch ≡ a → length (printed (planned-report P list a (plan-slots P list lent-slots lent-scratch))) ≤ 1801
+    go (planned D) e =
+        let p : Passes P list 4096 16384 × (largest-load P (appts list) ≡ D) = planned-passes P list lent-slots lent-scratch D e in
+        let slots : List ℕ = plan-slots P list lent-slots lent-scratch in
+        subst (λ (E : ℕ). length (plan-lines P list E slots) ≤ 1801) (p .1) (plan-fits P list slots (p .0) (plans-fit P list D e))
+    go (refusal number place) e =
+        let small = refusal-small P list lent-slots lent-scratch number place e in
+        omega (arith, refusal-fits number place (omega (arith, small .number)) (omega (arith, small .place)))
+
+input-fits : (bytes : List ℕ) → length bytes ≤ 4096 → length (printed (input-report (read-text bytes))) ≤ 1801
+input-fits bytes h = go (read-text bytes) refl
+  where
+    go : (i : Input) → read-text bytes ≡ i → length (printed (input-report i)) ≤ 1801
+    go (input P list) e = answer-fits P list
+    go (malformed n) e = omega (arith, refusal-fits 10 n (omega arith) (omega (arith, malformed-place bytes n e)))
+
+-- Main's output has at most 1,801 bytes, whatever its input.
+pub output-fits : (bytes : List ℕ) → length (text-output bytes) ≤ 1801
+unfolding text-output report
+output-fits bytes = go (ltb 4096 (length bytes)) refl
+  where
+    go : (t : Bool) → ltb 4096 (length bytes) ≡ t → length (printed (pick t (Report.refused 11 0) (input-report (read-text bytes)))) ≤ 1801
+    go true e = omega (arith, refusal-fits 11 0 (omega arith) (omega arith))
+    go false e = input-fits bytes (ltb-false 4096 (length bytes) e)
