@@ -1,5 +1,5 @@
-// Words in lent slices: reading and writing, with a test (total) or without (at a place that is one), and clearing. Everything
-// above stands on these.
+// Words in lent slices: reading and writing, with a test (total) or without (at a place that is one), and clearing; and the
+// numbers of parties and pairs, two kinds. Everything above stands on these.
 ghost use mathlib.Core.Path.{_≡_};
 ghost use mathlib.Core.List.{_++_};
 ghost use Prim.Native.Nat.{ℕ, _+_, _<_, _≤_};
