@@ -28,6 +28,9 @@ planned-same D E e = cc
 pub refusal-number : (n i k j : ℕ) → refusal n i ≡ refusal k j → n ≡ k
 refusal-number n i k j e = cc
 
+pub refusal-place : (n i k j : ℕ) → refusal n i ≡ refusal k j → i ≡ j
+refusal-place n i k j e = cc
+
 -- A refusal's number is one of document 01's table, and its place is 0 or lies in a list of at most 4,096 appointments.
 pub record Small-refusal (n i : ℕ) : Type 0 where
   pub some : 0 < n
@@ -43,7 +46,7 @@ module _ (P : ℕ) (list : List ℕ) (slots scratch : ℕ) where
       Demand-3 P list slots scratch (refusal n i) after
   refused-demand n i e after =
       record {
-        nine = λ q. absurd (omega (arith, cause-number (refused-cause P list slots scratch n i e) .1, refusal-number n i 9 0 q));
+        nine = λ place q. absurd (omega (arith, cause-number (refused-cause P list slots scratch n i e) .1, refusal-number n i 9 place q));
         nine-only = λ q odd. refused-passed n i (sym e ∙ q);
         accepted = λ q even. refused-passed n i (sym e ∙ q);
         only-passed = λ D q. planned-refusal D n i (sym q);
@@ -55,7 +58,7 @@ module _ (P : ℕ) (list : List ℕ) (slots scratch : ℕ) where
     nine-demand : No-plan P (appts list) → (after : List ℕ) → Demand-3 P list slots scratch (refusal 9 0) after
     nine-demand no-plan after =
         record {
-          nine = λ q. (e, no-plan .odd);
+          nine = λ place q. (sym (refusal-place 9 0 9 place q), e, no-plan .odd);
           nine-only = λ q odd. refl;
           accepted = λ q even. absurd (even (no-plan .odd));
           only-passed = λ D q. e;
@@ -68,7 +71,7 @@ module _ (P : ℕ) (list : List ℕ) (slots scratch : ℕ) where
         Demand-3 P list slots scratch (planned (largest-load P (appts list))) (f .slots ++ rest)
     plan-demand f rest =
         record {
-          nine = λ q. planned-refusal (largest-load P (appts list)) 9 0 q;
+          nine = λ place q. planned-refusal (largest-load P (appts list)) 9 place q;
           nine-only = λ q odd. absurd (f .none-odd odd);
           accepted = λ q even. refl;
           only-passed = λ D q. e;

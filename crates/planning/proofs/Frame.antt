@@ -146,8 +146,9 @@ module _ (P : ℕ) (list : List ℕ) where
     accepted-clears D q = passed-clears (demand-3 P list slots scratch .only-passed D q)
 
     pub nine-clears :
-        plan-answer P list slots scratch ≡ refusal 9 0 → plan-scratch P list slots scratch ≡ replicate W 0 ++ drop W scratch
-    nine-clears q = passed-clears (demand-3 P list slots scratch .nine q .0)
+        (place : ℕ) → plan-answer P list slots scratch ≡ refusal 9 place →
+        plan-scratch P list slots scratch ≡ replicate W 0 ++ drop W scratch
+    nine-clears place q = passed-clears (demand-3 P list slots scratch .nine place q .1)
 
   -- ── what the buffers held before ──
 

@@ -27,8 +27,10 @@ pub record Shortest-plan (P : ℕ) (xs : List Appt) (D : ℕ) (plan : List ℕ) 
 
 -- Demand 3, of P, the list, the lengths of slots and scratch, the answer, and the slots at exit.
 pub record Demand-3 (P : ℕ) (list : List ℕ) (slots scratch : ℕ) (answer : Answer) (after : List ℕ) : Type 0 where
-  -- refusal 9 exactly where the list passes checks 1 to 8 and has a closed round of odd length
-  pub nine : answer ≡ refusal 9 0 → (checks P list slots scratch ≡ passed) × Odd-round (appts list)
+  -- refusal 9, and its place is 0, exactly where the list passes checks 1 to 8 and has a closed round of odd length
+  pub nine :
+      (place : ℕ) → answer ≡ refusal 9 place →
+      (place ≡ 0) × (checks P list slots scratch ≡ passed) × Odd-round (appts list)
   pub nine-only : checks P list slots scratch ≡ passed → Odd-round (appts list) → answer ≡ refusal 9 0
   -- every other list that passes is accepted, and no list that doesn't pass
   pub accepted :
