@@ -3,7 +3,7 @@
  * A lent slice passes as its address and its number of entries; an address of no entries may be anything but NULL, as long as it
  * is aligned. Slices that a call writes must not overlap the others. Nothing is kept after a call.
  *
- * Each answer has a number, 0 for acceptance, and where document 01 names one a place; a refusal's figures are 0, and it leaves
+ * Each answer has a number, 0 for acceptance, and a place, 0 where document 01 names none; a refusal's figures are 0, and it leaves
  * all lent memory as it was (but for scratch after the planning call's 9).
  */
 #ifndef BIMTSURE_H
@@ -60,10 +60,10 @@ struct bimtsure_read bimtsure_read_plan(const uint8_t *bytes, size_t bytes_len, 
 
 /* Opens a viewer over a list and its slots (refuses by 2 and 7) and takes one step of it, from a position to the next
  * appointment of a party: found is 1, with the appointment's position and slot; or 0 at the end. The next step starts at `next`,
- * which is A at the end. Begin at 0. Positions are as wide as a length, since opening bounds no list. There is no place: opening
- * refuses with place 0. */
+ * which is A at the end. Begin at 0. Positions are as wide as a length, since opening bounds no list. */
 struct bimtsure_seen {
     uint32_t number;
+    uint32_t place;
     uint32_t found;
     size_t position;
     uint32_t slot;

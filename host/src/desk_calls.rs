@@ -145,9 +145,12 @@ fn view(case: &Case, random: &mut Random, counts: &mut BTreeMap<u32, usize>) -> 
                 let seen = viewer.step(party);
                 let (position, slot) = seen.unwrap_or((0, 0));
                 let slot = u32::from(slot);
-                View { number: 0, found: u32::from(seen.is_some()), position, slot, next: viewer.at }
+                View { number: 0, place: 0, found: u32::from(seen.is_some()), position, slot, next: viewer.at }
             }
-            Err(Refusal { number, .. }) => View { number: u32::from(number), found: 0, position: 0, slot: 0, next: 0 },
+            Err(refusal) => {
+                let (number, place) = numbers_of(refusal);
+                View { number, place, found: 0, position: 0, slot: 0, next: 0 }
+            }
         };
         count(counts, expected.number);
         let answered = exported::view(list, slots, party, from);

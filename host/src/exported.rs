@@ -110,6 +110,7 @@ pub struct Read {
 #[derive(Clone, Copy, Debug, PartialEq, Eq)]
 pub struct View {
     pub number: u32,
+    pub place: u32,
     pub found: u32,
     pub position: usize,
     pub slot: u32,

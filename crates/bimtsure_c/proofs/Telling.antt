@@ -64,24 +64,25 @@ pub read-refused-says : (a : Answer Header) (n i : ℕ) → a ≡ refused n i �
 read-refused-says a n i e = rw e (refl, refl, refl, refl)
 
 -- The numbers of the viewer's answer: those of its opening, and of a step where it is open.
-abbrev pub View-says : Answer Unit → Step → ℕ → ℕ → ℕ → ℕ → ℕ → ℕ → Type 0
-View-says a s stands number shown position slot next =
+abbrev pub View-says : Answer Unit → Step → ℕ → ℕ → ℕ → ℕ → ℕ → ℕ → ℕ → Type 0
+View-says a s stands number place shown position slot next =
     (number ≡ number-of a)
-    × ((shown ≡ if-open a (found-of s)) × ((position ≡ if-open a (position-of s)) × ((slot ≡ if-open a (slot-of s)) × (next ≡ if-open a stands))))
+    × ((place ≡ place-of a)
+    × ((shown ≡ if-open a (found-of s)) × ((position ≡ if-open a (position-of s)) × ((slot ≡ if-open a (slot-of s)) × (next ≡ if-open a stands)))))
 
-pub closed-says : (a : Answer Unit) (s : Step) (stands n i : ℕ) → a ≡ refused n i → View-says a s stands n 0 0 0 0
-closed-says a s stands n i e = rw e (refl, (refl, (refl, (refl, refl))))
+pub closed-says : (a : Answer Unit) (s : Step) (stands n i : ℕ) → a ≡ refused n i → View-says a s stands n i 0 0 0 0
+closed-says a s stands n i e = rw e (refl, (refl, (refl, (refl, (refl, refl)))))
 
 -- the numbers of what a step told
-abbrev pub Seen-says : Shown → ℕ → ℕ → ℕ → ℕ → ℕ → Type 0
-Seen-says told number shown position slot next =
-    (number ≡ 0) × (shown ≡ shown-found told) × (position ≡ shown-position told) × (slot ≡ shown-slot told) × (next ≡ shown-next told)
+abbrev pub Seen-says : Shown → ℕ → ℕ → ℕ → ℕ → ℕ → ℕ → Type 0
+Seen-says told number place shown position slot next =
+    (number ≡ 0) × (place ≡ 0) × (shown ≡ shown-found told) × (position ≡ shown-position told) × (slot ≡ shown-slot told) × (next ≡ shown-next told)
 
 -- are those of the step, where the viewer is open
-seen-step : (s : Step) (stands number shown position slot next : ℕ) → Seen-says (shown-of s stands) number shown position slot next → View-says (accepted tt) s stands number shown position slot next
-seen-step (found s) stands number shown position slot next k = (k .0, (k .1, (k .2, (k .3, k .4))))
-seen-step end stands number shown position slot next k = (k .0, (k .1, (k .2, (k .3, k .4))))
+seen-step : (s : Step) (stands number place shown position slot next : ℕ) → Seen-says (shown-of s stands) number place shown position slot next → View-says (accepted tt) s stands number place shown position slot next
+seen-step (found s) stands number place shown position slot next k = (k .0, (k .1, (k .2, (k .3, (k .4, k .5)))))
+seen-step end stands number place shown position slot next k = (k .0, (k .1, (k .2, (k .3, (k .4, k .5)))))
 
-pub open-says : (a : Answer Unit) (s : Step) (told : Shown) (stands number shown position slot next : ℕ) → a ≡ accepted tt → told ≡ shown-of s stands → Seen-says told number shown position slot next → View-says a s stands number shown position slot next
-open-says a s told stands number shown position slot next e q k =
-    rw e (seen-step s stands number shown position slot next (rw q at k))
+pub open-says : (a : Answer Unit) (s : Step) (told : Shown) (stands number place shown position slot next : ℕ) → a ≡ accepted tt → told ≡ shown-of s stands → Seen-says told number place shown position slot next → View-says a s stands number place shown position slot next
+open-says a s told stands number place shown position slot next e q k =
+    rw e (seen-step s stands number place shown position slot next (rw q at k))

@@ -51,11 +51,12 @@ pub struct BimtsureRead {
     pub appointments: u32,
 }
 
-// Number; 1 for an appointment with its position and slot, or 0 for the end; and where the viewer then stands. Positions are as
-// wide as a list's length, since opening bounds no list. There is no place: opening refuses with place 0.
+// Number and place; 1 for an appointment with its position and slot, or 0 for the end; and where the viewer then stands. Positions
+// are as wide as a list's length, since opening bounds no list.
 #[repr(C)]
 pub struct BimtsureView {
     pub number: u32,
+    pub place: u32,
     pub found: u32,
     pub position: usize,
     pub slot: u32,
@@ -175,11 +176,12 @@ pub extern "C" fn bimtsure_read_plan(
 
 // What a step of an open viewer shows, as numbers.
 fn seen(shown: Shown) -> BimtsureView
-    ensures { λ r. ⌜ (r .number ≡ 0) × (r .found ≡ shown-found shown) × (r .position ≡ shown-position shown) × (r .slot ≡ shown-slot shown) × (r .next ≡ shown-next shown) ⌝ }
+    ensures { λ r. ⌜ (r .number ≡ 0) × (r .place ≡ 0) × (r .found ≡ shown-found shown) × (r .position ≡ shown-position shown) × (r .slot ≡ shown-slot shown) × (r .next ≡ shown-next shown) ⌝ }
 {
     match shown {
         Shown::Found(position, slot, next) => BimtsureView {
             number: 0,
+            place: 0,
             found: 1,
             position,
             slot: slot as u32,
@@ -187,6 +189,7 @@ fn seen(shown: Shown) -> BimtsureView
         },
         Shown::End(next) => BimtsureView {
             number: 0,
+            place: 0,
             found: 0,
             position: 0,
             slot: 0,
@@ -204,6 +207,7 @@ pub extern "C" fn bimtsure_view<'a>(
     from: usize,
 ) -> BimtsureView
     ensures number { λ r. ⌜ r .number ≡ number-of (viewer-answer (now (list .entry)) (now (slots .entry))) ⌝ }
+    ensures place { λ r. ⌜ r .place ≡ place-of (viewer-answer (now (list .entry)) (now (slots .entry))) ⌝ }
     ensures found { λ r. ⌜ r .found ≡ if-open (viewer-answer (now (list .entry)) (now (slots .entry))) (found-of (view-step party (now (list .entry)) (now (slots .entry)) from)) ⌝ }
     ensures position { λ r. ⌜ r .position ≡ if-open (viewer-answer (now (list .entry)) (now (slots .entry))) (position-of (view-step party (now (list .entry)) (now (slots .entry)) from)) ⌝ }
     ensures slot { λ r. ⌜ r .slot ≡ if-open (viewer-answer (now (list .entry)) (now (slots .entry))) (slot-of (view-step party (now (list .entry)) (now (slots .entry)) from)) ⌝ }
@@ -211,8 +215,9 @@ pub extern "C" fn bimtsure_view<'a>(
 {
     let opened = desk::viewing::open_viewer(list, slots);
     match opened {
-        Opened::Refused(number, _) => BimtsureView {
+        Opened::Refused(number, place) => BimtsureView {
             number: number as u32,
+            place: place as u32,
             found: 0,
             position: 0,
             slot: 0,

@@ -1,4 +1,4 @@
--- `bimtsure_view` meets its contract: opening's number, and where it is open the numbers of the step. Assumes nothing.
+-- `bimtsure_view` meets its contract: opening's number and place, and where it is open the numbers of the step. Assumes nothing.
 use mathlib.Core.Path.{_≡_, sym, _∙_}
 use native.Mathlib.Omega.{arith}
 use Rattle.desk.specs.Answers.{accepted, refused}
@@ -15,8 +15,11 @@ refuses :
     let a = c .before .before .before .before .before .before .args in viewer-answer (a .list .now) (a .slots .now) ≡ refused (c .before .opened .given .0 .0) (c .before .opened .given .0 .1 .0)
 refuses c = opened-refused _ _ _ (sym (c .before .before .before .open-viewer .ensures) ∙ c .before .opened .given .1)
 
-cast-t9 : tie.Need-cast-t9
-cast-t9 c = let a = c .before .before .before .before .before .before .args in omega (arith, viewer-refusal-fits (a .list .now) (a .slots .now) _ _ (refuses c))
+cast-t10 : tie.Need-cast-t10
+cast-t10 c = let a = c .before .before .before .before .before .before .args in omega (arith, viewer-refusal-fits (a .list .now) (a .slots .now) _ _ (refuses c))
+
+cast-t11 : tie.Need-cast-t11
+cast-t11 c = let a = c .before .before .before .before .before .before .args in omega (arith, viewer-refusal-fits (a .list .now) (a .slots .now) _ _ (refuses c))
 
 returns : tie.Need-returns
 returns c = let a = c .before .before .before .before .before .before .args in closed-says _ (view-step (a .party) (a .list .now) (a .slots .now) (a .from)) (view-next (a .party) (a .list .now) (a .slots .now) (a .from)) _ _ (refuses c)
@@ -26,7 +29,7 @@ returns-2 c =
     let a = c .before .before .before .before .before .before .before .args in
     let opens : viewer-answer (a .list .now) (a .slots .now) ≡ accepted tt =
     opened-open _ (sym (c .before .before .before .before .open-viewer .ensures) ∙ c .before .before .enum-told .given .1) in
-    open-says (viewer-answer (a .list .now) (a .slots .now)) (view-step (a .party) (a .list .now) (a .slots .now) (a .from)) (c .before .view-step .result) (view-next (a .party) (a .list .now) (a .slots .now) (a .from)) _ _ _ _ _ opens (c .before .view-step .ensures) (c .seen .ensures)
+    open-says (viewer-answer (a .list .now) (a .slots .now)) (view-step (a .party) (a .list .now) (a .slots .now) (a .from)) (c .before .view-step .result) (view-next (a .party) (a .list .now) (a .slots .now) (a .from)) _ _ _ _ _ _ opens (c .before .view-step .ensures) (c .seen .ensures)
 
 pub bimtsure-view-spec : {M : Type 1} → statement M
 bimtsure-view-spec =
@@ -34,7 +37,8 @@ bimtsure-view-spec =
     (tie.spec
     (λ c κs. search needs)
     (λ c. search needs)
-    cast-t9
+    cast-t10
+    cast-t11
     (λ c. search needs)
     (λ c κs. search needs)
     (λ c κs. search needs)

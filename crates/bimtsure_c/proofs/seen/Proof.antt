@@ -8,12 +8,12 @@ use Rattle.bimtsure_c.proofs.seen.Tie as tie
 returns : tie.Need-returns
 returns c =
     let e = sym (c .before .shown .given .1) in
-    (refl, ap shown-found e, ap shown-position e, ap shown-slot e, ap shown-next e)
+    (refl, refl, ap shown-found e, ap shown-position e, ap shown-slot e, ap shown-next e)
 
 returns-2 : tie.Need-returns-2
 returns-2 c =
     let e = sym (c .before .shown2 .given .1) in
-    (refl, ap shown-found e, ap shown-position e, ap shown-slot e, ap shown-next e)
+    (refl, refl, ap shown-found e, ap shown-position e, ap shown-slot e, ap shown-next e)
 
 pub seen-spec : {M : Type 1} → statement M
 seen-spec =
