@@ -197,14 +197,17 @@ module _ {M : Type 1} (𝓤 : URA M) (H : Heap 𝓤) (A : Atoms 𝓤) (W : Given
         peeks ! usize (Is usize) (shows 𝓤 H A usize) m (w ∷ []) (λ is′.
         land ! (from ! (stop !)) (init ! 14 refl (uint-lawful 𝓤 H A W w64 .typed m _ is′ .0)) $ rewrite ! 14 (λ (y : Val). ‵ (fat fullShare (tyInt w64) l₄ 0 y)) (ap only (is′ .0)) refl $
         -- [the number's; 'a's token; what a Viewer owns; the struct's cell; the open borrow; obs; auth; the party's; _7; …; _1; …; room for _0; …]
-        assigns ! (of-opd ! (load ! (from ! (stop !)) (look ! 14 refl))) (from ! (hop ! (look ! 20 refl) (fld ! refl (stop !)))) (store-in ! 3 (sub ! 2 refl (whole !)) (tt, record { fits = is′ .1 })) $
+        -- the number that the code stores
+        let stored : ℕ = m in
+        let fits : stored < 2 ^ 64 = is′ .1 in
+        assigns ! (of-opd ! (load ! (from ! (stop !)) (look ! 14 refl))) (from ! (hop ! (look ! 20 refl) (fld ! refl (stop !)))) (store-in ! 3 (sub ! 2 refl (whole !)) (tt, record { fits = fits })) $
         assigns ! (of-opd ! (load ! (from ! (stop !)) (look ! 16 refl))) (from ! (stop !)) (init ! 22 refl (EL.lawful S.the-type S′.the-laws 𝓤 H A W tt .typed r _ is .0)) $
         -- the borrow is closed at the struct with the new number
-        drop ! $ move ! (1 ∷ []) $ use1 W (‵ (Own m)) (again m (is′ .1)) $ move ! (2 ∷ 0 ∷ 3 ∷ 4 ∷ 5 ∷ []) $
-        use1 W (‵ (cellAt fullShare (B κ′ .mir) (T′.lowered (h′ m) ∷ []) b o)) (W .laws .at-raw fullShare (T′.mir erased) b o (T′.lowered (h′ m))) $ closes ! tt (B κ′) (h′ m) (T′.lowered (h′ m) ∷ []) b o $
+        drop ! $ move ! (1 ∷ []) $ use1 W (‵ (Own stored)) (again stored fits) $ move ! (2 ∷ 0 ∷ 3 ∷ 4 ∷ 5 ∷ []) $
+        use1 W (‵ (cellAt fullShare (B κ′ .mir) (T′.lowered (h′ stored) ∷ []) b o)) (W .laws .at-raw fullShare (T′.mir erased) b o (T′.lowered (h′ stored))) $ closes ! tt (B κ′) (h′ stored) (T′.lowered (h′ stored) ∷ []) b o $
         returns ! (look ! 19 refl) $ forget ! 5 refl $ forget ! 7 refl $ forget ! 9 refl $ forget ! 11 refl $ forget ! 13 refl $ forget ! 15 refl $ forget ! 17 refl $ forget ! 19 refl $
         move ! (19 ∷ 20 ∷ []) $ free1 ! $ move ! (17 ∷ 18 ∷ []) $ free1 ! $ move ! (15 ∷ 16 ∷ []) $ free1 ! $ move ! (13 ∷ 14 ∷ []) $ free1 ! $ move ! (11 ∷ 12 ∷ []) $ free1 ! $ move ! (9 ∷ 10 ∷ []) $ free1 ! $ move ! (7 ∷ 8 ∷ []) $ free1 ! $ move ! (5 ∷ 6 ∷ []) $ free1 ! $ free0 ! $
-        keep ! (0 ∷ 1 ∷ 2 ∷ 3 ∷ []) $ by ! (exits r u m is e f)))))))))))))))))))
+        keep ! (0 ∷ 1 ∷ 2 ∷ 3 ∷ []) $ by ! (exits r u stored is e f)))))))))))))))))))
 
 module _ {M : Type 1} (𝓤 : URA M) (H : Heap 𝓤) (A : Atoms 𝓤) (W : Given 𝓤 H A) (mem : Memory → SProp 𝓤) (run : Routine → Fun 𝓤) where
   step-walks : (C : Calls 𝓤 H) (Λ : Loops 𝓤 H) → FmC 𝓤 H (W .laws) C → Triple 𝓤 (C #desk·view-step) (ViewStep 𝓤 H A mem run) → Triple 𝓤 (C #desk·stands) (Stands 𝓤 H A mem run)

@@ -60,8 +60,12 @@ module _ {M : Type 1} (𝓤 : URA M) (H : Heap 𝓤) (A : Atoms 𝓤) (W : Given
   abbrev w : Val
   w = sliceVal (t .ptr) (length (t .now))
 
+  -- the number that the code puts into `at`, and the struct
+  abbrev start : ℕ
+  start = 0
+
   abbrev made : Viewer
-  made = record { list = s; slots = t; at = 0 }
+  made = record { list = s; slots = t; at = start }
 
   abbrev at : Vals over.signature (κ, tt)
   at = (v ∷ [], (w ∷ [], tt))
@@ -85,8 +89,8 @@ module _ {M : Type 1} (𝓤 : URA M) (H : Heap 𝓤) (A : Atoms 𝓤) (W : Given
       -- [what slots owns; the same; nothing; what list owns; the same]
       move ! (0 ∷ 2 ∷ []) $ fjoin ! $ move ! (2 ∷ 0 ∷ []) $ fjoin ! $ frame ! $
       -- [what slots owns; what list owns]: what the fields own together, of them and of at's facts, is what the struct owns
-      nothing ! $ owned ! usize (Is usize) (uint-makes 𝓤 H A W w64) 0 _ (refl, lit< tt) $ fjoin ! $ move ! (1 ∷ 0 ∷ []) $ fjoin ! $ move ! (1 ∷ 0 ∷ []) $ fjoin ! $
-      by ! (own-shut 𝓤 H A W (T.the-type α) (T′.the-laws α) (s, (t, (0, tt))))
+      nothing ! $ owned ! usize (Is usize) (uint-makes 𝓤 H A W w64) start _ (refl, lit< tt) $ fjoin ! $ move ! (1 ∷ 0 ∷ []) $ fjoin ! $ move ! (1 ∷ 0 ∷ []) $ fjoin ! $
+      by ! (own-shut 𝓤 H A W (T.the-type α) (T′.the-laws α) (s, (t, (start, tt))))
 
   module _ (C : Calls 𝓤 H) (Λ : Loops 𝓤 H) where
     walk : Is Shr s (v ∷ []) → Is Shr t (w ∷ []) → ent 𝓤 (onEntry 𝓤 H A over.signature (κ, tt) (q, tt) (s, (t, tt)) at) (WpFn 𝓤 H C Λ code.function (v ∷ w ∷ []) Post)
