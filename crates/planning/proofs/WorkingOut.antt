@@ -137,14 +137,15 @@ module _ (P : ℕ) (list slots scratch : List ℕ) where
     abbrev q : ℕ
     q = P * (D + 1)
 
-    pub words-there : 128 * q ≤ length scratch
-    words-there =
-        let w : scratch-words P (largest-load P (appts list)) ≤ length scratch = passes .scratch-room in
-        let w' : 128 * P * (D + 1) ≤ length scratch = rw figure w in
+    -- as many words as W, or fewer, can be lent
+    pub words-there : (w : ℕ) → w ≤ 128 * q → w ≤ length scratch
+    words-there w h =
+        let room : scratch-words P (largest-load P (appts list)) ≤ length scratch = passes .scratch-room in
+        let room' : 128 * P * (D + 1) ≤ length scratch = rw figure room in
         omega arith
 
-    pub taken-length : 128 * q ≡ length (take (128 * q) scratch)
-    taken-length = omega (arith, length-take (128 * q) scratch, words-there)
+    pub taken-length : (w : ℕ) → w ≤ 128 * q → w ≡ length (take w scratch)
+    taken-length w h = omega (arith, length-take w scratch, words-there w h)
 
     pub figures : (P ≤ 1024) × ((D ≤ 8192) × (q ≤ 9216))
     figures =
@@ -155,8 +156,9 @@ module _ (P : ℕ) (list slots scratch : List ℕ) where
 
     pub ready : Ready P D q list (take (128 * q) scratch)
     ready =
+        let all-taken : 128 * q ≡ length (take (128 * q) scratch) = taken-length (128 * q) (omega arith) in
         let w : scratch-words P (largest-load P (appts list)) ≤ length (take (128 * q) scratch) =
-        rw (← figure) (omega (arith, taken-length)) in
+        rw (← figure) (omega (arith, all-taken)) in
         record {
           checked =
               passes-passed P list (length (appts list)) (length (take (128 * q) scratch))
@@ -168,7 +170,7 @@ module _ (P : ℕ) (list slots scratch : List ℕ) where
               });
           largest = figure;
           unit = refl;
-          whole = sym taken-length;
+          whole = sym all-taken;
         }
 
     pub slot-room : length (appts list) ≤ length slots

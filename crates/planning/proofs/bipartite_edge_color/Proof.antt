@@ -29,13 +29,13 @@ slice-relend-prefix-work-out-cleanly : tie.Need-slice-relend-prefix-work-out-cle
 slice-relend-prefix-work-out-cleanly c =
     let a = c .before .before .before .before .before .before .before .args in
     let told = sym (c .before .checked2 .given .1) ∙ c .before .before .before .check-all .ensures in
-    words-there (a .p) (a .list .now) (a .slots .now) (a .scratch .now) told
+    words-there (a .p) (a .list .now) (a .slots .now) (a .scratch .now) told _ (omega arith)
 
 slice-aggregate-work-out-cleanly : tie.Need-slice-aggregate-work-out-cleanly
 slice-aggregate-work-out-cleanly c =
     let a = c .before .before .before .before .before .before .before .before .args in
     let told = sym (c .before .before .checked2 .given .1) ∙ c .before .before .before .before .check-all .ensures in
-    taken-length (a .p) (a .list .now) (a .slots .now) (a .scratch .now) told
+    taken-length (a .p) (a .list .now) (a .slots .now) (a .scratch .now) told _ (omega arith)
 
 work-out-cleanly-requires : tie.Need-work-out-cleanly-requires
 work-out-cleanly-requires c κs =
