@@ -57,26 +57,24 @@ module _ {P D q n : ℕ} {list s : List ℕ} (h : Prepared P D q n list s) where
   q-small : q ≤ 9216
   q-small = omega (arith, z .unit, z .product, z .parties)
 
-  d-le : D ≤ n * D
-  d-le = omega (arith, le-product D n (h .fits .graph .some))
-
-  -- what giving slots asks of the numbers, over words of the same length
+  -- what giving slots asks of the numbers, over words of the same length: a appointments, and d matchings
   pub small :
-      (t : List ℕ) → length t ≡ length s →
-      (D < 4294967296)
-      × ((n * D < 4294967296)
-      × ((10 * q + n * D ≤ length t)
-      × ((10 * q < 4294967296) × ((9 * q + length list / 2 < 4294967296) × (11 * q < 4294967296)))))
-  small t e = (
-    omega (arith, d-le, matchings-le, q-small),
-    (
-      omega (arith, matchings-le, q-small),
-      (
-        omega (arith, matchings-le, z .whole),
-        (omega (arith, q-small), (omega (arith, q-small, z .named, z .product), omega (arith, q-small))),
-      ),
-    ),
-  )
+      (a d : ℕ) → a ≤ length list → n * d ≤ n * (D + 1) → (t : List ℕ) → length t ≡ length s →
+      (d < 4294967296)
+      × ((n * d < 4294967296)
+      × ((10 * q + n * d ≤ length t)
+      × ((10 * q < 4294967296) × ((9 * q + a < 4294967296) × (11 * q < 4294967296)))))
+  small a d few below t e =
+      let some : d ≤ n * d = omega (arith, le-product d n (h .fits .graph .some)) in (
+        omega (arith, some, h .fits .graph .sized),
+        (
+          omega (arith, h .fits .graph .sized),
+          (
+            omega (arith, h .fits .room, z .whole),
+            (omega (arith, q-small), (omega (arith, q-small, z .named, z .product), omega (arith, q-small))),
+          ),
+        ),
+      )
 
   module _ {u : ℕ} {t : List ℕ} (x : Colored (table P q m) s t (15 * q) u (11 * q) n D (10 * q)) where
     abbrev ms : List Graph

@@ -1,5 +1,6 @@
 -- `planning::color_and_give` meets its contract: the colouring has its room, and its matchings are what the slots are given
 -- from. Assumes nothing.
+use native.Mathlib.Omega.{arith}
 use Rattle.planning.proofs.Giving.{can-color, small, slots-planned}
 use borrow.Author.Needs.{needs}
 use Rattle.planning.proofs.color_and_give.Statement.{statement}
@@ -11,7 +12,7 @@ color-requires c κs = can-color (c .before .before .before .before .before .bef
 give-slots-requires : tie.Need-give-slots-requires
 give-slots-requires c κs =
     let colored = c .before .before .before .before .color in
-    small (c .before .before .before .before .before .before .before .before .before .before .before .pre .0) (colored .last .0) (colored .ensures .spares .len)
+    small (c .before .before .before .before .before .before .before .before .before .before .before .pre .0) _ _ (omega arith) (omega arith) (colored .last .0) (colored .ensures .spares .len)
 
 returns : tie.Need-returns
 returns c =
