@@ -30,7 +30,7 @@ every-other b [] = []
 every-other true (x ∷ xs) = x ∷ every-other false xs
 every-other false (x ∷ xs) = every-other true xs
 
--- the pairs of a cycle at places 0, 2, .. and at places 1, 3, ..
+-- the pairs of a cycle at places 0, 2, ..
 abbrev pub evens : List Pair → List Pair
 evens c = every-other true c
 
