@@ -15,6 +15,7 @@ use crate::halves::many;
 use crate::halves::push;
 use multigraph::end_of;
 use words::EdgeIndex;
+use words::NodeIndex;
 use words::set_word;
 use words::word_at;
 
@@ -142,11 +143,12 @@ fn two_circuit(s: &mut [u32], l: Two, at: usize, y0: usize, bound: usize) -> usi
     n
 }
 
-// The circuit from the party v, unless it has no pairs or was visited.
-fn two_from(s: &mut [u32], l: Two, m: usize, at: usize, v: usize) -> usize
-    requires { ⌜ Lies l × (at + m < 4294967296) × (v < 4294967296) × Two-froms l m (record { words = now s; number = at }) v ⌝ }
-    ensures { λ r. ⌜ record { words = now (s .exit); number = r } ≡ twoFromM l m (record { words = now (s .entry); number = at }) v ⌝ }
+// The circuit from the party w, unless it has no pairs or was visited.
+fn two_from(s: &mut [u32], l: Two, m: usize, at: usize, w: NodeIndex) -> usize
+    requires { ⌜ Lies l × (at + m < 4294967296) × Two-froms l m (record { words = now s; number = at }) (w .0) ⌝ }
+    ensures { λ r. ⌜ record { words = now (s .exit); number = r } ≡ twoFromM l m (record { words = now (s .entry); number = at }) (w .0) ⌝ }
 {
+    let v = w.0 as usize;
     let y = word_at(s, l.b + 2 * v);
     if y == 0 {
         return at;
@@ -162,7 +164,7 @@ fn two_walk(s: &mut [u32], l: Two, m: usize, even: usize, parties: usize) -> usi
     let mut n = even;
     let mut v = 0;
     while v < parties {
-        n = two_from(s, l, m, n, v);
+        n = two_from(s, l, m, n, NodeIndex(v as u32));
         v += 1;
     }
     n

@@ -6,6 +6,7 @@ ghost use Rattle.euler.specs.Model.{Fits, appendM, startRingM, startM, s
 ghost use Rattle.euler.specs.Bounds.{Appends, Sifts, «Sifts-all», «Rings-end», «Fills-ends», Fills};
 use multigraph::end_of;
 use words::EdgeIndex;
+use words::NodeIndex;
 use words::set_word;
 use words::word_at;
 
@@ -23,11 +24,12 @@ pub struct Rings {
     pub col: usize,
 }
 
-// An empty ring for the party v.
-fn start_ring(s: &mut [u32], l: Rings, v: usize)
-    requires { ⌜ Fits l × (v < 4294967296) ⌝ }
-    ensures { λ r. ⌜ now (s .exit) ≡ startRingM l (now (s .entry)) v ⌝ }
+// An empty ring for the party w.
+fn start_ring(s: &mut [u32], l: Rings, w: NodeIndex)
+    requires { ⌜ Fits l ⌝ }
+    ensures { λ r. ⌜ now (s .exit) ≡ startRingM l (now (s .entry)) (w .0) ⌝ }
 {
+    let v = w.0 as usize;
     let z = l.top + v;
     words::put(s, l.b + 2 * z, z);
     words::put(s, l.b + 2 * z + 1, z);
@@ -40,16 +42,17 @@ fn start_rings(s: &mut [u32], l: Rings, parties: usize)
 {
     let mut v = 0;
     while v < parties {
-        start_ring(s, l, v);
+        start_ring(s, l, NodeIndex(v as u32));
         v += 1;
     }
 }
 
-// The half-edge x becomes the last of the ring of v.
-fn append(s: &mut [u32], l: Rings, v: usize, x: usize)
-    requires { ⌜ Fits l × (v < 4294967296) × (x < 34359738368) × Appends l (now s) v x ⌝ }
-    ensures { λ r. ⌜ now (s .exit) ≡ appendM l (now (s .entry)) v x ⌝ }
+// The half-edge x becomes the last of the ring of the party w.
+fn append(s: &mut [u32], l: Rings, w: NodeIndex, x: usize)
+    requires { ⌜ Fits l × (x < 34359738368) × Appends l (now s) (w .0) x ⌝ }
+    ensures { λ r. ⌜ now (s .exit) ≡ appendM l (now (s .entry)) (w .0) x ⌝ }
 {
+    let v = w.0 as usize;
     let z = l.top + v;
     let p = word_at(s, l.b + 2 * z + 1);
     set_word(s, l.b + 2 * p, x);
@@ -94,7 +97,7 @@ fn ring_end(s: &mut [u32], l: Rings, side: usize, j: usize)
     let p = end_of(s, l.ends, side, EdgeIndex(e as u32));
     let v = p.0 as usize;
     set_word(s, l.b + 8 * i + 7 - 4 * side, v);
-    append(s, l, v, 4 * i + 2 * side);
+    append(s, l, p, 4 * i + 2 * side);
 }
 
 // From the newest of the noted entries down.

@@ -8,20 +8,20 @@ use Rattle.euler.proofs.circuits.two_from.Tie as tie
 
 returns : tie.Need-returns
 returns c =
-    let a = c .before .before .before .before .before .args in
-    two-from-none (a .l) (a .m) (record { words = a .s .now; number = a .at }) (a .v) (c .before .word-at .result) (c .before .word-at .ensures .0) (c .if1 .taken)
+    let a = c .before .before .before .before .before .before .args in
+    two-from-none (a .l) (a .m) (record { words = a .s .now; number = a .at }) (a .w .0) (c .before .word-at .result) (c .before .word-at .ensures .0) (c .if1 .taken)
 
 two-circuit-requires : tie.Need-two-circuit-requires
 two-circuit-requires c κs =
     let branch = c .before in
     let at-word-at = branch .before in
-    let start = at-word-at .before .before .before .before in
+    let start = at-word-at .before .before .before .before .before in
     let a = start .args in
     let pre = start .pre in (
       pre .0,
       pre .1,
       omega (arith, at-word-at .word-at .ensures .1),
-      two-froms-some (a .l) (a .m) (record { words = a .s .now; number = a .at }) (a .v) (at-word-at .word-at .result) (at-word-at .word-at .ensures .0) (branch .if1 .left) (pre .3),
+      two-froms-some (a .l) (a .m) (record { words = a .s .now; number = a .at }) (a .w .0) (at-word-at .word-at .result) (at-word-at .word-at .ensures .0) (branch .if1 .left) (pre .2),
     )
 
 returns-2 : tie.Need-returns-2
@@ -29,14 +29,15 @@ returns-2 c =
     let at-two-circuit = c .before .before in
     let branch = at-two-circuit .before .before in
     let at-word-at = branch .before in
-    let start = at-word-at .before .before .before .before in
+    let start = at-word-at .before .before .before .before .before in
     let a = start .args in
-    at-two-circuit .two-circuit .ensures ∙ two-from-some (a .l) (a .m) (record { words = a .s .now; number = a .at }) (a .v) (at-word-at .word-at .result) (at-word-at .word-at .ensures .0) (branch .if1 .left)
+    at-two-circuit .two-circuit .ensures ∙ two-from-some (a .l) (a .m) (record { words = a .s .now; number = a .at }) (a .w .0) (at-word-at .word-at .result) (at-word-at .word-at .ensures .0) (branch .if1 .left)
 
 pub two-from-spec : {M : Type 1} → statement M
 two-from-spec =
     tie.close
     (tie.spec
+    (λ c. search needs)
     (λ c. search needs)
     (λ c. search needs)
     (λ c κs. search needs)

@@ -32,7 +32,6 @@ two-from-requires c κs =
     let v : ℕ = at-loop .loop .v in (
       pre .0,
       subst (λ (t : Told). t .number + a .m < 4294967296) (sym (inv .2)) (pre .2 .few v (in-loop .loop-test .taken)),
-      omega (arith, pre .1, inv .0),
       subst (λ (t : Told). Two-froms (a .l) (a .m) t v) (sym (inv .2)) (pre .2 .froms v (in-loop .loop-test .taken)),
     )
 
@@ -62,6 +61,7 @@ two-walk-spec =
     Inv-loop
     μ-loop
     loop-holds
+    (λ c. search needs)
     two-from-requires
     (λ c. search needs)
     (λ c. search needs)

@@ -10,15 +10,20 @@ use borrow.Author.Needs.{needs}
 use Rattle.euler.proofs.rings.append.Statement.{statement}
 use Rattle.euler.proofs.rings.append.Tie as tie
 
+mul-set-word-4 : tie.Need-mul-set-word-4
+mul-set-word-4 c =
+    let at-struct-known = c .before .before .before .before .before .before .before .before .before .before .before .before .before .before .before .before .before .before .before .before in
+    omega (arith, at-struct-known .before .before .pre .0, at-struct-known .struct-known .given)
+
 add-set-word-5 : tie.Need-add-set-word-5
 add-set-word-5 c =
-    let start = c .before .before .before .before .before .before .before .before .before .before .before .before .before .before .before .before .before .before .before .before .before .before in
-    omega (arith, start .pre .0, start .pre .1)
+    let at-struct-known = c .before .before .before .before .before .before .before .before .before .before .before .before .before .before .before .before .before .before .before .before .before in
+    omega (arith, at-struct-known .before .before .pre .0, at-struct-known .struct-known .given)
 
 add-set-word-6 : tie.Need-add-set-word-6
 add-set-word-6 c =
-    let start = c .before .before .before .before .before .before .before .before .before .before .before .before .before .before .before .before .before .before .before .before .before .before in
-    omega (arith, start .pre .0, start .pre .1)
+    let at-struct-known = c .before .before .before .before .before .before .before .before .before .before .before .before .before .before .before .before .before .before .before .before .before in
+    omega (arith, at-struct-known .before .before .pre .0, at-struct-known .struct-known .given)
 
 set-word-requires-4 : tie.Need-set-word-requires-4
 set-word-requires-4 c κs =
@@ -26,7 +31,7 @@ set-word-requires-4 c κs =
     let at-set-word2 = at-set-word3 .before .before .before .before .before in
     let at-set-word = at-set-word2 .before .before .before .before .before in
     let at-word-at = at-set-word .before .before .before in
-    let start = at-word-at .before .before .before .before .before in
+    let start = at-word-at .before .before .before .before .before .before in
     let a = start .args in
     let s : List ℕ = a .s .now in
     let p : ℕ = at-word-at .word-at .result in
@@ -35,8 +40,8 @@ set-word-requires-4 c κs =
     let t₃ : List ℕ = at-set-word3 .set-word3 .last .0 in
     let e₁ : length t₁ ≡ length s = ap length (at-set-word .set-word .ensures) ∙ length-put s (a .l .b + 2 * p) (a .x) in
     let e₂ : length t₂ ≡ length t₁ = ap length (at-set-word2 .set-word2 .ensures) ∙ length-put t₁ (a .l .b + 2 * a .x + 1) p in
-    let e₃ : length t₃ ≡ length t₂ = ap length (at-set-word3 .set-word3 .ensures) ∙ length-put t₂ (a .l .b + 2 * a .x) (a .l .top + a .v) in
-    omega (arith, start .pre .3 .own, e₁, e₂, e₃)
+    let e₃ : length t₃ ≡ length t₂ = ap length (at-set-word3 .set-word3 .ensures) ∙ length-put t₂ (a .l .b + 2 * a .x) (a .l .top + a .w .0) in
+    omega (arith, start .pre .2 .own, e₁, e₂, e₃)
 
 returns : tie.Need-returns
 unfolding appendM
@@ -50,18 +55,19 @@ append-spec =
     (λ c. search needs)
     (λ c. search needs)
     (λ c. search needs)
-    (λ c κs. search needs)
-    (λ c. search needs)
-    (λ c. search needs)
-    (λ c κs. search needs)
-    (λ c. search needs)
-    (λ c. search needs)
     (λ c. search needs)
     (λ c κs. search needs)
     (λ c. search needs)
     (λ c. search needs)
     (λ c κs. search needs)
     (λ c. search needs)
+    (λ c. search needs)
+    (λ c. search needs)
+    (λ c κs. search needs)
+    (λ c. search needs)
+    (λ c. search needs)
+    (λ c κs. search needs)
+    mul-set-word-4
     add-set-word-5
     add-set-word-6
     set-word-requires-4

@@ -20,15 +20,13 @@ end-of-requires c κs =
 append-requires : tie.Need-append-requires
 append-requires c κs =
     let at-set-word = c .before .before .before in
-    let at-struct-known3 = at-set-word .before .before .before in
-    let at-end-of = at-struct-known3 .before in
+    let at-end-of = at-set-word .before .before .before .before in
     let at-word-at2 = at-end-of .before .before in
     let at-word-at = at-word-at2 .before .before .before in
     let start = at-word-at .before .before .before .before in
     let a = start .args in
     let pre = start .pre in (
       pre .0,
-      omega (arith, at-struct-known3 .struct-known3 .given),
       omega (arith, at-word-at .word-at .ensures .1, pre .1),
       ring-asks
           (at-word-at .word-at .ensures .0) (at-word-at2 .word-at2 .ensures .0) (at-end-of .end-of .ensures) (at-set-word .set-word .ensures) (pre .3),

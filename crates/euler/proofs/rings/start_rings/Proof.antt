@@ -46,6 +46,7 @@ start-rings-spec =
     Inv-loop
     μ-loop
     loop-holds
+    (λ c. search needs)
     (λ c κs. search needs)
     (λ c. search needs)
     (λ c. search needs)
