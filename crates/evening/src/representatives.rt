@@ -7,6 +7,7 @@ ghost use Prim.Native.Nat.{_<_};
 ghost use Rattle.evening.specs.Representatives.{mate, Finds, «Rep-found», «Reps-fit», «Row-done», «Reps-done»};
 use crate::ends::earlier;
 use crate::rows::RowBases;
+use words::NodeIndex;
 use words::set_word;
 use words::word_at;
 use words::word16_at;
@@ -40,12 +41,13 @@ fn find_rep(s: &mut [u32], list: &[u16], map: usize, apair: usize, h: usize)
     set_word(s, map + w, i);
 }
 
-// The representatives of the appointments of party `v`, whose row is gone through.
-fn rep_row(s: &mut [u32], list: &[u16], at: RowBases, map: usize, apair: usize, v: usize)
+// The representatives of the appointments of party `w`, whose row is gone through.
+fn rep_row(s: &mut [u32], list: &[u16], at: RowBases, map: usize, apair: usize, w: NodeIndex)
     requires { ⌜ Reps-fit (now list) at map apair (now s) ⌝ }
-    requires { ⌜ v < at .parties ⌝ }
-    ensures { λ r. ⌜ Row-done (now (list .entry)) (at .parties) map apair v (now (s .entry)) (now (s .exit)) ⌝ }
+    requires { ⌜ w .0 < at .parties ⌝ }
+    ensures { λ r. ⌜ Row-done (now (list .entry)) (at .parties) map apair (w .0) (now (s .entry)) (now (s .exit)) ⌝ }
 {
+    let v = w.0 as usize;
     let n = word_at(s, at.counts + v);
     let from = at.rows + at.d * v;
     let mut t = 0;
@@ -63,7 +65,7 @@ pub(crate) fn rep_rows(s: &mut [u32], list: &[u16], at: RowBases, map: usize, ap
 {
     let mut v = 0;
     while v < at.parties {
-        rep_row(s, list, at, map, apair, v);
+        rep_row(s, list, at, map, apair, NodeIndex(v as u32));
         v += 1;
     }
 }

@@ -5,6 +5,7 @@ ghost use Prim.Native.Nat.{_+_, _*_, _<_, _≤_};
 ghost use lib.ListN.{length};
 ghost use Rattle.words.specs.Words.{word, «put-word»};
 ghost use Rattle.evening.specs.Rows.{Cleared, Pushes, «row-pushed», «Rows-fit», «Rows-filled»};
+use words::NodeIndex;
 use words::set_word;
 use words::word_at;
 use words::word16_at;
@@ -30,12 +31,13 @@ fn clear_words(s: &mut [u32], b: usize, n: usize)
     }
 }
 
-// Half-edge `h` goes to the end of the row of party `v`.
-fn push_row(s: &mut [u32], at: RowBases, v: usize, h: usize)
-    requires { ⌜ (at .counts < 4294967296) × (at .rows + at .d * v < 4294967296) × (v < 4294967296) ⌝ }
-    requires { ⌜ Pushes at v (now s) ⌝ }
-    ensures { λ r. ⌜ now (s .exit) ≡ row-pushed at v h (now (s .entry)) ⌝ }
+// Half-edge `h` goes to the end of the row of party `w`.
+fn push_row(s: &mut [u32], at: RowBases, w: NodeIndex, h: usize)
+    requires { ⌜ (at .counts < 4294967296) × (at .rows + at .d * w .0 < 4294967296) ⌝ }
+    requires { ⌜ Pushes at (w .0) (now s) ⌝ }
+    ensures { λ r. ⌜ now (s .exit) ≡ row-pushed at (w .0) h (now (s .entry)) ⌝ }
 {
+    let v = w.0 as usize;
     let k = word_at(s, at.counts + v);
     set_word(s, at.rows + at.d * v + k, h);
     set_word(s, at.counts + v, k + 1);
@@ -50,7 +52,7 @@ pub(crate) fn fill_rows(s: &mut [u32], list: &[u16], at: RowBases)
     let mut h = 0;
     while h < list.len() {
         let v = word16_at(list, h);
-        push_row(s, at, v, h);
+        push_row(s, at, NodeIndex(v as u32), h);
         h += 1;
     }
 }

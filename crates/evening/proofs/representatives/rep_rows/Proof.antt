@@ -45,6 +45,7 @@ rep-rows-spec =
     Inv-loop
     μ-loop
     loop-holds
+    (λ c. search needs)
     rep-row-requires
     (λ c. search needs)
     (λ c. search needs)

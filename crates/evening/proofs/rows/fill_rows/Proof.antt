@@ -33,7 +33,7 @@ push-row-requires c κs =
     let lp = c .before .before .before .loop in
     let none = filled-none (a .list .now) (a .at) (a .s .now) h (c .before .before .before .before .before .before .clear-words .last .0) (c .before .before .before .before .before .before .clear-words .ensures) in
     let place = pushes (a .list .now) (a .at) (a .s .now) h (lp .h) (lp .s) (omega arith) (lp .inv .2 (a .s .now) h none) in
-    ((omega (arith, h .after, h .small), omega (arith, h .small, mul-le-mul-left (a .at .d) less), omega arith), rw e place)
+    ((omega (arith, h .after, h .small), omega (arith, h .small, mul-le-mul-left (a .at .d) less)), rw e place)
 
 loop-again : tie.Need-loop-again Inv-loop μ-loop
 loop-again c =
@@ -58,6 +58,7 @@ fill-rows-spec =
     (λ c κs. search needs)
     loop-holds
     (λ c κs. search needs)
+    (λ c. search needs)
     push-row-requires
     (λ c. search needs)
     (λ c. search needs)
