@@ -8,7 +8,7 @@ use lib.ListN.{length, take}
 use Rattle.words.specs.Basics.{is, count}
 use Rattle.words.specs.Words.{word, put-word}
 use Rattle.words.proofs.Sums.{is-same, is-ne, count-take-le}
-use Rattle.words.proofs.Frames.{keeps-refl, keeps-trans}
+use Rattle.words.proofs.Frames.{keeps-refl, keeps-trans, keeps-less}
 use Rattle.words.proofs.Below.{rows-apart, row-inside}
 use Rattle.appointments.proofs.Flat.{count-more}
 use Rattle.evening.specs.declared.rows.RowBases.{RowBases}
@@ -36,6 +36,26 @@ cleared-more b n s t u inside h e =
           | yes q ↦ rw q (p .new)
           | no q ↦ p .else (b + v) (λ x. q (omega arith)) ∙ h .zero v (omega arith)
         ]
+
+-- there is room for the rows also after some words were cleared
+pub fit-cleared :
+    {list : List ℕ} {rs : RowBases} {b n : ℕ} {s t : List ℕ} → Cleared b n s t → Rows-fit list rs s → Rows-fit list rs t
+fit-cleared c h =
+    record {
+      ends = h .ends;
+      loads = h .loads;
+      after = h .after;
+      inside = omega (arith, h .inside, c .keeps .len);
+      small = h .small;
+      short = h .short;
+    }
+
+-- rows filled where some words, none of them below the counters, were cleared before
+pub filled-cleared :
+    {list : List ℕ} {rs : RowBases} {k b n : ℕ} {s t u : List ℕ} → rs .counts ≤ b → Cleared b n s t → Rows-filled list rs k t u →
+    Rows-filled list rs k s u
+filled-cleared {list} {rs} above c x =
+    record { filled = x .filled; keeps = keeps-trans (keeps-less (rs .counts) above (c .keeps)) (x .keeps) }
 
 -- ── one half-edge more ──
 

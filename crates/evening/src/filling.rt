@@ -9,6 +9,7 @@ use crate::Bases;
 use crate::adding::add_pair;
 use crate::ends::joins;
 use crate::rows::RowBases;
+use crate::rows::clear_words;
 use crate::rows::fill_rows;
 use words::EdgeIndex;
 use words::NodeIndex;
@@ -42,7 +43,8 @@ fn lacks(d: usize, x: usize) -> usize
 }
 
 // The number of the pair with the ends `l` and `r`: that of an appointment in the row of `l` with these ends, or the next number
-// if there is none. A row has at most d half-edges and a party is filled at most once, so this is linear in all.
+// if there is none. A row has at most d half-edges and a party is filled at most once, so this is linear in all. All d words of
+// the row are looked at: the counter is the degree by now, and doesn't say any more how many half-edges the row has.
 fn find_pair(
     s: &[u32],
     list: &[u16],
@@ -128,7 +130,8 @@ fn even_step(
     passed
 }
 
-// The same as `even_out`, where the words from `u` on are free.
+// The same as `even_out`, where the words from `u` on are free. The rows are cleared for the same reason as the map in `pairs_at`:
+// `find_pair` looks at all words of a row.
 pub(crate) fn even_at(s: &mut [u32], u: usize, list: &[u16], d: usize, n: usize, at: Bases)
     requires { ⌜ Can-even (now list) d n (at .left) (at .right) (at .ends) (at .apair) (at .g) u (now s) ⌝ }
     ensures { λ r. ⌜ Evened-out (now (list .entry)) d n (at .left) (at .right) (at .ends) (at .apair) (at .g) u (now (s .entry)) u (now (s .exit)) ⌝ }
@@ -139,6 +142,7 @@ pub(crate) fn even_at(s: &mut [u32], u: usize, list: &[u16], d: usize, n: usize,
         counts: u,
         rows: u + (n + n),
     };
+    clear_words(s, rows.rows, d * (n + n));
     fill_rows(s, list, rows);
     let steps = 2 * (n + n);
     let mut passed = Passed { l: 0, r: 0 };

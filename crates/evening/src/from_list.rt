@@ -9,6 +9,7 @@ use crate::Bases;
 use crate::adding::add_pair;
 use crate::representatives::rep_rows;
 use crate::rows::RowBases;
+use crate::rows::clear_words;
 use crate::rows::fill_rows;
 use words::EdgeIndex;
 use words::NodeIndex;
@@ -77,7 +78,8 @@ fn no_pairs(s: &mut [u32], g: usize)
     put(s, g + 1, 0);
 }
 
-// The same as `pairs_from_list`, where the words from `u` on are free.
+// The same as `pairs_from_list`, where the words from `u` on are free. What the map holds at first makes no difference; it is
+// cleared so that no word is read before it is written, which a memory checker would report.
 pub(crate) fn pairs_at(s: &mut [u32], u: usize, list: &[u16], p: usize, d: usize, at: Bases)
     requires { ⌜ Can-pair (now list) p d (at .ends) (at .apair) (at .g) u (now s) ⌝ }
     ensures { λ r. ⌜ Pairs-made (now (list .entry)) (at .ends) (at .apair) (at .g) u (now (s .entry)) u (now (s .exit)) ⌝ }
@@ -89,6 +91,7 @@ pub(crate) fn pairs_at(s: &mut [u32], u: usize, list: &[u16], p: usize, d: usize
         rows: u + p,
     };
     let map = rows.rows + d * p;
+    clear_words(s, map, p);
     fill_rows(s, list, rows);
     rep_rows(s, list, rows, map, at.apair);
     no_pairs(s, at.g);

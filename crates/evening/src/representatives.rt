@@ -1,7 +1,7 @@
 // Representatives: for each appointment one that is not later and has the same ends, and an earlier one if there is any.
 // They are found in linear time: the rows are gone through one after the other, and a map from parties to appointments, at
-// `map`, has for each other end met in the row the first appointment with it. The map is never cleared: what stands in it is looked
-// at. The representative of appointment i goes to `apair + i`, where later its pair's number will stand.
+// `map`, has for each other end met in the row the first appointment with it. The map isn't cleared between two rows: what stands in
+// it is looked at. The representative of appointment i goes to `apair + i`, where later its pair's number will stand.
 ghost use mathlib.Core.Path.{_≡_};
 ghost use Prim.Native.Nat.{_<_};
 ghost use Rattle.evening.specs.Representatives.{mate, Finds, «Rep-found», «Reps-fit», «Row-done», «Reps-done»};

@@ -20,7 +20,7 @@ pub(crate) struct RowBases {
 }
 
 // Sets the `n` words at `b` to 0.
-fn clear_words(s: &mut [u32], b: usize, n: usize)
+pub(crate) fn clear_words(s: &mut [u32], b: usize, n: usize)
     requires { do ⌜ b + n ≤ (← ⟦s.len()⟧) ⌝ }
     ensures { λ r. ⌜ Cleared b n (now (s .entry)) (now (s .exit)) ⌝ }
 {

@@ -1,4 +1,5 @@
--- `evening::even_at` meets its contract: k steps are taken; the measure is what is left of the bound. Assumes nothing.
+-- `evening::even_at` meets its contract: the rows' words are cleared, the rows filled, and k steps are taken; the measure is what is left of the
+-- bound. Assumes nothing.
 use mathlib.Core.Path.{_≡_, refl}
 use Prim.Native.Nat.{ℕ, _+_, _*_, _-_, _≤_}
 use native.Mathlib.Omega.{arith}
@@ -6,6 +7,7 @@ use lib.ListN.{length}
 use mathlib.Core.List.{List}
 use Rattle.evening.specs.Rows.{rows-from, Rows-filled}
 use Rattle.evening.specs.Filling.{Evens-at}
+use Rattle.evening.proofs.RowsLaws.{fit-cleared, filled-cleared}
 use Rattle.evening.proofs.EveningWords.{rows-fit-even, fill-small, At, at-none, at-place, at-more, evened-out}
 use borrow.Author.Needs.{needs}
 use Rattle.evening.proofs.filling.even_at.Statement.{statement}
@@ -18,39 +20,58 @@ Inv-loop s₀ u list d n at rows steps passed₀ k₀ s passed k =
 abbrev μ-loop : tie.MeasureT-loop
 μ-loop s₀ u list d n at rows steps passed₀ k₀ s passed k = steps - k
 
+clear-words-requires : tie.Need-clear-words-requires Inv-loop μ-loop
+clear-words-requires c κs = omega (arith, c .before .before .before .pre .room)
+
 fill-rows-requires : tie.Need-fill-rows-requires Inv-loop μ-loop
 fill-rows-requires c κs =
-    let a = c .before .before .before .args in
-    rows-fit-even (a .list .now) (a .d) (a .n) (a .at) (a .u) (a .s .now) (c .before .before .before .pre)
+    let at-clear-words = c .before .before .before in
+    let start = at-clear-words .before .before .before .before in
+    let a = start .args in
+    fit-cleared (at-clear-words .clear-words .ensures) (rows-fit-even (a .list .now) (a .d) (a .n) (a .at) (a .u) (a .s .now) (start .pre))
 
 loop-holds : tie.Need-loop-holds Inv-loop μ-loop
 loop-holds c =
-    let a = c .before .before .before .before .before .before .args in
-    (omega arith, refl, λ first h x. at-none (a .list .now) (a .d) (a .n) (a .at) (a .u) first h (c .before .before .fill-rows .last .0) x)
+    let at-fill-rows = c .before .before in
+    let start = at-fill-rows .before .before .before .before .before .before .before .before in
+    let a = start .args in
+    (omega arith, refl, λ first h x. at-none (a .list .now) (a .d) (a .n) (a .at) (a .u) first h (at-fill-rows .fill-rows .last .0) x)
 
 even-step-requires : tie.Need-even-step-requires Inv-loop μ-loop
 even-step-requires c κs =
-    let a = c .before .before .before .before .before .before .before .before .before .args in
-    let h = c .before .before .before .before .before .before .before .before .before .pre in
-    let lp = c .before .before .loop in
-    let x = c .before .before .before .before .before .fill-rows .ensures in (
+    let at-loop = c .before .before in
+    let at-fill-rows = at-loop .before .before .before in
+    let at-clear-words = at-fill-rows .before .before .before .before in
+    let start = at-clear-words .before .before .before .before in
+    let a = start .args in
+    let h = start .pre in
+    let lp = at-loop .loop in
+    let x = filled-cleared (omega arith) (at-clear-words .clear-words .ensures) (at-fill-rows .fill-rows .ensures) in (
       (fill-small (a .list .now) (a .d) (a .n) (a .at) (a .u) (a .s .now) h, omega (arith, h .low)),
-      λ below. at-place (a .list .now) (a .d) (a .n) (a .at) (a .u) (a .s .now) h (c .before .before .before .before .before .fill-rows .last .0) x (lp .k) (lp .passed .l) (lp .passed .r) (lp .s) (lp .inv .2 (a .s .now) h x) (omega arith),
+      λ below. at-place (a .list .now) (a .d) (a .n) (a .at) (a .u) (a .s .now) h (at-fill-rows .fill-rows .last .0) x (lp .k) (lp .passed .l) (lp .passed .r) (lp .s) (lp .inv .2 (a .s .now) h x) (omega arith),
     )
 
 loop-again : tie.Need-loop-again Inv-loop μ-loop
 loop-again c =
-    let a = c .before .before .before .before .before .before .before .before .before .before .before .before .args in
-    let lp = c .before .before .before .before .before .loop in
-    (search needs, search needs, λ first h x. at-more (a .list .now) (a .d) (a .n) (a .at) (a .u) first h (c .before .before .before .before .before .before .before .before .fill-rows .last .0) x (lp .k) (lp .passed .l) (lp .passed .r) (c .before .before .even-step .result .l) (c .before .before .even-step .result .r) (lp .s) (c .before .before .even-step .last .0) (lp .inv .2 first h x) (c .before .before .even-step .ensures))
+    let at-even-step = c .before .before in
+    let at-loop = at-even-step .before .before .before in
+    let at-fill-rows = at-loop .before .before .before in
+    let start = at-fill-rows .before .before .before .before .before .before .before .before in
+    let a = start .args in
+    let lp = at-loop .loop in
+    (search needs, search needs, λ first h x. at-more (a .list .now) (a .d) (a .n) (a .at) (a .u) first h (at-fill-rows .fill-rows .last .0) x (lp .k) (lp .passed .l) (lp .passed .r) (at-even-step .even-step .result .l) (at-even-step .even-step .result .r) (lp .s) (at-even-step .even-step .last .0) (lp .inv .2 first h x) (at-even-step .even-step .ensures))
 
 returns : tie.Need-returns Inv-loop μ-loop
 returns c =
-    let a = c .before .before .before .before .before .before .before .before .args in
+    let at-fill-rows = c .before .before .before .before in
+    let at-clear-words = at-fill-rows .before .before .before .before in
+    let start = at-clear-words .before .before .before .before in
+    let a = start .args in
+    let h = start .pre in
     let lp = c .before .loop in
-    let x = c .before .before .before .before .fill-rows .ensures in
+    let x = filled-cleared (omega arith) (at-clear-words .clear-words .ensures) (at-fill-rows .fill-rows .ensures) in
     let e : lp .k ≡ 2 * (a .n + a .n) = omega arith in
-    evened-out (a .list .now) (a .d) (a .n) (a .at) (a .u) (a .s .now) (c .before .before .before .before .before .before .before .before .pre) (c .before .before .before .before .fill-rows .last .0) x (lp .passed .l) (lp .passed .r) (lp .s) (rw e at (lp .inv .2 (a .s .now) (c .before .before .before .before .before .before .before .before .pre) x))
+    evened-out (a .list .now) (a .d) (a .n) (a .at) (a .u) (a .s .now) h (at-fill-rows .fill-rows .last .0) x (lp .passed .l) (lp .passed .r) (lp .s) (rw e at (lp .inv .2 (a .s .now) h x))
 
 pub even-at-spec : {M : Type 1} → statement M
 even-at-spec =
@@ -61,6 +82,9 @@ even-at-spec =
     (λ c. search needs)
     (λ c. search needs)
     (λ c. search needs)
+    (λ c. search needs)
+    (λ c. search needs)
+    clear-words-requires
     fill-rows-requires
     (λ c. search needs)
     (λ c. search needs)
