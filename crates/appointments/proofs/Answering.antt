@@ -15,14 +15,18 @@ use Rattle.words.specs.Basics.{count}
 use Rattle.words.specs.Words.{word}
 use Rattle.words.proofs.Sums.{count-le}
 use Rattle.appointments.specs.Appointments.{Appt, appt, appts, load, largest-load, scratch-words}
-use Rattle.appointments.specs.Checks.{First, at, nowhere, first-from, has-blank, has-unlisted, Check, passed, refused, bar, bar-at, checks-1-to-5, checks, check-ends}
-use Rattle.appointments.specs.Checked.{found, checked, largest-word}
+use Rattle.appointments.specs.Checks.{First, at, nowhere, first-from, has-blank, has-unlisted, Check, passed, refused, bar, bar-at, check-slots, checks-1-to-5, checks-1-to-6, checks, check-ends}
+use Rattle.appointments.specs.Needed.{needed, needs-answer, scratch-enough}
+use Rattle.appointments.specs.Checked.{found, checked, largest-word, Words-fit}
 use Rattle.appointments.specs.declared.Found.{Found}
 use Rattle.appointments.specs.declared.Found.the-variants.{At, Nowhere}
 use Rattle.appointments.specs.declared.Checked.{Checked}
 use Rattle.appointments.specs.declared.Checked.the-variants.{Passed, Refused}
+use Rattle.appointments.specs.declared.Needed.the-variants as needs
 use Rattle.appointments.proofs.Loads.{largest-load-le, appts-length}
-use Rattle.appointments.proofs.ChecksLaws.{good-goes-on, passed-good}
+use Rattle.appointments.proofs.ChecksLaws.{good-goes-on, sized-goes-on, passed-good, passed-sized}
+use Rattle.appointments.proofs.Causes.{never-refused, refused-cause, cause-number}
+use Rattle.appointments.proofs.Enough.{words-enough, enough}
 use Rattle.appointments.proofs.Flat.{appts-count, load-count}
 
 pub zeros : (n v : ℕ) → word (replicate n 0) v ≡ 0
@@ -115,15 +119,15 @@ checked-number passed d n i h = cc
 checked-number (refused m j) d n i h = cc
 
 five-bars :
-    (t u w : Bool) (f g : First) (next : Check) (n i : ℕ) →
-    bar t 1 (bar u 2 (bar w 3 (bar-at f 4 (bar-at g 5 passed)))) ≡ refused n i →
+    (t u w : Bool) (f g : First) (own next : Check) (n i : ℕ) → (own ≡ refused n i → next ≡ refused n i) →
+    bar t 1 (bar u 2 (bar w 3 (bar-at f 4 (bar-at g 5 own)))) ≡ refused n i →
     bar t 1 (bar u 2 (bar w 3 (bar-at f 4 (bar-at g 5 next)))) ≡ refused n i
-five-bars true u w f g next n i h = h
-five-bars false true w f g next n i h = h
-five-bars false false true f g next n i h = h
-five-bars false false false (at j) g next n i h = h
-five-bars false false false nowhere (at j) next n i h = h
-five-bars false false false nowhere nowhere next n i h = cc
+five-bars true u w f g own next n i later h = h
+five-bars false true w f g own next n i later h = h
+five-bars false false true f g own next n i later h = h
+five-bars false false false (at j) g own next n i later h = h
+five-bars false false false nowhere (at j) own next n i later h = h
+five-bars false false false nowhere nowhere own next n i later h = later h
 
 -- What checks 1 to 5 refuse stays refused, whatever comes after them.
 pub refused-first :
@@ -132,54 +136,82 @@ pub refused-first :
 unfolding checks-1-to-5
 refused-first P list next n i h =
     five-bars (ltb 1024 P) (eqb (length list % 2) 1) (ltb 4096 (length (appts list)))
-    (first-from 0 has-blank (appts list)) (first-from 0 (has-unlisted P) (appts list)) next n i h
+    (first-from 0 has-blank (appts list)) (first-from 0 (has-unlisted P) (appts list)) passed next n i (never-refused n i) h
 
--- checks 6 to 8, once D is known
-abbrev pub checks-6-to-8 : ℕ → List ℕ → ℕ → ℕ → Check
-checks-6-to-8 P list slots scratch =
-    bar (ltb 8192 (largest-load P (appts list) * P)) 6
-    (bar (ltb slots (length (appts list))) 7
-    (bar (ltb scratch (scratch-words P (largest-load P (appts list)))) 8
-    passed))
+bar-first : (t : Bool) (k : ℕ) (next : Check) (n i : ℕ) → bar t k passed ≡ refused n i → bar t k next ≡ refused n i
+bar-first true k next n i h = h
+bar-first false k next n i h = never-refused n i h
 
-module _ (P : ℕ) (list : List ℕ) (slots scratch : ℕ) where
-  pub all-refused : (n i : ℕ) → checks-1-to-5 P list passed ≡ refused n i → checks P list slots scratch ≡ refused n i
-  unfolding checks
-  all-refused n i h = refused-first P list (checks-6-to-8 P list slots scratch) n i h
+-- and what checks 1 to 6 refuse
+pub refused-sized :
+    (P : ℕ) (list : List ℕ) (next : Check) (n i : ℕ) → checks-1-to-6 P list passed ≡ refused n i →
+    checks-1-to-6 P list next ≡ refused n i
+unfolding checks-1-to-6 checks-1-to-5
+refused-sized P list next n i h =
+    let t = ltb 8192 (largest-load P (appts list) * P) in
+    five-bars (ltb 1024 P) (eqb (length list % 2) 1) (ltb 4096 (length (appts list)))
+    (first-from 0 has-blank (appts list)) (first-from 0 (has-unlisted P) (appts list))
+    (bar t 6 passed) (bar t 6 next) n i (bar-first t 6 next n i) h
 
-  pub all-go-on : checks-1-to-5 P list passed ≡ passed → checks P list slots scratch ≡ checks-6-to-8 P list slots scratch
-  unfolding checks
-  all-go-on h = good-goes-on P list (checks-6-to-8 P list slots scratch) (passed-good P list passed h .0)
+-- a code's answers to check 6, of the D that it has
+module _ (P : ℕ) (list : List ℕ) where
+  pub still-refused : (n i : ℕ) → checks-1-to-5 P list passed ≡ refused n i → checks-1-to-6 P list passed ≡ refused n i
+  unfolding checks-1-to-6
+  still-refused n i h = refused-first P list (bar (ltb 8192 (largest-load P (appts list) * P)) 6 passed) n i h
 
-  -- the later answers, of the D that the code has
   module _ (D : ℕ) (e : D ≡ largest-load P (appts list)) (ok : checks-1-to-5 P list passed ≡ passed) where
-    pub refuses-6 : 8192 < D * P → checks P list slots scratch ≡ refused 6 0
-    refuses-6 h = all-go-on ok ∙ rw (← e, lt-ltb 8192 (D * P) h)
+    pub refuses-6 : 8192 < D * P → checks-1-to-6 P list passed ≡ refused 6 0
+    unfolding checks-1-to-6
+    refuses-6 h = rw (← e, lt-ltb 8192 (D * P) h) (good-goes-on P list (refused 6 0) (passed-good P list passed ok .0))
 
-    pub refuses-7 : D * P ≤ 8192 → slots < length list / 2 → checks P list slots scratch ≡ refused 7 0
-    refuses-7 h k =
-        all-go-on ok
-        ∙ rw (← e, le-ltb 8192 (D * P) h, lt-ltb slots (length (appts list)) (omega (arith, appts-count list)))
+    pub passes-6 : D * P ≤ 8192 → checks-1-to-6 P list passed ≡ passed
+    passes-6 h = sized-goes-on P list passed (passed-good P list passed ok .0) (rw e at h)
 
-    pub refuses-8 : D * P ≤ 8192 → length list / 2 ≤ slots → scratch < 128 * P * (D + 1) → checks P list slots scratch ≡ refused 8 0
-    refuses-8 h k l =
+-- and to checks 7 and 8
+module _ (P : ℕ) (list : List ℕ) (slots scratch : ℕ) where
+  -- checks 7 and 8, once D is known
+  abbrev checks-7-and-8 : Check
+  checks-7-and-8 = check-slots slots (length (appts list)) (bar (ltb scratch (scratch-words P (largest-load P (appts list)))) 8 passed)
+
+  pub all-refused : (n i : ℕ) → checks-1-to-6 P list passed ≡ refused n i → checks P list slots scratch ≡ refused n i
+  unfolding checks
+  all-refused n i h = refused-sized P list checks-7-and-8 n i h
+
+  pub all-go-on : checks-1-to-6 P list passed ≡ passed → checks P list slots scratch ≡ checks-7-and-8
+  unfolding checks
+  all-go-on h = let c = passed-sized P list passed h in sized-goes-on P list checks-7-and-8 (c .0) (c .1)
+
+  module _ (D : ℕ) (e : D ≡ largest-load P (appts list)) (ok : checks-1-to-6 P list passed ≡ passed) where
+    pub refuses-7 : slots < length list / 2 → checks P list slots scratch ≡ refused 7 0
+    refuses-7 k = all-go-on ok ∙ rw (lt-ltb slots (length (appts list)) (omega (arith, appts-count list)))
+
+    pub refuses-8 : length list / 2 ≤ slots → scratch < scratch-words P D → checks P list slots scratch ≡ refused 8 0
+    refuses-8 k l =
         all-go-on ok
         ∙ rw (
           ← e,
-          le-ltb 8192 (D * P) h,
           le-ltb slots (length (appts list)) (omega (arith, appts-count list)),
-          lt-ltb scratch (128 * P * (D + 1)) l,
+          lt-ltb scratch (scratch-words P D) l,
         )
 
-    pub passes-all : D * P ≤ 8192 → length list / 2 ≤ slots → 128 * P * (D + 1) ≤ scratch → checks P list slots scratch ≡ passed
-    passes-all h k l =
+    pub passes-all : length list / 2 ≤ slots → scratch-words P D ≤ scratch → checks P list slots scratch ≡ passed
+    passes-all k l =
         all-go-on ok
         ∙ rw (
           ← e,
-          le-ltb 8192 (D * P) h,
           le-ltb slots (length (appts list)) (omega (arith, appts-count list)),
-          le-ltb scratch (128 * P * (D + 1)) l,
+          le-ltb scratch (scratch-words P D) l,
         )
+
+-- a code's answer to how much scratch a list needs
+module _ (P : ℕ) (list : List ℕ) where
+  pub needs-refused : (n i : ℕ) → checks-1-to-6 P list passed ≡ refused n i → needs.Refused n i ≡ needs-answer P list
+  unfolding needs-answer
+  needs-refused n i h = rw h
+
+  pub needs-words : (D : ℕ) → D ≡ largest-load P (appts list) → checks-1-to-6 P list passed ≡ passed → needs.Words D (scratch-words P D) ≡ needs-answer P list
+  unfolding needs-answer
+  needs-words D e h = rw (h, e)
 
 -- what is known of D and P where checks 1 to 5 have passed
 pub d-small : (P : ℕ) (list : List ℕ) → checks-1-to-5 P list passed ≡ passed → largest-load P (appts list) ≤ 8192
@@ -188,31 +220,11 @@ d-small P list h =
     largest-load-le P (appts list) 8192
     (λ v k. omega (arith, load-count v list (good .even), count-le v list, appts-length list (good .even), good .few))
 
--- the sizes that the later checks compute fit
-pub record Small (P D : ℕ) : Type 0 where
-  pub parties : P ≤ 1024
-  pub figure : D ≤ 8192
-  pub product : D * P ≤ 8388608
-  pub words : 128 * P * (D + 1) ≤ 1073872896
-
-pub small : (P : ℕ) (list : List ℕ) (D : ℕ) → checks-1-to-5 P list passed ≡ passed → D ≡ largest-load P (appts list) → Small P D
-small P list D h e =
-    let good = passed-good P list passed h .0 in
-    let p : P ≤ 1024 = good .parties in
-    let d : D ≤ 8192 = omega (arith, d-small P list h) in
-    let more : D + 1 ≤ 8193 = omega arith in
-    record {
-      parties = p;
-      figure = d;
-      product = le-trans (mul-le-mul-left D p) (omega arith);
-      words = le-trans (mul-le-mul-left (128 * P) more) (omega arith);
-    }
-
--- what the code knows once `check_list` has told it D
+-- what the code knows once `check_list` has told it D: the product of check 6 fits
 pub record Listed (P : ℕ) (list : List ℕ) (D : ℕ) : Type 0 where
   pub ok : checks-1-to-5 P list passed ≡ passed
   pub figure : D ≡ largest-load P (appts list)
-  pub small : Small P D
+  pub product : D * P ≤ 8388608
 
 pub listed :
     (P : ℕ) (list : List ℕ) (D : ℕ) (told : Checked) →
@@ -221,4 +233,57 @@ listed P list D told e k =
     let h = sym e ∙ k in
     let ok = checked-passed (checks-1-to-5 P list passed) (largest-load P (appts list)) D h in
     let figure = checked-figure (checks-1-to-5 P list passed) (largest-load P (appts list)) D h in
-    record { ok = ok; figure = figure; small = small P list D ok figure }
+    let d : D ≤ 8192 = omega (arith, d-small P list ok) in
+    let p : P ≤ 1024 = passed-good P list passed ok .0 .parties in
+    record {
+      ok = ok;
+      figure = figure;
+      product = le-trans (mul-le-mul-left D p) (omega arith);
+    }
+
+-- what the code knows once `check_size` has told it D: W can be computed
+pub record Sized (P : ℕ) (list : List ℕ) (D : ℕ) : Type 0 where
+  pub ok : checks-1-to-6 P list passed ≡ passed
+  pub figure : D ≡ largest-load P (appts list)
+  pub room : Words-fit P D
+
+pub sized :
+    (P : ℕ) (list : List ℕ) (D : ℕ) (told : Checked) →
+    told ≡ checked (checks-1-to-6 P list passed) (largest-load P (appts list)) → told ≡ Passed D → Sized P list D
+sized P list D told e k =
+    let h = sym e ∙ k in
+    let ok = checked-passed (checks-1-to-6 P list passed) (largest-load P (appts list)) D h in
+    let figure = checked-figure (checks-1-to-6 P list passed) (largest-load P (appts list)) D h in
+    let c = passed-sized P list passed ok in
+    let product : D * P ≤ 8192 = rw figure (c .1) in
+    let small : D ≤ 8192 = omega (arith, d-small P list (good-goes-on P list passed (c .0))) in
+    record {
+      ok = ok;
+      figure = figure;
+      room = record { parties = c .0 .parties; figure = small; words = words-enough P D (c .0 .parties) product };
+    }
+
+-- ── how large the numbers of a list's needs are ──
+
+needed-words : (c : Check) (d w D W : ℕ) → needed c d w ≡ needs.Words D W → (c ≡ passed) × (d ≡ D) × (w ≡ W)
+needed-words passed d w D W e = (refl, cc, cc)
+needed-words (refused n i) d w D W e = (cc, cc, cc)
+
+needed-refused : (c : Check) (d w n i : ℕ) → needed c d w ≡ needs.Refused n i → c ≡ refused n i
+needed-refused passed d w n i e = cc
+needed-refused (refused m j) d w n i e = cc
+
+module _ (P : ℕ) (list : List ℕ) where
+  pub needs-small : (D W : ℕ) → needs-answer P list ≡ needs.Words D W → (D ≤ 8192) × (W ≤ scratch-enough)
+  unfolding needs-answer
+  needs-small D W e =
+      let D₀ : ℕ = largest-load P (appts list) in
+      let k = needed-words (checks-1-to-6 P list passed) D₀ (scratch-words P D₀) D W e in
+      let good = passed-sized P list passed (k .0) .0 in
+      omega (arith, k .1, k .2, d-small P list (good-goes-on P list passed good), enough P list .words (k .0))
+
+  pub needs-refusal-small : (n i : ℕ) → needs-answer P list ≡ needs.Refused n i → (n ≤ 8) × (i ≤ 4096)
+  unfolding needs-answer
+  needs-refusal-small n i e =
+      let h = needed-refused (checks-1-to-6 P list passed) _ _ n i e in
+      omega (arith, cause-number (refused-cause P list 0 0 n i (all-refused P list 0 0 n i h)))

@@ -11,7 +11,7 @@ use lib.ListN.{length}
 use Rattle.words.specs.Basics.{All}
 use Rattle.words.proofs.Sums.{all-map}
 use Rattle.appointments.specs.Appointments.{appts, largest-load, scratch-words}
-use Rattle.appointments.specs.Checks.{First, at, nowhere, first-from, has-blank, has-unlisted, Check, passed, refused, bar, bar-at, checks-1-to-5, checks}
+use Rattle.appointments.specs.Checks.{First, at, nowhere, first-from, has-blank, has-unlisted, Check, passed, refused, bar, bar-at, checks-1-to-5, checks-1-to-6, checks}
 use Rattle.appointments.proofs.Loads.{Listed}
 use Rattle.appointments.proofs.FirstFrom.{First-at, nowhere-all, all-nowhere, found-is-first, first-is-found}
 use Rattle.appointments.proofs.ChecksLaws.{Filled, Good-list, filled-test, test-filled, test-listed, even-test, test-even, good-goes-on, refused-passed}
@@ -32,7 +32,7 @@ pub data Cause (P : ℕ) (list : List ℕ) (slots scratch : ℕ) : ℕ → ℕ �
 module _ (P : ℕ) (list : List ℕ) (slots scratch : ℕ) where
   -- Each cause gives its number and place.
   pub cause-refused : {n i : ℕ} → Cause P list slots scratch n i → checks P list slots scratch ≡ refused n i
-  unfolding checks checks-1-to-5
+  unfolding checks checks-1-to-6 checks-1-to-5
   cause-refused (many-parties h) = rw (lt-ltb 1024 P h)
   cause-refused (odd-length p h) = rw (le-ltb 1024 P p, eq-eqb (length list % 2) 1 h)
   cause-refused (many-appts p e h) =
@@ -99,7 +99,7 @@ module _ (P : ℕ) (list : List ℕ) (slots scratch n i : ℕ) where
 
   -- A refusal has the cause that its number and place name.
   pub refused-cause : checks P list slots scratch ≡ refused n i → Cause P list slots scratch n i
-  unfolding checks checks-1-to-5
+  unfolding checks checks-1-to-6 checks-1-to-5
   refused-cause =
       let C : ℕ → ℕ → Type 0 = Cause P list slots scratch in
       let A : ℕ = length (appts list) in

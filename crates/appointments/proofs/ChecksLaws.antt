@@ -11,7 +11,7 @@ use Rattle.words.specs.Basics.{All}
 use Rattle.words.proofs.Bools.{neither, both-false}
 use Rattle.words.proofs.Sums.{all-map}
 use Rattle.appointments.specs.Appointments.{Appt, appts, largest-load, scratch-words}
-use Rattle.appointments.specs.Checks.{blank, First, at, nowhere, first-from, has-blank, has-unlisted, Check, passed, refused, bar, bar-at, checks-1-to-5, checks}
+use Rattle.appointments.specs.Checks.{blank, First, at, nowhere, first-from, has-blank, has-unlisted, Check, passed, refused, bar, bar-at, checks-1-to-5, checks-1-to-6, checks}
 use Rattle.appointments.proofs.Loads.{Listed, appts-length}
 use Rattle.appointments.proofs.FirstFrom.{nowhere-all, all-nowhere}
 
@@ -79,16 +79,20 @@ good-goes-on P list next g =
       all-nowhere 0 (has-unlisted P) (appts list) (all-map (listed-test P) (appts list) (g .listed)),
     )
 
+-- and so does one with D×P at most 8,192, through check 6
+pub sized-goes-on : (P : ℕ) (list : List ℕ) (next : Check) → Good-list P list → largest-load P (appts list) * P ≤ 8192 → checks-1-to-6 P list next ≡ next
+unfolding checks-1-to-6
+sized-goes-on P list next g h = rw (le-ltb 8192 (largest-load P (appts list) * P) h) (good-goes-on P list next g)
+
 -- Whoever has the eight properties passes.
 pub passes-passed : (P : ℕ) (list : List ℕ) (slots scratch : ℕ) → Passes P list slots scratch → checks P list slots scratch ≡ passed
 unfolding checks
 passes-passed P list slots scratch p =
     rw (
-      le-ltb 8192 (largest-load P (appts list) * P) (p .product),
       le-ltb slots (length (appts list)) (p .slot-room),
       le-ltb scratch (scratch-words P (largest-load P (appts list))) (p .scratch-room),
     )
-    (good-goes-on P list passed (p .good))
+    (sized-goes-on P list passed (p .good) (p .product))
 
 -- ── one check ──
 
@@ -124,18 +128,26 @@ passed-good P list next e =
       c₅ .1,
     )
 
+-- what passes checks 1 to 6 has D×P at most 8,192 too
+pub passed-sized : (P : ℕ) (list : List ℕ) (next : Check) → checks-1-to-6 P list next ≡ passed → Good-list P list × (largest-load P (appts list) * P ≤ 8192) × (next ≡ passed)
+unfolding checks-1-to-6
+passed-sized P list next e =
+    let D : ℕ = largest-load P (appts list) in
+    let c₅ = passed-good P list _ e in
+    let c₆ = bar-passed (ltb 8192 (D * P)) 6 next (c₅ .1) in
+    (c₅ .0, ltb-false 8192 (D * P) (c₆ .0), c₆ .1)
+
 -- Whoever passes has the eight properties.
 pub passed-passes : (P : ℕ) (list : List ℕ) (slots scratch : ℕ) → checks P list slots scratch ≡ passed → Passes P list slots scratch
 unfolding checks
 passed-passes P list slots scratch e =
     let D : ℕ = largest-load P (appts list) in
-    let c₁ = passed-good P list _ e in
-    let c₆ = bar-passed (ltb 8192 (D * P)) 6 _ (c₁ .1) in
-    let c₇ = bar-passed (ltb slots (length (appts list))) 7 _ (c₆ .1) in
+    let c₆ = passed-sized P list _ e in
+    let c₇ = bar-passed (ltb slots (length (appts list))) 7 _ (c₆ .2) in
     let c₈ = bar-passed (ltb scratch (scratch-words P D)) 8 passed (c₇ .1) in
     record {
-      good = c₁ .0;
-      product = ltb-false 8192 (D * P) (c₆ .0);
+      good = c₆ .0;
+      product = c₆ .1;
       slot-room = ltb-false slots (length (appts list)) (c₇ .0);
       scratch-room = ltb-false scratch (scratch-words P D) (c₈ .0);
     }

@@ -5,5 +5,6 @@ pub mod Pigeonhole
 pub mod FirstFrom
 pub mod ChecksLaws
 pub mod Causes
+pub mod Enough
 pub mod Flat
 pub mod Answering

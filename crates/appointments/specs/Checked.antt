@@ -1,8 +1,10 @@
--- The answers of the checks' code, by document 01's checks. Assumes nothing.
-use Prim.Native.Nat.{ℕ, zero, suc, max}
+-- The answers of the checks' code, by document 01's checks, and what its arithmetic asks. Assumes nothing.
+use Prim.Native.Nat.{ℕ, zero, suc, max, _≤_}
 use mathlib.Core.List.{List}
 use Rattle.words.specs.Words.{word}
+use Rattle.appointments.specs.Appointments.{scratch-words}
 use Rattle.appointments.specs.Checks.{First, at, nowhere, Check, passed, refused}
+use Rattle.appointments.specs.Needed.{scratch-enough}
 use Rattle.appointments.specs.declared.Found.{Found}
 use Rattle.appointments.specs.declared.Found.the-variants.{At, Nowhere}
 use Rattle.appointments.specs.declared.Checked.{Checked}
@@ -22,3 +24,9 @@ checked (refused number place) D = Refused number place
 unfoldable pub largest-word : ℕ → List ℕ → ℕ
 largest-word zero s = 0
 largest-word (suc p) s = max (largest-word p s) (word s p)
+
+-- W can be computed: P, D and W itself are small
+pub record Words-fit (P D : ℕ) : Type 0 where
+  pub parties : P ≤ 1024
+  pub figure : D ≤ 8192
+  pub words : scratch-words P D ≤ scratch-enough

@@ -75,12 +75,14 @@ checks-1-to-5 P list next =
     (check-count (length (appts list))
     (check-ends P list next)))
 
+-- Checks 1 to 6, those before any buffer is looked at. 6: D×P above 8,192
+unfoldable pub checks-1-to-6 : ℕ → List ℕ → Check → Check
+checks-1-to-6 P list next = checks-1-to-5 P list (bar (ltb 8192 (largest-load P (appts list) * P)) 6 next)
+
 -- Checks 1 to 8, of P, the list and the lengths of the slot buffer and of scratch.
 unfoldable pub checks : ℕ → List ℕ → ℕ → ℕ → Check
 checks P list slots scratch =
-    let D : ℕ = largest-load P (appts list) in
-    checks-1-to-5 P list
-    (bar (ltb 8192 (D * P)) 6
+    checks-1-to-6 P list
     (check-slots slots (length (appts list))
-    (bar (ltb scratch (scratch-words P D)) 8
-    passed)))
+    (bar (ltb scratch (scratch-words P (largest-load P (appts list)))) 8
+    passed))

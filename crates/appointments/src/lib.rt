@@ -4,9 +4,10 @@ ghost use Prim.Native.Nat.{ℕ, _+_, _*_, _%_, _<_, _≤_};
 ghost use lib.ListN.{length};
 ghost use Rattle.words.specs.Basics.{count};
 ghost use Rattle.words.specs.Words.{word, «put-word»};
-ghost use Rattle.appointments.specs.Appointments.{appts, «largest-load»};
-ghost use Rattle.appointments.specs.Checks.{«first-from», «has-unlisted», «check-ends», «checks-1-to-5», checks, passed};
-ghost use Rattle.appointments.specs.Checked.{found, checked, «largest-word»};
+ghost use Rattle.appointments.specs.Appointments.{appts, «largest-load», «scratch-words»};
+ghost use Rattle.appointments.specs.Checks.{«first-from», «has-unlisted», «check-ends», «checks-1-to-5», «checks-1-to-6», checks, passed};
+ghost use Rattle.appointments.specs.Checked.{found, checked, «largest-word», «Words-fit»};
+ghost use Rattle.appointments.specs.Needed.{«needs-answer»};
 
 // A first position, or none.
 pub enum Found {
@@ -17,6 +18,12 @@ pub enum Found {
 // What the checks came to: passed, with D, or refused with document 01's number and place.
 pub enum Checked {
     Passed(usize),
+    Refused(usize, usize),
+}
+
+// How much scratch a list needs: D and W, or refused with document 01's number and place.
+pub enum Needed {
+    Words(usize, usize),
     Refused(usize, usize),
 }
 
@@ -125,9 +132,9 @@ pub fn check_list(p: usize, list: &[u16]) -> Checked
     Checked::Passed(largest_load(p, list))
 }
 
-// Checks 1 to 8, of P, the list and the lengths of the slot buffer and of scratch; passed, it gives D.
-pub fn check_all(p: usize, list: &[u16], slots: usize, scratch: usize) -> Checked
-    ensures { λ r. ⌜ r ≡ checked (checks p (now (list .entry)) slots scratch) (largest-load p (appts (now (list .entry)))) ⌝ }
+// Checks 1 to 6, those before any buffer is looked at; passed, it gives D.
+pub fn check_size(p: usize, list: &[u16]) -> Checked
+    ensures { λ r. ⌜ r ≡ checked (checks-1-to-6 p (now (list .entry)) passed) (largest-load p (appts (now (list .entry)))) ⌝ }
 {
     let listed = check_list(p, list);
     let Checked::Passed(d) = listed else {
@@ -136,11 +143,41 @@ pub fn check_all(p: usize, list: &[u16], slots: usize, scratch: usize) -> Checke
     if 8192 < d * p {
         return Checked::Refused(6, 0);
     }
+    Checked::Passed(d)
+}
+
+// W, the words that scratch needs. It fits, since check 6 has passed.
+fn scratch_words(p: usize, d: usize) -> usize
+    requires { ⌜ Words-fit p d ⌝ }
+    ensures { λ r. ⌜ r ≡ scratch-words p d ⌝ }
+{
+    128 * p * (d + 1)
+}
+
+// Checks 1 to 8, of P, the list and the lengths of the slot buffer and of scratch; passed, it gives D.
+pub fn check_all(p: usize, list: &[u16], slots: usize, scratch: usize) -> Checked
+    ensures { λ r. ⌜ r ≡ checked (checks p (now (list .entry)) slots scratch) (largest-load p (appts (now (list .entry)))) ⌝ }
+{
+    let sized = check_size(p, list);
+    let Checked::Passed(d) = sized else {
+        return sized;
+    };
     if slots < list.len() / 2 {
         return Checked::Refused(7, 0);
     }
-    if scratch < 128 * p * (d + 1) {
+    if scratch < scratch_words(p, d) {
         return Checked::Refused(8, 0);
     }
     Checked::Passed(d)
+}
+
+// How much scratch the list needs: checks 1 to 6, then D and W.
+pub fn needs(p: usize, list: &[u16]) -> Needed
+    ensures { λ r. ⌜ r ≡ needs-answer p (now (list .entry)) ⌝ }
+{
+    let sized = check_size(p, list);
+    match sized {
+        Checked::Refused(number, place) => Needed::Refused(number, place),
+        Checked::Passed(d) => Needed::Words(d, scratch_words(p, d)),
+    }
 }

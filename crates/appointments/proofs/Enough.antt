@@ -1,0 +1,38 @@
+-- 1,179,648 words of scratch are enough for every list that passes check 6. Assumes nothing.
+use Prim.Native.Nat.{ℕ, _+_, _*_, _≤_}
+use mathlib.Core.Path.{_≡_, refl}
+use mathlib.Core.List.{List}
+use native.Mathlib.Omega.{arith}
+use native.Mathlib.Nat.{mul-add, mul-assoc, mul-comm}
+use Rattle.appointments.specs.Appointments.{appts, largest-load, scratch-words}
+use Rattle.appointments.specs.Checks.{passed, refused, checks}
+use Rattle.appointments.specs.Needed.{scratch-enough, Enough}
+use Rattle.appointments.proofs.ChecksLaws.{passed-sized}
+use Rattle.appointments.proofs.Causes.{Cause, many-parties, odd-length, many-appts, blank-end, unlisted-end, large-product, few-slots, small-scratch, refused-cause}
+
+-- W is 128 × (D×P + P), and checks 1 and 6 bound both
+pub words-enough : (P D : ℕ) → P ≤ 1024 → D * P ≤ 8192 → scratch-words P D ≤ scratch-enough
+words-enough P D p h =
+    let each : 128 * P * (D + 1) ≡ 128 * P * D + 128 * P * 1 = mul-add (128 * P) D 1 in
+    let product : 128 * P * D ≡ 128 * (P * D) = mul-assoc 128 P D in
+    omega (arith, mul-comm P D)
+
+-- what check 8 refuses has fewer words
+few-words : {P : ℕ} {list : List ℕ} {slots scratch n i : ℕ} → Cause P list slots scratch n i → n ≡ 8 → scratch-enough ≤ scratch → ⊥
+few-words (many-parties h) e w = omega arith
+few-words (odd-length p h) e w = omega arith
+few-words (many-appts p k h) e w = omega arith
+few-words (blank-end p k a h) e w = omega arith
+few-words (unlisted-end p k a f h) e w = omega arith
+few-words (large-product g h) e w = omega arith
+few-words (few-slots g p h) e w = omega arith
+few-words {P} {list} (small-scratch g p r h) e w =
+    omega (arith, words-enough P (largest-load P (appts list)) (g .parties) p)
+
+-- Scratch of that many words is enough for every list.
+pub enough : (P : ℕ) (list : List ℕ) → Enough P list
+enough P list =
+    record {
+      words = λ ok. let c = passed-sized P list passed ok in words-enough P (largest-load P (appts list)) (c .0 .parties) (c .1);
+      never-8 = λ slots scratch place w e. few-words (refused-cause P list slots scratch 8 place e) refl w;
+    }
