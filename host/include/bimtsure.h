@@ -31,6 +31,16 @@ struct bimtsure_answer {
 struct bimtsure_answer bimtsure_plan(uint16_t p, const uint16_t *list, size_t list_len, uint16_t *slots, size_t slots_len,
                                      uint32_t *scratch, size_t scratch_len);
 
+/* How much scratch a list needs: W = 128*P*(D+1) words, and D. Refuses by 1 to 6, with its place; d and words are then 0. A list
+ * that is not refused is never refused by 8 if the planning call is lent that many words or more. */
+struct bimtsure_needs_answer {
+    uint32_t number;
+    uint32_t place;
+    uint32_t d;
+    uint32_t words;
+};
+struct bimtsure_needs_answer bimtsure_needs(uint16_t p, const uint16_t *list, size_t list_len);
+
 /* Waiting of a party: D minus its load. Refuses by 1 to 5; 5 with place 0 also if the party is not below P. */
 struct bimtsure_waiting_answer {
     uint32_t number;

@@ -1,4 +1,4 @@
--- The numbers of the desk's answers fit 32 bits. Assumes nothing.
+-- The numbers of the desk's answers, and how much scratch a list needs, fit 32 bits. Assumes nothing.
 use Prim.Native.Nat.{ℕ, _*_, _%_, _<_, _≤_}
 use mathlib.Core.Path.{_≡_, refl}
 use mathlib.Core.Bool.{Bool, not, _||_}
@@ -9,7 +9,9 @@ use lib.Dec.{eqb, ltb, leb}
 use lib.ListN.{length}
 use Rattle.appointments.specs.Appointments.{Appt, appts}
 use Rattle.appointments.specs.Checks.{at, Check, first-from, has-blank, has-unlisted, bar, checks-1-to-5}
-use Rattle.appointments.proofs.Answering.{d-small}
+use Rattle.appointments.specs.Needed.{needs-answer}
+use Rattle.appointments.specs.declared.Needed.the-variants as needed
+use Rattle.appointments.proofs.Answering.{d-small, needs-small, needs-refusal-small}
 use Rattle.appointments.proofs.Causes.{bar-cause, bar-at-cause, never-refused}
 use Rattle.appointments.proofs.ChecksLaws.{good-goes-on}
 use Rattle.appointments.proofs.FirstFrom.{found-is-first}
@@ -36,6 +38,15 @@ bar-fits t k next n i h later = bar-cause Both-fit t k next n i (λ q. (h, omega
 -- the first position of a short list
 first-fits : (test : Appt → Bool) (xs : List Appt) (j : ℕ) → length xs ≤ 4096 → first-from 0 test xs ≡ at j → j < 4294967296
 first-fits test xs j h e = omega (arith, found-is-first test xs j e .inside)
+
+-- ── how much scratch a list needs ──
+
+module _ (P : ℕ) (list : List ℕ) where
+  pub needs-fit : (D W : ℕ) → needs-answer P list ≡ needed.Words D W → Both-fit D W
+  needs-fit D W e = omega (arith, needs-small P list D W e)
+
+  pub needs-refusal-fits : (n i : ℕ) → needs-answer P list ≡ needed.Refused n i → Both-fit n i
+  needs-refusal-fits n i e = omega (arith, needs-refusal-small P list n i e)
 
 -- ── waiting ──
 

@@ -1,6 +1,9 @@
--- From the enum that a call of the desk tells to the definitions' answer, and from that to its numbers. Assumes nothing.
+-- From the enum that a call tells to the definitions' answer, and from that to its numbers. Assumes nothing.
 use Prim.Native.Nat.{ℕ}
 use mathlib.Core.Path.{_≡_, refl}
+use Rattle.appointments.specs.Needed as needs
+use Rattle.appointments.specs.declared.Needed.{Needed}
+use Rattle.appointments.specs.declared.Needed.the-variants as needed
 use Rattle.desk.specs.Answers.{Answer, accepted, refused, number-of, place-of, figure-of}
 use Rattle.desk.specs.Filed.{Header, header-of, parties-of, appointments-of}
 use Rattle.desk.specs.Viewer.{Step, found, end}
@@ -50,6 +53,17 @@ opened-refused (accepted u) n i e = cc
 opened-refused (refused k j) n i e = cc
 
 -- ── its numbers ──
+
+-- How much scratch a list needs: number, place, D and W.
+abbrev pub Needs-say : Needed → ℕ → ℕ → ℕ → ℕ → Type 0
+Needs-say a number place d words =
+    (number ≡ needs.number-of a) × ((place ≡ needs.place-of a) × ((d ≡ needs.figure-of a) × (words ≡ needs.words-of a)))
+
+pub words-say : (a : Needed) (D W : ℕ) → a ≡ needed.Words D W → Needs-say a 0 0 D W
+words-say a D W e = rw e (refl, (refl, (refl, refl)))
+
+pub needs-refused-say : (a : Needed) (n i : ℕ) → a ≡ needed.Refused n i → Needs-say a n i 0 0
+needs-refused-say a n i e = rw e (refl, (refl, (refl, refl)))
 
 pub accepted-says : (a : Answer ℕ) (n : ℕ) → a ≡ accepted n → (0 ≡ number-of a) × ((0 ≡ place-of a) × (n ≡ figure-of a))
 accepted-says a n e = rw e (refl, (refl, refl))

@@ -3,6 +3,7 @@
 // host/include/bimtsure.h declares them.
 ghost use mathlib.Core.Path.{_≡_};
 ghost use lib.ListN.{length};
+ghost use Rattle.appointments.specs.Needed as Needs;
 ghost use Rattle.planning.specs.Planning as Planning;
 ghost use Rattle.planning.specs.Demand3.{«Demand-3»};
 ghost use Rattle.bimtsure_c.specs.Planned.{«answer-by»};
@@ -11,6 +12,7 @@ ghost use Rattle.desk.specs.Waiting.{«waiting-answer»};
 ghost use Rattle.desk.specs.Filed.{«writing-answer», «writing-output», «reading-answer», «reading-list», «reading-slots», «parties-of», «appointments-of»};
 ghost use Rattle.desk.specs.Viewer.{«viewer-answer», «view-step», «view-next»};
 ghost use Rattle.bimtsure_c.specs.Viewed.{«if-open», «found-of», «position-of», «slot-of», «shown-found», «shown-position», «shown-slot», «shown-next»};
+use appointments::Needed;
 use desk::asking::Asked;
 use desk::filing::Filed;
 use desk::filing::Read;
@@ -26,7 +28,16 @@ pub struct BimtsureAnswer {
     pub d: u32,
 }
 
-// Number, place, and the party's waiting; the figures of a refusal are 0, here and below.
+// Number, place, D, and W, the words that scratch needs; the figures of a refusal are 0, here and below.
+#[repr(C)]
+pub struct BimtsureNeeds {
+    pub number: u32,
+    pub place: u32,
+    pub d: u32,
+    pub words: u32,
+}
+
+// Number, place, and the party's waiting.
 #[repr(C)]
 pub struct BimtsureWaiting {
     pub number: u32,
@@ -89,6 +100,31 @@ pub extern "C" fn bimtsure_plan(
             number: number as u32,
             place: place as u32,
             d: 0,
+        },
+    }
+}
+
+// How much scratch a list needs: checks 1 to 6 of the planning call, then D and W.
+#[no_mangle]
+pub extern "C" fn bimtsure_needs(p: u16, list: &[u16]) -> BimtsureNeeds
+    ensures number { λ r. ⌜ r .number ≡ Needs.number-of (Needs.needs-answer p (now (list .entry))) ⌝ }
+    ensures place { λ r. ⌜ r .place ≡ Needs.place-of (Needs.needs-answer p (now (list .entry))) ⌝ }
+    ensures d { λ r. ⌜ r .d ≡ Needs.figure-of (Needs.needs-answer p (now (list .entry))) ⌝ }
+    ensures words { λ r. ⌜ r .words ≡ Needs.words-of (Needs.needs-answer p (now (list .entry))) ⌝ }
+{
+    let needed = appointments::needs(p as usize, list);
+    match needed {
+        Needed::Words(d, words) => BimtsureNeeds {
+            number: 0,
+            place: 0,
+            d: d as u32,
+            words: words as u32,
+        },
+        Needed::Refused(number, place) => BimtsureNeeds {
+            number: number as u32,
+            place: place as u32,
+            d: 0u32,
+            words: 0u32,
         },
     }
 }
