@@ -222,7 +222,8 @@ impl Case {
     }
 }
 
-fn damage(list: &mut List, random: &mut Random) {
+/// Changes the list in one way that a check may find.
+pub fn damage(list: &mut List, random: &mut Random) {
     let any = random.below(1 << 16);
     match random.below(8) {
         0 => drop(list.ends.pop()),

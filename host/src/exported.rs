@@ -35,6 +35,7 @@ mod c {
             scratch: *mut u32,
             scratch_len: usize,
         ) -> Plan;
+        pub fn bimtsure_needs(p: u16, list: *const u16, list_len: usize) -> Needs;
         pub fn bimtsure_waiting(p: u16, list: *const u16, list_len: usize, party: u16) -> Waiting;
         pub fn bimtsure_file_plan(
             p: u16,
@@ -79,6 +80,16 @@ pub struct Plan {
     pub number: u32,
     pub place: u32,
     pub d: u32,
+}
+
+/// Number 0, D and the words that scratch needs, or the number of a refusal and its place.
+#[repr(C)]
+#[derive(Clone, Copy, Debug, PartialEq, Eq)]
+pub struct Needs {
+    pub number: u32,
+    pub place: u32,
+    pub d: u32,
+    pub words: u32,
 }
 
 #[repr(C)]
@@ -148,6 +159,12 @@ pub fn plan(p: u16, list: &[u16], slots: &mut [u16], scratch: &mut [u32]) -> Pla
             scratch.len(),
         )
     }
+}
+
+/// How much scratch a list needs.
+pub fn needs(p: u16, list: &[u16]) -> Needs {
+    // SAFETY: the call reads the list within its length, and asks nothing.
+    unsafe { c::bimtsure_needs(p, list.as_ptr(), list.len()) }
 }
 
 pub fn waiting(p: u16, list: &[u16], party: u16) -> Waiting {

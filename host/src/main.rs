@@ -19,6 +19,7 @@ mod lists;
 mod main_changes;
 mod main_inputs;
 mod main_text;
+mod needs;
 mod plan;
 mod plan_counts;
 mod program;
@@ -77,6 +78,9 @@ bimtsure-host split COUNT SEED
     compare our split with the Rust's `rbmg_split_into_two` on COUNT random regular graphs of even degree
 bimtsure-host desk COUNT SEED
     compare our waiting, filed plan and viewer with desk.rs, in COUNT rounds of random and of damaged input
+bimtsure-host needs COUNT SEED
+    compare how much scratch we say that a list needs with list.rs, on the lists that papers name and on COUNT random and
+    damaged ones, and have each planned with that many words and with one less; fails if one of the numbers 0 to 6 never came
 bimtsure-host plan COUNT SEED
     compare our planning call with the Rust on the lists that papers name and on COUNT random ones: answers, slots and scratch
     afterwards, and demand 3; from 100000 lists on, fails if there were too few of some kind of list
@@ -106,6 +110,7 @@ fn main() -> ExitCode {
         ["two-color", count, seed] => compare(two_color::compare, count, seed),
         ["split", count, seed] => compare(split::compare, count, seed),
         ["desk", count, seed] => compare(desk_calls::compare, count, seed),
+        ["needs", count, seed] => compare(needs::compare, count, seed),
         ["plan", count, seed] => compare(plan::compare, count, seed),
         ["bytes", seconds, seed] => compare(bytes::throw, seconds, seed),
         ["bench"] => bench::run(1),
