@@ -1,7 +1,13 @@
-/* The exported calls of the crate bimtsure_c (target/staticlib/libbimtsure_c.a, written by `rt staticlib bimtsure_c`).
+/* The exported calls of the crate bimtsure_c, for x86-64 Linux (System V calling convention). host/library writes the archive
+ * target/staticlib/libbimtsure_c.a and libbimtsure.so beside it. host/examples/plan.c is a first plan.
  *
- * A lent slice passes as its address and its number of entries; an address of no entries may be anything but NULL, as long as it
- * is aligned. Slices that a call writes must not overlap the others. Nothing is kept after a call.
+ * A list has two ends for each appointment, and an end is a party: a number from 0 to P-1. An end that isn't known is
+ * BIMTSURE_BLANK. 0 is a party like any other, so a list that was cleared by 0 plans what nobody asked for: fill the list with
+ * BIMTSURE_BLANK before you store ends. Your compiler cuts P and ends to 16 bits, so that 65536 becomes 0 and 65537 parties
+ * become 1: test them in your own width first.
+ *
+ * A lent slice passes as its address and its number of entries. Where that is 0 the address may be NULL; else it is aligned for
+ * its type. Slices that a call writes must not overlap the others. Nothing is kept after a call.
  *
  * Each answer has a number, 0 for acceptance, and a place, 0 where document 01 names none; a refusal's figures are 0, and it leaves
  * all lent memory as it was (but for scratch after the planning call's 9).
@@ -11,6 +17,36 @@
 
 #include <stddef.h>
 #include <stdint.h>
+
+/* A blank end. */
+#define BIMTSURE_BLANK 65535
+
+/* The most parties, the most appointments, and the most that D*P may come to. */
+#define BIMTSURE_MOST_PARTIES 1024
+#define BIMTSURE_MOST_APPOINTMENTS 4096
+#define BIMTSURE_MOST_CELLS 8192
+
+/* So many words of scratch, 128*(8192 + 1024), are enough for every list that passes check 6. */
+#define BIMTSURE_SCRATCH_WORDS 1179648
+
+/* The numbers of answers. The place of 4 and 5 is the position of the first such appointment, counted from 0; that of 10 is the
+ * number of the line, from 1; every other place is 0. 10 and 11 are the program's: no call gives them. */
+enum bimtsure_number {
+    BIMTSURE_ACCEPTED = 0,
+    BIMTSURE_TOO_MANY_PARTIES = 1,      /* more than 1,024 parties */
+    BIMTSURE_ODD_LENGTH = 2,            /* the list's length is odd */
+    BIMTSURE_TOO_MANY_APPOINTMENTS = 3, /* more than 4,096 appointments */
+    BIMTSURE_BLANK_END = 4,             /* an end is blank */
+    BIMTSURE_END_NOT_BELOW_P = 5,       /* another end is not below P */
+    BIMTSURE_TOO_MANY_CELLS = 6,        /* D*P is above 8,192 */
+    BIMTSURE_TOO_FEW_SLOTS = 7,         /* fewer slot entries than appointments */
+    BIMTSURE_TOO_FEW_WORDS = 8,         /* fewer than 128*P*(D+1) scratch words */
+    BIMTSURE_ODD_ROUND = 9,             /* a closed round of odd length: there are no two sides */
+    BIMTSURE_BAD_LINE = 10,             /* a line of the program's input is malformed */
+    BIMTSURE_LONG_INPUT = 11,           /* the program's input is above 4,096 bytes */
+    BIMTSURE_WRONG_LENGTH = 12,         /* a filed plan has the wrong length */
+    BIMTSURE_SHORT_OUTPUT = 13          /* an output is too short */
+};
 
 #ifdef __cplusplus
 extern "C" {
