@@ -2,8 +2,8 @@
 //! best of many rounds is what is left of them. The Rust's graph is built before its time begins; ours includes the checks and
 //! the clearing of scratch.
 
+use crate::bimtsure::{self, Plan};
 use crate::bipartite_coloring::bipartite_edge_color;
-use crate::exported::{self, Plan};
 use crate::format::write_list;
 use crate::list::List;
 use crate::lists;
@@ -131,7 +131,7 @@ fn measure_one(list: &List) -> Result<Times, String> {
     while rounds < LEAST_ROUNDS || begun.elapsed() < LEAST_TIME {
         rounds += 1;
         let (rust, colors) = timed(|| bipartite_edge_color(black_box(&graph)));
-        let (ours, answered) = timed(|| exported::plan(p, black_box(&list.ends), &mut slots, &mut scratch));
+        let (ours, answered) = timed(|| bimtsure::plan(p, black_box(&list.ends), &mut slots, &mut scratch));
         let (fill, ()) = timed(|| black_box(&mut scratch).fill(0));
         best = Times { rust: best.rust.min(rust), ours: best.ours.min(ours), fill: best.fill.min(fill) };
 

@@ -1,8 +1,8 @@
 //! Throws bytes at the program and at reading a filed plan for a while. Each must end with an answer, and that of the second
 //! versions: main_text.rs for the program, and desk.rs for reading. What is read is also written again.
 
+use crate::bimtsure::{self, Filed};
 use crate::desk_calls::{self, noise, Reading};
-use crate::exported::{self, Filed};
 use crate::filed_inputs::FiledInputs;
 use crate::format::write_bytes;
 use crate::main_inputs::Inputs;
@@ -116,7 +116,7 @@ fn read(bytes: &[u8], random: &mut Random, counts: &mut Counts) -> Result<(), St
     }
     let count = answer.appointments as usize;
     let mut output: Vec<u8> = noise(bytes.len(), random);
-    let filed = exported::file_plan(answer.parties as u16, &list[..2 * count], &slots[..count], &mut output);
+    let filed = bimtsure::file_plan(answer.parties as u16, &list[..2 * count], &slots[..count], &mut output);
     let wanted = Filed { number: 0, place: 0, length: bytes.len() as u32 };
     if filed != wanted || output != bytes {
         return Err(format!("written again: {filed:?}\n{}", write_bytes(&output)));

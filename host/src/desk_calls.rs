@@ -1,8 +1,8 @@
 //! Compares our exported desk calls with desk.rs, on random lists and plans, on damaged ones, and with buffers of every length:
 //! the same numbers, and the same lent memory afterwards, to the last entry.
 
+use crate::bimtsure::{self, Filed, Read, View, Waiting};
 use crate::desk::{self, Viewer};
-use crate::exported::{self, Filed, Read, View, Waiting};
 use crate::format::{write_bytes, write_list};
 use crate::lent::BEHIND;
 use crate::list::{List, Refusal, BLANK, MOST_APPOINTMENTS, MOST_PARTIES};
@@ -75,7 +75,7 @@ fn waiting(case: &Case, random: &mut Random, counts: &mut BTreeMap<u32, usize>) 
         }
     };
     count(counts, expected.number);
-    same(party, expected, exported::waiting(case.p(), &case.list.ends, party))
+    same(party, expected, bimtsure::waiting(case.p(), &case.list.ends, party))
 }
 
 fn file_plan(case: &Case, random: &mut Random, counts: &mut BTreeMap<u32, usize>) -> Result<(), String> {
@@ -90,7 +90,7 @@ fn file_plan(case: &Case, random: &mut Random, counts: &mut BTreeMap<u32, usize>
         }
     };
     count(counts, expected.number);
-    let answered = exported::file_plan(case.p(), &case.list.ends, &case.slots, &mut output[..room]);
+    let answered = bimtsure::file_plan(case.p(), &case.list.ends, &case.slots, &mut output[..room]);
     same(room, (expected, wanted), (answered, output))
 }
 
@@ -128,7 +128,7 @@ pub fn reading(bytes: &[u8], random: &mut Random) -> Result<Reading, String> {
             Read { number, place, parties: 0, appointments: 0 }
         }
     };
-    let answer = exported::read_plan(bytes, &mut list[..list_room], &mut slots[..slot_room]);
+    let answer = bimtsure::read_plan(bytes, &mut list[..list_room], &mut slots[..slot_room]);
     let expected = Reading { answer: expected, list: wanted_list, slots: wanted_slots };
     let answered = Reading { answer, list, slots };
     same((list_room, slot_room), &expected, &answered).map(|()| answered)
@@ -153,7 +153,7 @@ fn view(case: &Case, random: &mut Random, counts: &mut BTreeMap<u32, usize>) -> 
             }
         };
         count(counts, expected.number);
-        let answered = exported::view(list, slots, party, from);
+        let answered = bimtsure::view(list, slots, party, from);
         same((party, from), expected, answered).map(|()| answered)
     };
     let mut from = 0;

@@ -4,12 +4,12 @@
 
 mod answer;
 mod bench;
+mod bimtsure;
 mod bytes;
 mod definitions;
 mod demand3;
 mod desk;
 mod desk_calls;
-mod exported;
 mod filed_inputs;
 mod format;
 mod known;
@@ -26,6 +26,7 @@ mod program;
 mod random;
 mod reference;
 mod split;
+mod steps;
 mod stored;
 mod two_color;
 mod watch;

@@ -3,8 +3,8 @@
 //! answer is also held to demand 3.
 
 use crate::answer::{self, Answer};
+use crate::bimtsure::{self, Plan};
 use crate::demand3;
-use crate::exported::{self, Plan};
 use crate::format::write_list;
 use crate::known::{self, Known, Told};
 use crate::lent::Lent;
@@ -86,7 +86,7 @@ pub fn answered_by_us(list: &List) -> Result<Answer, String> {
     let p = u16::try_from(list.parties).map_err(|_| format!("P is {}", list.parties))?;
     let words = if list.check().is_ok() { list.scratch_words() } else { 0 };
     let mut slots = vec![0; list.count()];
-    let Plan { number, place, d } = exported::plan(p, &list.ends, &mut slots, &mut vec![0; words]);
+    let Plan { number, place, d } = bimtsure::plan(p, &list.ends, &mut slots, &mut vec![0; words]);
     Ok(match number {
         0 => Answer::Planned { largest_load: d as usize, slots },
         _ => Answer::Refused(Refusal { number: number as u8, place: place as usize }),
@@ -154,7 +154,7 @@ impl Caller {
         self.slots.fill(entries, &mut self.random);
         self.scratch.fill(words, &mut self.random);
         let p = u16::try_from(list.parties).expect("the lists have fewer parties");
-        let answered = exported::plan(p, &list.ends, self.slots.lend(entries), self.scratch.lend(words));
+        let answered = bimtsure::plan(p, &list.ends, self.slots.lend(entries), self.scratch.lend(words));
         let lengths = || format!("with {entries} slot entries and {words} words of scratch");
         let wanted = numbers_of(expected);
         if answered != wanted {

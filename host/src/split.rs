@@ -1,10 +1,10 @@
 //! Compares our split with the Rust's `rbmg_split_into_two` on random regular graphs of even degree: the same pairs in both
 //! halves, in the order of their numbers, with the same ends, copies and flags.
 
-use crate::exported;
 use crate::lent::Lent;
 use crate::random::Random;
 use crate::split_opened::{self, Pair};
+use crate::steps;
 use std::collections::{HashMap, HashSet};
 
 /// Entries that a graph may have, so that a run stays short.
@@ -76,7 +76,7 @@ fn ask(graph: &Graph, random: &mut Random) -> Result<[Vec<Pair>; 2], String> {
 
     let below = words[..used].to_vec();
     // SAFETY: the graph is regular of even degree, its words lie below the mark, and there is the room that the split asks for.
-    let mark = unsafe { exported::split(words, used, ends, g, n, width) };
+    let mark = unsafe { steps::split(words, used, ends, g, n, width) };
     let half = 2 * n * (width + 1);
     if mark != used + 2 * half {
         return Err(format!("the mark is {mark}, and was {used}; a half takes {half} words"));

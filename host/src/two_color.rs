@@ -1,13 +1,13 @@
 //! Compares our `two_color` with the Rust's on random lists: the same refusal, or the same two sides, each in order of first
 //! colouring.
 
-use crate::exported::{self, TwoColorAnswer};
 use crate::format::write_list;
 use crate::lent::Lent;
 use crate::list::{List, MOST_APPOINTMENTS, MOST_PARTIES, MOST_WORDS};
 use crate::lists::Lists;
 use crate::random::Random;
 use crate::reference;
+use crate::steps::{self, TwoColorAnswer};
 
 /// What a list comes to: its two sides, or the number of its refusal.
 #[derive(Clone, Debug, PartialEq, Eq)]
@@ -95,7 +95,7 @@ impl Caller {
     fn ask(&mut self, list: &List, words: usize) -> Result<Sides, String> {
         self.scratch.fill(words, &mut self.random);
         let p = u16::try_from(list.parties).expect("the lists have fewer parties");
-        let TwoColorAnswer { number, left } = exported::two_color(p, &list.ends, self.scratch.lend(words));
+        let TwoColorAnswer { number, left } = steps::two_color(p, &list.ends, self.scratch.lend(words));
         let untouched = if (1..=8).contains(&number) { 0 } else { words };
         if let Some(at) = self.scratch.written_from(untouched) {
             return Err(format!("answered {number}, and word {at}, which must stay, was written"));

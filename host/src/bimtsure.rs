@@ -1,28 +1,25 @@
-//! The exported calls that the host links, each behind a function on slices. A slice passes as its address and its number of
-//! entries, and a struct of numbers comes back, as `#[repr(C)]` lays it out.
+//! The exported calls of the crate bimtsure_c, as host/include/bimtsure.h declares and explains them, each behind a function on
+//! slices. A program of your own can take this file as it is: it uses nothing beside it, and needs the folder of
+//! libbimtsure_c.a among those that the linker searches.
+//!
+//! A list has two ends for each appointment; an end that isn't known is `BLANK`. Ends and P are cut to 16 bits by `as u16`: use
+//! `u16::try_from`.
 
-mod c {
+// A program may use some of the calls only.
+#![allow(dead_code)]
+
+/// Marks a blank end.
+pub const BLANK: u16 = 65535;
+pub const MOST_PARTIES: u16 = 1024;
+pub const MOST_APPOINTMENTS: usize = 4096;
+/// The most that D·P may come to.
+pub const MOST_CELLS: usize = 8192;
+/// Scratch that is enough for every list: 128·(8192 + 1024) words.
+pub const SCRATCH_WORDS: usize = 1179648;
+
+/// The calls as they are linked: a slice passes as its address and its number of entries, and a struct of numbers comes back.
+pub mod c {
     use super::*;
-
-    #[link(name = "steps_c", kind = "static")]
-    extern "C" {
-        pub fn bimtsure_two_color(
-            p: u16,
-            list: *const u16,
-            list_len: usize,
-            scratch: *mut u32,
-            scratch_len: usize,
-        ) -> TwoColorAnswer;
-        pub fn bimtsure_split(
-            scratch: *mut u32,
-            scratch_len: usize,
-            used: usize,
-            ends: usize,
-            g: usize,
-            n: usize,
-            width: usize,
-        ) -> usize;
-    }
 
     #[link(name = "bimtsure_c", kind = "static")]
     extern "C" {
@@ -63,14 +60,6 @@ mod c {
             from: usize,
         ) -> View;
     }
-}
-
-/// Number 0 and how many parties stand on the left, or the number of a refusal.
-#[repr(C)]
-#[derive(Clone, Copy, Debug, PartialEq, Eq)]
-pub struct TwoColorAnswer {
-    pub number: u32,
-    pub left: u32,
 }
 
 /// Number 0 and D, or the number of a refusal and its place.
@@ -126,23 +115,6 @@ pub struct View {
     pub position: usize,
     pub slot: u32,
     pub next: usize,
-}
-
-/// Checks 1 to 8 without a slot buffer, then `two_color`: the left parties stand in the first words of scratch, the right ones
-/// from word P on.
-pub fn two_color(p: u16, list: &[u16], scratch: &mut [u32]) -> TwoColorAnswer {
-    // SAFETY: the call reads the list and writes scratch, both within their lengths, and keeps neither.
-    unsafe { c::bimtsure_two_color(p, list.as_ptr(), list.len(), scratch.as_mut_ptr(), scratch.len()) }
-}
-
-/// One split of the graph at word g, with n parties a side, none of them in more than `width` pairs. The halves stand at word
-/// `used` and 2·n·(width + 1) words above it. Gives the new mark.
-///
-/// # Safety
-///
-/// What the split asks (`Splits` in crates/euler/specs/Room.antt) must hold: regular of even degree, and room above the mark.
-pub unsafe fn split(scratch: &mut [u32], used: usize, ends: usize, g: usize, n: usize, width: usize) -> usize {
-    c::bimtsure_split(scratch.as_mut_ptr(), scratch.len(), used, ends, g, n, width)
 }
 
 /// The planning call.
