@@ -1,0 +1,339 @@
+"""Slots for a customs hall's examinations, by the proved calls of libbimtsure.so (host/include/bimtsure.h explains them).
+
+    import bimtsure
+    d, slots = bimtsure.plan(3, [(0, 1), (1, 2)])
+
+Parties are the numbers from 0 to parties - 1. An appointment is a pair of parties; an end that isn't known is None, and never 0,
+-1 or ''. A refusal is the exception Refused, with document 01's number and place and the cause in words.
+
+What is no whole number is a TypeError, and a number below 0 a ValueError, before anything is called. A number that is too large
+for 16 bits is never cut: it is refused by 1 or 5, as document 01 says, or where that paper asks nothing of it a ValueError.
+
+The library is the file that BIMTSURE_LIBRARY names, or else libbimtsure.so beside this file, or in target/staticlib, where
+host/library writes it.
+"""
+
+import ctypes
+import operator
+import os
+from collections.abc import Mapping, Set
+from ctypes import POINTER, Structure, c_size_t, c_uint8, c_uint16, c_uint32
+from typing import NamedTuple
+
+BLANK = 65535
+MOST_PARTIES = 1024
+MOST_APPOINTMENTS = 4096
+MOST_CELLS = 8192
+SCRATCH_WORDS = 1179648
+
+CAUSES = {
+    1: "more than 1,024 parties",
+    2: "the list's length is odd",
+    3: "more than 4,096 appointments",
+    4: "an end is blank",
+    5: "an end is not below the number of parties",
+    6: "D times the number of parties is above 8,192",
+    7: "fewer slot entries than appointments",
+    8: "fewer than 128*P*(D+1) scratch words",
+    9: "a closed round of odd length: there are no two sides",
+    12: "a filed plan has the wrong length",
+    13: "an output is too short",
+}
+
+
+class Refused(Exception):
+    """A refusal: document 01's number and place, and the cause in words. Positions of appointments count from 0."""
+
+    def __init__(self, number, place, cause=None):
+        if cause is None:
+            cause = CAUSES[number]
+            if number in (4, 5):
+                cause = f"appointment {place}: {cause}"
+        super().__init__(number, place, cause)
+        self.number = number
+        self.place = place
+        self.cause = cause
+
+    def __str__(self):
+        return self.cause
+
+
+class GraphNotBipartite(Refused):
+    """Refusal 9, by rustworkx's name."""
+
+
+class Plan(NamedTuple):
+    """D, the number of slots, and the slot of each appointment."""
+
+    d: int
+    slots: list
+
+
+class Filed(NamedTuple):
+    """What a filed plan holds. A blank end is None."""
+
+    parties: int
+    appointments: list
+    slots: list
+
+
+# The calls as the header declares them: fields and parameters by name, in order.
+
+
+class _Answer(Structure):
+    _fields_ = [("number", c_uint32), ("place", c_uint32), ("d", c_uint32)]
+
+
+class _Waiting(Structure):
+    _fields_ = [("number", c_uint32), ("place", c_uint32), ("waiting", c_uint32)]
+
+
+class _Filed(Structure):
+    _fields_ = [("number", c_uint32), ("place", c_uint32), ("length", c_uint32)]
+
+
+class _Read(Structure):
+    _fields_ = [("number", c_uint32), ("place", c_uint32), ("parties", c_uint32), ("appointments", c_uint32)]
+
+
+class _Seen(Structure):
+    _fields_ = [
+        ("number", c_uint32),
+        ("found", c_uint32),
+        ("position", c_size_t),
+        ("slot", c_uint32),
+        ("next", c_size_t),
+    ]
+
+
+_CALLS = {
+    "bimtsure_plan": (
+        _Answer,
+        [
+            ("p", c_uint16),
+            ("list", POINTER(c_uint16)),
+            ("list_len", c_size_t),
+            ("slots", POINTER(c_uint16)),
+            ("slots_len", c_size_t),
+            ("scratch", POINTER(c_uint32)),
+            ("scratch_len", c_size_t),
+        ],
+    ),
+    "bimtsure_waiting": (
+        _Waiting,
+        [("p", c_uint16), ("list", POINTER(c_uint16)), ("list_len", c_size_t), ("party", c_uint16)],
+    ),
+    "bimtsure_file_plan": (
+        _Filed,
+        [
+            ("p", c_uint16),
+            ("list", POINTER(c_uint16)),
+            ("list_len", c_size_t),
+            ("slots", POINTER(c_uint16)),
+            ("slots_len", c_size_t),
+            ("output", POINTER(c_uint8)),
+            ("output_len", c_size_t),
+        ],
+    ),
+    "bimtsure_read_plan": (
+        _Read,
+        [
+            ("bytes", POINTER(c_uint8)),
+            ("bytes_len", c_size_t),
+            ("list", POINTER(c_uint16)),
+            ("list_len", c_size_t),
+            ("slots", POINTER(c_uint16)),
+            ("slots_len", c_size_t),
+        ],
+    ),
+    "bimtsure_view": (
+        _Seen,
+        [
+            ("list", POINTER(c_uint16)),
+            ("list_len", c_size_t),
+            ("slots", POINTER(c_uint16)),
+            ("slots_len", c_size_t),
+            ("party", c_uint16),
+            ("from", c_size_t),
+        ],
+    ),
+}
+
+
+def _load():
+    here = os.path.dirname(os.path.abspath(__file__))
+    places = [
+        os.path.join(here, "libbimtsure.so"),
+        os.path.join(here, "..", "..", "target", "staticlib", "libbimtsure.so"),
+    ]
+    named = os.environ.get("BIMTSURE_LIBRARY")
+    if named:
+        places = [named]
+    path = next((place for place in places if os.path.exists(place)), None)
+    if path is None:
+        raise ImportError(f"libbimtsure.so is not at {' or '.join(places)}: host/library writes it")
+    library = ctypes.CDLL(path)
+    for name, (answer, parameters) in _CALLS.items():
+        function = getattr(library, name)
+        function.restype = answer
+        function.argtypes = [kind for _, kind in parameters]
+    return library
+
+
+_library = _load()
+
+
+def plan(parties, appointments):
+    """The plan of a list: D and the slots. Refuses by 1, 3 to 6 and 9."""
+    ends = _checked_list(appointments)
+    slots = (c_uint16 * (len(ends) // 2))()
+    scratch = (c_uint32 * SCRATCH_WORDS)()
+    answer = _library.bimtsure_plan(
+        _checked_p(parties), ends, len(ends), slots, len(slots), scratch, len(scratch)
+    )
+    _accept(answer)
+    return Plan(answer.d, list(slots))
+
+
+def waiting(parties, appointments, party):
+    """Waiting of a party: D minus its load. Refuses by 1 and 3 to 5."""
+    p, ends = _checked_p(parties), _checked_list(appointments)
+    asked = _capped(_natural(party, "the party"))
+    answer = _library.bimtsure_waiting(p, ends, len(ends), asked)
+    if answer.number == 5 and all(end < p for end in ends):
+        raise Refused(answer.number, answer.place, f"party {party} is not below the number of parties")
+    _accept(answer)
+    return answer.waiting
+
+
+def view(appointments, slots, party):
+    """The party's appointments, one after the other: position and slot. None looks for blank ends. Refuses by 7."""
+    ends, entries = _kept_list(appointments), _slots(slots)
+    asked = _kept_end(party, "the party")
+
+    def step(start):
+        return _library.bimtsure_view(ends, len(ends), entries, len(entries), asked, start)
+
+    def steps(seen):
+        while seen.found:
+            yield seen.position, seen.slot
+            seen = step(seen.next)
+
+    first = step(0)
+    _accept(first)
+    return steps(first)
+
+
+def file_plan(parties, appointments, slots):
+    """The filed plan's bytes. Refuses by 1, 3 and 7."""
+    ends, entries = _kept_list(appointments), _slots(slots)
+    output = (c_uint8 * (4 + 3 * len(ends)))()
+    answer = _library.bimtsure_file_plan(
+        _checked_p(parties), ends, len(ends), entries, len(entries), output, len(output)
+    )
+    _accept(answer)
+    return bytes(output[: answer.length])
+
+
+def read_plan(filed):
+    """What the bytes of a filed plan hold: parties, appointments and slots. Refuses by 12, 1 and 3."""
+    if not isinstance(filed, (bytes, bytearray, memoryview)):
+        raise TypeError(f"a filed plan is bytes, not {type(filed).__name__}")
+    data = bytes(filed)
+    count = max(0, len(data) - 4) // 6
+    ends, slots = (c_uint16 * (2 * count))(), (c_uint16 * count)()
+    answer = _library.bimtsure_read_plan(
+        (c_uint8 * len(data)).from_buffer_copy(data), len(data), ends, len(ends), slots, len(slots)
+    )
+    _accept(answer)
+    read = [None if end == BLANK else end for end in ends]
+    return Filed(answer.parties, list(zip(read[::2], read[1::2])), list(slots))
+
+
+def graph_bipartite_edge_color(num_nodes, edges):
+    """The colours of a graph's edges, by edge index, as rustworkx gives them: its nodes are the parties, its edges the
+    appointments, the colours the slots. GraphNotBipartite if it has an odd cycle."""
+    return dict(enumerate(plan(num_nodes, edges).slots))
+
+
+def _accept(answer):
+    if answer.number == 9:
+        raise GraphNotBipartite(answer.number, getattr(answer, "place", 0))
+    if answer.number != 0:
+        raise Refused(answer.number, getattr(answer, "place", 0))
+
+
+def _natural(value, what):
+    """A whole number from 0 on. A bool is none, and no text or fraction is turned into one."""
+    try:
+        number = None if isinstance(value, bool) else operator.index(value)
+    except TypeError:
+        number = None
+    if number is None:
+        raise TypeError(f"{what} is {value!r}, not a whole number")
+    if number < 0:
+        raise ValueError(f"{what} is {number}, below 0")
+    return number
+
+
+def _checked_p(parties):
+    """P for a call that refuses more than 1,024 by 1: more than 16 bits hold is more than that."""
+    return min(_natural(parties, "the number of parties"), BLANK)
+
+
+def _capped(number):
+    """An end for a call that refuses every one from P on by 5. The largest that isn't blank stands for those above it: P is at
+    most 1,024 there."""
+    return min(number, BLANK - 1)
+
+
+def _kept_end(end, what):
+    """An end for a call that takes every one as it is."""
+    if end is None:
+        return BLANK
+    number = _natural(end, what)
+    if number >= BLANK:
+        raise ValueError(f"{what} is {number}, above 65534")
+    return number
+
+
+def _pairs(appointments):
+    """Both ends of each appointment with its position."""
+    if isinstance(appointments, (Set, Mapping)):
+        raise TypeError(f"appointments come in order, not as {type(appointments).__name__}")
+    for position, pair in enumerate(appointments):
+        if isinstance(pair, (str, bytes, bytearray, Set, Mapping)):
+            raise TypeError(f"appointment {position} is {pair!r}, not a pair")
+        try:
+            first, second = pair
+        except (TypeError, ValueError):
+            raise ValueError(f"appointment {position} is {pair!r}, not a pair") from None
+        yield position, (first, second)
+
+
+def _list(appointments, end_of):
+    ends = []
+    for position, pair in _pairs(appointments):
+        what = f"appointment {position}: an end"
+        ends.extend(end_of(end, what) for end in pair)
+    return (c_uint16 * len(ends))(*ends)
+
+
+def _checked_list(appointments):
+    return _list(appointments, lambda end, what: BLANK if end is None else _capped(_natural(end, what)))
+
+
+def _kept_list(appointments):
+    return _list(appointments, _kept_end)
+
+
+def _slots(slots):
+    if isinstance(slots, (Set, Mapping)):
+        raise TypeError(f"slots come in order, not as {type(slots).__name__}")
+    entries = []
+    for position, slot in enumerate(slots):
+        number = _natural(slot, f"slot {position}")
+        if number > 65535:
+            raise ValueError(f"slot {position} is {number}, above 65535")
+        entries.append(number)
+    return (c_uint16 * len(entries))(*entries)
