@@ -22,8 +22,8 @@ struct Counts([BTreeMap<u32, usize>; 4]);
 
 /// A list and its slots.
 pub struct Case {
-    list: List,
-    slots: Vec<u16>,
+    pub list: List,
+    pub slots: Vec<u16>,
 }
 
 /// COUNT rounds, each with at least one call of each kind. An error tells the first that differs.
@@ -188,7 +188,7 @@ impl Case {
     }
 
     /// One that the list names, one below P, or any number.
-    fn party(&self, random: &mut Random) -> u16 {
+    pub fn party(&self, random: &mut Random) -> u16 {
         match random.below(4) {
             0 => random.below(1 << 16) as u16,
             1 => random.below(self.list.parties + 1) as u16,
@@ -244,7 +244,7 @@ pub fn damage(list: &mut List, random: &mut Random) {
 }
 
 /// Mostly the size itself; else one less, one more, or any smaller or somewhat larger one.
-fn near(size: usize, random: &mut Random) -> usize {
+pub fn near(size: usize, random: &mut Random) -> usize {
     match random.below(8) {
         0 => size.saturating_sub(1),
         1 => size + 1,

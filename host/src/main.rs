@@ -10,8 +10,10 @@ mod definitions;
 mod demand3;
 mod desk;
 mod desk_calls;
+mod fence;
 mod filed_inputs;
 mod format;
+mod guard;
 mod known;
 mod lent;
 mod list;
@@ -85,6 +87,9 @@ bimtsure-host needs COUNT SEED
 bimtsure-host plan COUNT SEED
     compare our planning call with the Rust on the lists that papers name and on COUNT random ones: answers, slots and scratch
     afterwards, and demand 3; from 100000 lists on, fails if there were too few of some kind of list
+bimtsure-host guard COUNT SEED
+    make every exported call between unreadable pages, and with NULL for slices of no entries, in COUNT rounds of random and
+    of damaged input; from 1000 rounds on, fails if a call never gave one of its numbers
 bimtsure-host bytes SECONDS SEED
     throw bytes, which SEED decides, at the program and at reading a filed plan for so long: lists, damaged ones and noise; each
     must end with the answer of main_text.rs or desk.rs, or its bytes are printed; from 60 seconds on, each kind of answer must
@@ -113,6 +118,7 @@ fn main() -> ExitCode {
         ["desk", count, seed] => compare(desk_calls::compare, count, seed),
         ["needs", count, seed] => compare(needs::compare, count, seed),
         ["plan", count, seed] => compare(plan::compare, count, seed),
+        ["guard", count, seed] => compare(guard::run, count, seed),
         ["bytes", seconds, seed] => compare(bytes::throw, seconds, seed),
         ["bench"] => bench::run(1),
         ["stored", count, seed] => print_stored(count, seed, MOST_STORED),
