@@ -6,6 +6,12 @@
 Parties are the numbers from 0 to parties - 1. An appointment is a pair of parties; an end that isn't known is None, and never 0,
 -1 or ''. A refusal is the exception Refused, with document 01's number and place and the cause in words.
 
+Names become numbers by a dict's get, which gives None for a name that isn't there:
+
+    number = {name: n for n, name in enumerate(["Smith", "Jones", "bay 1", "bay 2"])}
+    asked = [("Smith", "bay 1"), ("Jones", "bay 1"), ("", "bay 2")]
+    bimtsure.plan(len(number), [(number.get(a), number.get(b)) for a, b in asked])    # Refused: appointment 2: an end is blank
+
 What is no whole number is a TypeError, and a number below 0 a ValueError, before anything is called. A number that is too large
 for 16 bits is never cut: it is refused by 1 or 5, as document 01 says, or where that paper asks nothing of it a ValueError.
 

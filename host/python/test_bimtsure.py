@@ -181,6 +181,12 @@ class Mistakes(Trying):
         self.wrong(TypeError, bimtsure.plan, 2, [b"\0\1"])
         self.wrong(TypeError, bimtsure.plan, 2, "01")
 
+    def test_names_by_get(self):
+        number = {name: n for n, name in enumerate(["Smith", "Jones", "bay 1", "bay 2"])}
+        asked = [("Smith", "bay 1"), ("Jones", "bay 1"), ("", "bay 2")]
+        numbered = [(number.get(a), number.get(b)) for a, b in asked]
+        self.assertEqual(self.refused(4, 2, bimtsure.plan, 4, numbered), "appointment 2: an end is blank")
+
     def test_ends_that_16_bits_would_cut(self):
         for end in [65534, 65535, 65536, 65537, 1 << 32, 1 << 64, 10**30]:
             self.refused(5, 1, bimtsure.plan, 2, [(0, 1), (0, end), (0, end)])
