@@ -16,15 +16,6 @@ static uint16_t number(const char *text)
     return end != text && *end == 0 && value >= 0 && value < BIMTSURE_BLANK ? (uint16_t)value : BIMTSURE_BLANK;
 }
 
-/* W, the words of scratch: 128*P*(D+1), where D is how often the list names the party that it names most often. */
-static size_t words_needed(uint16_t p, const uint16_t *list, size_t list_len)
-{
-    size_t load[BIMTSURE_BLANK + 1] = {0}, d = 0;
-    for (size_t i = 0; i < list_len; i++)
-        if (++load[list[i]] > d) d = load[list[i]];
-    return p > BIMTSURE_MOST_PARTIES ? 0 : 128 * (size_t)p * (d + 1);
-}
-
 int main(int argc, char **argv)
 {
     if (argc < 2) return fputs("plan P [FIRST SECOND]..\n", stderr), 2;
@@ -32,13 +23,14 @@ int main(int argc, char **argv)
     size_t list_len = (size_t)argc - 2, a = list_len / 2;
     uint16_t *list = (uint16_t *)malloc(list_len * sizeof *list);
     uint16_t *slots = (uint16_t *)malloc(a * sizeof *slots);
-    if (!list || !slots) return fputs("no memory\n", stderr), 2;
+    if ((!list && list_len) || (!slots && a)) return fputs("no memory\n", stderr), 2;
     for (size_t i = 0; i < list_len; i++) list[i] = BIMTSURE_BLANK;
     for (size_t i = 0; i < list_len; i++) list[i] = number(argv[i + 2]);
 
-    size_t words = words_needed(p, list, list_len);
-    uint32_t *scratch = (uint32_t *)calloc(words, sizeof *scratch);
-    if (!scratch) return fputs("no memory\n", stderr), 2;
+    /* words is 0 for a list that is refused by 1 to 6: planning then refuses it by the same number */
+    size_t words = bimtsure_needs(p, list, list_len).words;
+    uint32_t *scratch = (uint32_t *)malloc(words * sizeof *scratch);
+    if (!scratch && words) return fputs("no memory\n", stderr), 2;
     struct bimtsure_answer answer = bimtsure_plan(p, list, list_len, slots, a, scratch, words);
     if (answer.number == BIMTSURE_ACCEPTED) {
         printf("plan %u\n", answer.d);

@@ -75,6 +75,13 @@ class Plan(NamedTuple):
     slots: list
 
 
+class Needs(NamedTuple):
+    """D, and W, the words of scratch that planning works in."""
+
+    d: int
+    words: int
+
+
 class Filed(NamedTuple):
     """What a filed plan holds. A blank end is None."""
 
@@ -88,6 +95,10 @@ class Filed(NamedTuple):
 
 class _Answer(Structure):
     _fields_ = [("number", c_uint32), ("place", c_uint32), ("d", c_uint32)]
+
+
+class _Needs(Structure):
+    _fields_ = [("number", c_uint32), ("place", c_uint32), ("d", c_uint32), ("words", c_uint32)]
 
 
 class _Waiting(Structure):
@@ -105,6 +116,7 @@ class _Read(Structure):
 class _Seen(Structure):
     _fields_ = [
         ("number", c_uint32),
+        ("place", c_uint32),
         ("found", c_uint32),
         ("position", c_size_t),
         ("slot", c_uint32),
@@ -124,6 +136,10 @@ _CALLS = {
             ("scratch", POINTER(c_uint32)),
             ("scratch_len", c_size_t),
         ],
+    ),
+    "bimtsure_needs": (
+        _Needs,
+        [("p", c_uint16), ("list", POINTER(c_uint16)), ("list_len", c_size_t)],
     ),
     "bimtsure_waiting": (
         _Waiting,
@@ -201,6 +217,14 @@ def plan(parties, appointments):
     return Plan(answer.d, list(slots))
 
 
+def needs(parties, appointments):
+    """D of a list, and how many words planning it takes. Refuses by 1 and 3 to 6."""
+    ends = _checked_list(appointments)
+    answer = _library.bimtsure_needs(_checked_p(parties), ends, len(ends))
+    _accept(answer)
+    return Needs(answer.d, answer.words)
+
+
 def waiting(parties, appointments, party):
     """Waiting of a party: D minus its load. Refuses by 1 and 3 to 5."""
     p, ends = _checked_p(parties), _checked_list(appointments)
@@ -264,9 +288,9 @@ def graph_bipartite_edge_color(num_nodes, edges):
 
 def _accept(answer):
     if answer.number == 9:
-        raise GraphNotBipartite(answer.number, getattr(answer, "place", 0))
+        raise GraphNotBipartite(answer.number, answer.place)
     if answer.number != 0:
-        raise Refused(answer.number, getattr(answer, "place", 0))
+        raise Refused(answer.number, answer.place)
 
 
 def _natural(value, what):

@@ -123,6 +123,13 @@ class Calls(Trying):
         self.assertEqual(bimtsure.read_plan(filed), (3, EXAMPLE, [0, 1]))
         self.assertEqual(bimtsure.read_plan(bytearray(filed)), (3, EXAMPLE, [0, 1]))
 
+    def test_how_much_scratch(self):
+        # document 01's W, 128*P*(D+1), at its limits
+        self.assertEqual(bimtsure.needs(3, EXAMPLE), (2, 128 * 3 * 3))
+        self.assertEqual(bimtsure.needs(0, []), (0, 0))
+        self.assertEqual(bimtsure.needs(2, [(0, 1)] * 4096), (4096, 128 * 2 * 4097))
+        self.assertEqual(bimtsure.needs(1024, [(0, 1)] * 8), (8, bimtsure.SCRATCH_WORDS))
+
     def test_the_shape_of_rustworkx(self):
         edges = [(0, 1), (1, 2), (2, 3), (3, 0)]
         self.assertEqual(bimtsure.graph_bipartite_edge_color(4, edges), {0: 0, 1: 1, 2: 0, 3: 1})
@@ -148,6 +155,11 @@ class Calls(Trying):
         said = self.refused(5, 0, bimtsure.waiting, 3, [(0, 9)], 3)
         self.assertEqual(said, "appointment 0: an end is not below the number of parties")
         self.refused(4, 1, bimtsure.waiting, 3, [(0, 1), (None, 2)], 0)
+        self.refused(1, 0, bimtsure.needs, 65537, [])
+        self.refused(3, 0, bimtsure.needs, 2, [(0, 1)] * 4097)
+        self.refused(4, 1, bimtsure.needs, 3, [(0, 1), (None, 2)])
+        self.refused(5, 1, bimtsure.needs, 2, [(0, 1), (65536, 1)])
+        self.refused(6, 0, bimtsure.needs, 3, [(0, 1)] * 2731)
         self.refused(7, 0, bimtsure.view, EXAMPLE, [0], 1)
         self.refused(1, 0, bimtsure.file_plan, 1025, EXAMPLE, [0, 1])
         self.refused(3, 0, bimtsure.file_plan, 3, [(0, 1)] * 4097, [0] * 4097)

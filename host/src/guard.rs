@@ -30,7 +30,7 @@ macro_rules! told {
     }};
 }
 
-const CALLS: [Call; 5] = [
+const CALLS: [Call; 6] = [
     Call {
         name: "bimtsure_plan",
         numbers: &[0, 1, 2, 3, 4, 5, 6, 7, 8, 9],
@@ -46,6 +46,12 @@ const CALLS: [Call; 5] = [
                 s[2].entries()
             ))
         },
+    },
+    Call {
+        name: "bimtsure_needs",
+        numbers: &[0, 1, 2, 3, 4, 5, 6],
+        slices: |of| vec![reads(&of.list.ends)],
+        answer: |of, s| told!(c::bimtsure_needs(of.p(), s[0].at(), s[0].entries())),
     },
     Call {
         name: "bimtsure_waiting",

@@ -2,8 +2,8 @@
 //! the lists that papers name, on random and on damaged ones. Then that W is what the planning call asks: with W words it never
 //! refuses by 8, with one less always.
 
+use crate::bimtsure::{self, Needs};
 use crate::desk_calls::damage;
-use crate::exported::{self, Needs};
 use crate::format::write_list;
 use crate::known;
 use crate::list::{List, MOST_APPOINTMENTS, MOST_PARTIES, MOST_WORDS};
@@ -76,7 +76,7 @@ impl Caller {
 
     fn call(&mut self, list: &List) -> Result<(), String> {
         let p = u16::try_from(list.parties).expect("the lists have fewer parties");
-        let (expected, answered) = (needs(list), exported::needs(p, &list.ends));
+        let (expected, answered) = (needs(list), bimtsure::needs(p, &list.ends));
         if expected != answered {
             return Err(format!("expected {expected:?}\nanswered {answered:?}"));
         }
@@ -93,13 +93,13 @@ impl Caller {
         let scratch = self.scratch.get_mut(..words).ok_or(format!("{words} words are more than {MOST_WORDS}"))?;
         self.most_words += usize::from(words == MOST_WORDS);
         if words > 0 {
-            let refused = exported::plan(p, &list.ends, slots, &mut scratch[..words - 1]);
+            let refused = bimtsure::plan(p, &list.ends, slots, &mut scratch[..words - 1]);
             if refused.number != 8 {
                 return Err(format!("with {} words: {refused:?}, and not 8", words - 1));
             }
             self.with_one_less += 1;
         }
-        let planned = exported::plan(p, &list.ends, slots, scratch);
+        let planned = bimtsure::plan(p, &list.ends, slots, scratch);
         if planned.number != 0 && planned.number != 9 {
             return Err(format!("with {words} words: {planned:?}"));
         }
