@@ -16,7 +16,7 @@ use std::path::Path;
 use std::time::{Duration, Instant};
 
 /// `rt check bimtsure` writes it.
-const PROGRAM: &str = "target/bin/bimtsure";
+pub const PROGRAM: &str = "target/bin/bimtsure";
 /// Filed plans for each run of the program, which takes far longer.
 const READINGS: usize = 8;
 /// The most pieces in which an input is fed.

@@ -28,6 +28,7 @@ mod program;
 mod random;
 mod reference;
 mod split;
+mod stack;
 mod steps;
 mod stored;
 mod two_color;
@@ -96,6 +97,9 @@ bimtsure-host bytes SECONDS SEED
     come; from the repository's root, after `rt check bimtsure`
 bimtsure-host bench
     time our planning call beside the Rust on the same lists
+bimtsure-host stack
+    measure how much stack each exported call and the program need; fails if one needs more than host/include/bimtsure.h and
+    docs/PROVED.md promise; from the repository's root, after `rt check bimtsure`
 bimtsure-host stored COUNT SEED [MOST]
     print the small lists that papers name and COUNT random ones of at most MOST (3 to 4096) appointments (if not given, 40),
     each with the Rust's answer, as `P first-second .. = planned D s0 s1 ..` or `.. = refused N PLACE`; a remark follows a `#`";
@@ -121,6 +125,7 @@ fn main() -> ExitCode {
         ["guard", count, seed] => compare(guard::run, count, seed),
         ["bytes", seconds, seed] => compare(bytes::throw, seconds, seed),
         ["bench"] => bench::run(1),
+        ["stack"] => stack::measure(),
         ["stored", count, seed] => print_stored(count, seed, MOST_STORED),
         ["stored", count, seed, most] => most_of(most).and_then(|most| print_stored(count, seed, most)),
         _ => Err(USAGE.to_string()),
