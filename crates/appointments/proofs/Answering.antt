@@ -26,7 +26,7 @@ use Rattle.appointments.specs.declared.Needed.the-variants as needs
 use Rattle.appointments.proofs.Loads.{largest-load-le, appts-length}
 use Rattle.appointments.proofs.ChecksLaws.{good-goes-on, sized-goes-on, passed-good, passed-sized}
 use Rattle.appointments.proofs.Causes.{never-refused, refused-cause, cause-number}
-use Rattle.appointments.proofs.Enough.{words-enough, enough}
+use Rattle.appointments.proofs.Enough.{words-enough, enough, needed-words}
 use Rattle.appointments.proofs.Flat.{appts-count, load-count}
 
 pub zeros : (n v : ℕ) → word (replicate n 0) v ≡ 0
@@ -264,10 +264,6 @@ sized P list D told e k =
     }
 
 -- ── how large the numbers of a list's needs are ──
-
-needed-words : (c : Check) (d w D W : ℕ) → needed c d w ≡ needs.Words D W → (c ≡ passed) × (d ≡ D) × (w ≡ W)
-needed-words passed d w D W e = (refl, cc, cc)
-needed-words (refused n i) d w D W e = (cc, cc, cc)
 
 needed-refused : (c : Check) (d w n i : ℕ) → needed c d w ≡ needs.Refused n i → c ≡ refused n i
 needed-refused passed d w n i e = cc

@@ -1,14 +1,15 @@
--- 1,179,648 words of scratch are enough for every list that passes check 6. Assumes nothing.
-use Prim.Native.Nat.{ℕ, _+_, _*_, _≤_}
+-- W is what check 8 asks, and 1,179,648 words are enough for every list that passes check 6. Assumes nothing.
+use Prim.Native.Nat.{ℕ, _+_, _*_, _<_, _≤_}
 use mathlib.Core.Path.{_≡_, refl}
 use mathlib.Core.List.{List}
 use native.Mathlib.Omega.{arith}
 use native.Mathlib.Nat.{mul-add, mul-assoc, mul-comm}
 use Rattle.appointments.specs.Appointments.{appts, largest-load, scratch-words}
-use Rattle.appointments.specs.Checks.{passed, refused, checks}
-use Rattle.appointments.specs.Needed.{scratch-enough, Enough}
-use Rattle.appointments.proofs.ChecksLaws.{passed-sized}
-use Rattle.appointments.proofs.Causes.{Cause, many-parties, odd-length, many-appts, blank-end, unlisted-end, large-product, few-slots, small-scratch, refused-cause}
+use Rattle.appointments.specs.Checks.{Check, passed, refused, checks-1-to-6, checks}
+use Rattle.appointments.specs.Needed.{needed, needs-answer, Asked, Exact, scratch-enough, Enough}
+use Rattle.appointments.specs.declared.Needed.the-variants as needs
+use Rattle.appointments.proofs.ChecksLaws.{passes-passed, passed-sized}
+use Rattle.appointments.proofs.Causes.{Cause, many-parties, odd-length, many-appts, blank-end, unlisted-end, large-product, few-slots, small-scratch, cause-refused, refused-cause}
 
 -- W is 128 × (D×P + P), and checks 1 and 6 bound both
 pub words-enough : (P D : ℕ) → P ≤ 1024 → D * P ≤ 8192 → scratch-words P D ≤ scratch-enough
@@ -35,4 +36,22 @@ enough P list =
     record {
       words = λ ok. let c = passed-sized P list passed ok in words-enough P (largest-load P (appts list)) (c .0 .parties) (c .1);
       never-8 = λ slots scratch place w e. few-words (refused-cause P list slots scratch 8 place e) refl w;
+    }
+
+-- ── the words that the call gives ──
+
+pub needed-words : (c : Check) (d w D W : ℕ) → needed c d w ≡ needs.Words D W → (c ≡ passed) × (d ≡ D) × (w ≡ W)
+needed-words passed d w D W e = (refl, cc, cc)
+needed-words (refused n i) d w D W e = (cc, cc, cc)
+
+-- W is what check 8 asks.
+pub exact : (P : ℕ) (list : List ℕ) → Exact P list
+unfolding needs-answer
+exact P list D W slots scratch e room =
+    let D₀ : ℕ = largest-load P (appts list) in
+    let k = needed-words (checks-1-to-6 P list passed) D₀ (scratch-words P D₀) D W e in
+    let c = passed-sized P list passed (k .0) in
+    record {
+      passes = λ h. passes-passed P list slots scratch (record { good = c .0; product = c .1; slot-room = room; scratch-room = rw (k .2) h });
+      refuses = λ h. cause-refused P list slots scratch (small-scratch (c .0) (c .1) room (rw (k .2) h));
     }

@@ -1,7 +1,8 @@
 -- How much scratch a list needs: the call that says it, and how much is enough for every list. Assumes nothing.
-use Prim.Native.Nat.{ℕ, _≤_}
+use Prim.Native.Nat.{ℕ, _<_, _≤_}
 use mathlib.Core.Path.{_≡_}
 use mathlib.Core.List.{List}
+use lib.ListN.{length}
 use Rattle.appointments.specs.Appointments.{appts, largest-load, scratch-words}
 use Rattle.appointments.specs.Checks.{Check, passed, refused, checks-1-to-6, checks}
 use Rattle.appointments.specs.declared.Needed.{Needed}
@@ -34,6 +35,16 @@ figure-of (Refused number place) = 0
 abbrev pub words-of : Needed → ℕ
 words-of (Words D W) = W
 words-of (Refused number place) = 0
+
+-- That W is what check 8 asks: where the call gives W, and there is a slot entry for each appointment, W words or more
+-- pass checks 1 to 8, and fewer are refused by 8.
+pub record Asked (P : ℕ) (list : List ℕ) (W slots scratch : ℕ) : Type 0 where
+  pub passes : W ≤ scratch → checks P list slots scratch ≡ passed
+  pub refuses : scratch < W → checks P list slots scratch ≡ refused 8 0
+
+abbrev pub Exact : ℕ → List ℕ → Type 0
+Exact P list =
+    (D W slots scratch : ℕ) → needs-answer P list ≡ Words D W → length (appts list) ≤ slots → Asked P list W slots scratch
 
 -- Scratch that is enough for every list that passes check 6: 128 × (8,192 + 1,024) words. The header's
 -- BIMTSURE_SCRATCH_WORDS.

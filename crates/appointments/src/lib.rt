@@ -1,4 +1,4 @@
-// Checks 1 to 8 of a list of appointments. Scratch is not touched before check 8 has passed, so loads stand in a local array.
+// Checks 1 to 8 of a list of appointments, and how much scratch it needs. Scratch is not touched before check 8 has passed, so loads stand in a local array.
 ghost use mathlib.Core.Path.{_≡_};
 ghost use Prim.Native.Nat.{ℕ, _+_, _*_, _%_, _<_, _≤_};
 ghost use lib.ListN.{length};
