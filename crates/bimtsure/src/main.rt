@@ -1,13 +1,60 @@
-// The program: reads standard input, and writes to standard output what the text crate makes of it.
+// The program: reads standard input, and writes to standard output what the text crate makes of it. What is read and written no
+// contract can say, so these lines are kept few (docs/PROVED.md says which of them are trusted).
 use libc::STDIN_FILENO;
 use libc::STDOUT_FILENO;
+use text::Came;
+ghost use Prim.Native.Nat.{_+_, _≤_};
+ghost use lib.ListN.{length};
+
+// What one read gave: how many bytes, none at the end of the input, or that it failed.
+struct Piece {
+    count: usize,
+    failed: bool,
+}
+
+// One read into the buffer from where the bytes end.
+fn read_piece(buffer: &mut [u8], from: usize) -> Piece
+    requires { ⌜ from ≤ length (now buffer) ⌝ }
+    ensures { λ r. ⌜ from + r .count ≤ length (now (buffer .entry)) ⌝ }
+{
+    let behind = &mut buffer[from..];
+    let got = libc::read(STDIN_FILENO, behind);
+    let count = io::count(got, behind);
+    Piece {
+        count,
+        failed: got < 0,
+    }
+}
+
+// Reads until the input ends or the buffer is full, however few bytes come at a time. A read may fail for a while, by a signal or
+// since the next bytes aren't there yet, so it is tried again; after a million failed reads in all the input is broken.
+fn read_input(input: &mut [u8; 4097]) -> Came {
+    let mut count = 0;
+    let mut tries: usize = 1_000_000;
+    while count < 4097 && 0 < tries {
+        let piece = read_piece(input, count);
+        if piece.failed {
+            tries -= 1;
+            continue;
+        }
+        if piece.count == 0 {
+            return Came {
+                count,
+                broken: false,
+            };
+        }
+        count += piece.count;
+    }
+    Came {
+        count,
+        broken: tries == 0,
+    }
+}
 
 fn main() {
-    // One byte more than main takes, so that a longer input is seen to be longer. Reading goes on until the input ends or the
-    // buffer is full, however few bytes come at a time.
     let mut input = [0u8; 4097];
-    let length = io::read_full(STDIN_FILENO, &mut input);
+    let came = read_input(&mut input);
     let mut output = [0u8; 1801];
-    let count = text::text_output(&input[..length], &mut output);
+    let count = text::text_output(&input, came, &mut output);
     io::write_all(STDOUT_FILENO, &output[..count]);
 }

@@ -1,6 +1,7 @@
 pub mod Parting
 pub mod Lengths
 pub mod ReadingLaws
+pub mod BrokenLaws
 pub mod TextLaws
 pub mod Digits
 pub mod WrittenInput

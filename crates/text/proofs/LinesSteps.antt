@@ -1,7 +1,8 @@
 -- Reading line by line, by the definition: what was read so far stands first in the lent list, and the lines that are left give
 -- the rest. Assumes nothing.
-use Prim.Native.Nat.{ℕ, _+_, _-_, _≤_, _<_}
+use Prim.Native.Nat.{ℕ, _+_, _-_, _/_, _≤_, _<_}
 use mathlib.Core.Path.{_≡_, refl, sym, _∙_, ap, subst}
+use mathlib.Core.Bool.{Bool, true, false}
 use mathlib.Core.List.{List, [], _∷_, _++_, append-assoc, append-nil}
 use mathlib.Core.Option.{Option, none, some}
 use native.Mathlib.Omega.{arith}
@@ -11,15 +12,16 @@ use lib.ListN.{length, take, drop, set, length-append, length-drop}
 use lib.Seq.{drop-length, drop-drop, drop-append-add, length-take-le, take-at, sets-eq}
 use Rattle.appointments.specs.Appointments.{Appt, appt}
 use Rattle.text.specs.Ascii.{line-feed}
-use Rattle.text.specs.Reading.{parts, number, appointment-of, Input, input, malformed, with-ends, and-then-lines, read-lines, with-parties, read-text}
+use Rattle.text.specs.Reading.{parts, number, appointment-of, Input, input, malformed, with-ends, and-then-lines, read-lines, with-parties, read-text, read-input}
 use Rattle.text.specs.Told.{First-at, value-of, ends-of, One-line, Next-line, Read-as}
 use Rattle.text.specs.declared.parsing.Value.the-variants as value
 use Rattle.text.specs.declared.parsing.Ends.the-variants as ends
 use Rattle.text.specs.declared.parsing.Line.{Line}
 use Rattle.text.specs.declared.parsing.Line.the-variants as line
+use Rattle.text.specs.declared.parsing.ReadInput.{ReadInput}
 use Rattle.text.specs.declared.parsing.ReadInput.the-variants as read
 use Rattle.text.proofs.Parting.{parts-at, parts-none, parts-some}
-use Rattle.text.proofs.ReadingLaws.{Line-read, line-is, line-step, first-step}
+use Rattle.text.proofs.ReadingLaws.{Line-read, line-is, line-step, first-step, reads}
 use Rattle.text.proofs.ParsingSteps.{is-some, is-none}
 
 -- ── one line ──
@@ -182,3 +184,46 @@ module _ (bytes : List ℕ) (end : ℕ) (f : First-at line-feed bytes end) (h : 
 
   pub text-lines : (P : ℕ) → value.Is P ≡ value-of (number (take end bytes)) → read-text bytes ≡ read-lines P 2 (parts line-feed (drop (end + 1) bytes))
   text-lines P m = rw (first-line, is-some P (number (take end bytes)) m)
+
+-- ── what was read ──
+
+-- P and the first numbers of the lent list
+pub record Was-read (i : Input) (P count : ℕ) (lent : List ℕ) : Type 0 where
+  pub inside : count ≤ length lent
+  pub is : i ≡ input P (take count lent)
+
+pub was-read : (i : Input) (r : ReadInput) (P count : ℕ) (before after : List ℕ) → r ≡ read.Input P count → Read-as i r before after → Was-read i P count after
+was-read (input Q list) r P count before after e t =
+    let same : read.Input P count ≡ read.Input Q (length list) = sym e ∙ t .0 in
+    let same-P : P ≡ Q = cc in
+    let same-count : count ≡ length list = cc in
+    let front : take count after ≡ list = rw (t .1) (take-at list (drop (length list) before) count (sym same-count)) in
+    record {
+      inside = rw (t .1, length-append list (drop (length list) before)) (omega (arith, same-count));
+      is = rw (front, same-P);
+    }
+was-read (malformed n) r P count before after e t = let z : _≡_ {A = ℕ} 0 1 = cc in absurd (omega arith)
+
+-- or the malformed line
+pub was-malformed : (i : Input) (r : ReadInput) (n : ℕ) (before after : List ℕ) → r ≡ read.Malformed n → Read-as i r before after → i ≡ malformed n
+was-malformed (input Q list) r n before after e t = let z : _≡_ {A = ℕ} 0 1 = cc in absurd (omega arith)
+was-malformed (malformed m) r n before after e t = let same : m ≡ n = cc in ap malformed same
+
+-- ── of an input that may be broken ──
+
+module _ (bytes : List ℕ) (r : ReadInput) (before after : List ℕ) (t : Read-as (read-text bytes) r before after) where
+  pub input-malformed : (broken : Bool) (n : ℕ) → r ≡ read.Malformed n → Read-as (read-input broken bytes) r before after
+  unfolding read-input
+  input-malformed false n e = t
+  input-malformed true n e = rw (was-malformed (read-text bytes) r n before after e t) e
+
+  pub input-broken : (P count : ℕ) → r ≡ read.Input P count → Read-as (read-input true bytes) (read.Malformed (count / 2 + 2)) before after
+  unfolding read-input
+  input-broken P count e =
+      let w : Was-read (read-text bytes) P count after = was-read (read-text bytes) r P count before after e t in
+      rw (w .is)
+      (ap read.Malformed (omega (arith, reads bytes P (take count after) (w .is) .lines, length-take-le count after (w .inside))))
+
+  pub input-whole : (P count : ℕ) → r ≡ read.Input P count → Read-as (read-input false bytes) (read.Input P count) before after
+  unfolding read-input
+  input-whole P count e = rw e at t

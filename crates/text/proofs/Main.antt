@@ -2,24 +2,22 @@
 -- or refused; and that 1,801 bytes have room for each. Assumes nothing.
 use Prim.Native.Nat.{ℕ, _≤_, _<_}
 use mathlib.Core.Path.{_≡_, refl, sym, _∙_, ap, subst}
+use mathlib.Core.Bool.{Bool}
 use mathlib.Core.List.{List, _++_}
 use native.Mathlib.Omega.{arith}
 use borrow.Author.Tests.{lt-ltb, le-ltb}
 use lib.ListN.{length, take, drop, length-append}
-use lib.Seq.{take-at, length-take-le}
+use lib.Seq.{length-take-le}
 use Rattle.appointments.specs.Checks.{passed}
 use Rattle.appointments.proofs.ChecksLaws.{good-goes-on}
 use Rattle.planning.specs.Planning.{planned, refusal, plan-answer, plan-slots}
 use Rattle.planning.specs.Planning as Planning
 use Rattle.planning.specs.Told.{answer-of}
 use Rattle.planning.specs.declared.Answer.{Answer}
-use Rattle.text.specs.Reading.{Input, input, malformed, read-text}
+use Rattle.text.specs.Reading.{Input, input, read-input}
 use Rattle.text.specs.Printing.{printed, plan-lines, refusal-line}
 use Rattle.text.specs.Text.{lent-slots, lent-scratch, planned-report, input-report, report, text-output}
-use Rattle.text.specs.Told.{Read-as}
 use Rattle.text.specs.Placed.{Room, Printed, Passes-1-to-5}
-use Rattle.text.specs.declared.parsing.ReadInput.{ReadInput}
-use Rattle.text.specs.declared.parsing.ReadInput.the-variants as read
 use Rattle.text.proofs.TextLaws.{planned-passes, answer-fits, output-fits}
 
 -- bytes that 1,801 hold have room
@@ -66,56 +64,25 @@ told-answer r s a e t = sym t ∙ ap answer-of e
 
 -- ── the whole ──
 
--- what was read: P and the first numbers of the lent list, or the malformed line
-pub record Was-read (bytes : List ℕ) (P count : ℕ) (lent : List ℕ) : Type 0 where
-  pub inside : count ≤ length lent
-  pub is : read-text bytes ≡ input P (take count lent)
-
-pub was-read :
-    (bytes : List ℕ) (r : ReadInput) (P count : ℕ) (before after : List ℕ) → r ≡ read.Input P count →
-    Read-as (read-text bytes) r before after → Was-read bytes P count after
-was-read bytes r P count before after e = go (read-text bytes) refl
-  where
-    go : (i : Input) → read-text bytes ≡ i → Read-as i r before after → Was-read bytes P count after
-    go (input Q list) h t =
-        let same : read.Input P count ≡ read.Input Q (length list) = sym e ∙ t .0 in
-        let same-P : P ≡ Q = cc in
-        let same-count : count ≡ length list = cc in
-        let front : take count after ≡ list = rw (t .1) (take-at list (drop (length list) before) count (sym same-count)) in
-        record {
-          inside = rw (t .1, length-append list (drop (length list) before)) (omega (arith, same-count));
-          is = rw (front, same-P) h;
-        }
-    go (malformed n) h t = let z : _≡_ {A = ℕ} 0 1 = cc in absurd (omega arith)
-
-pub was-malformed :
-    (bytes : List ℕ) (r : ReadInput) (n : ℕ) (before after : List ℕ) → r ≡ read.Malformed n →
-    Read-as (read-text bytes) r before after → read-text bytes ≡ malformed n
-was-malformed bytes r n before after e = go (read-text bytes) refl
-  where
-    go : (i : Input) → read-text bytes ≡ i → Read-as i r before after → read-text bytes ≡ malformed n
-    go (input Q list) h t = let z : _≡_ {A = ℕ} 0 1 = cc in absurd (omega arith)
-    go (malformed m) h t = let same : m ≡ n = cc in rw (← same) h
-
 -- above 4,096 bytes it is 11, whatever they are
-pub output-long : (bytes : List ℕ) → 4096 < length bytes → text-output bytes ≡ refusal-line 11 0
+pub output-long : (broken : Bool) (bytes : List ℕ) → 4096 < length bytes → text-output broken bytes ≡ refusal-line 11 0
 unfolding text-output report
-output-long bytes h = rw (lt-ltb 4096 (length bytes) h)
+output-long broken bytes h = rw (lt-ltb 4096 (length bytes) h)
 
 -- up to there it goes by what was read
-pub output-read : (bytes : List ℕ) (i : Input) → length bytes ≤ 4096 → read-text bytes ≡ i → text-output bytes ≡ printed (input-report i)
+pub output-read : (broken : Bool) (bytes : List ℕ) (i : Input) → length bytes ≤ 4096 → read-input broken bytes ≡ i → text-output broken bytes ≡ printed (input-report i)
 unfolding text-output report
-output-read bytes i h e = rw (le-ltb 4096 (length bytes) h, e)
+output-read broken bytes i h e = rw (le-ltb 4096 (length bytes) h, e)
 
 -- Main's bytes have room in 1,801,
-pub output-room : (bytes line out : List ℕ) → text-output bytes ≡ line → 1801 ≤ length out → Room out 0 line
-output-room bytes line out e h = rw (← e) (room (text-output bytes) out (output-fits bytes) h)
+pub output-room : (broken : Bool) (bytes line out : List ℕ) → text-output broken bytes ≡ line → 1801 ≤ length out → Room out 0 line
+output-room broken bytes line out e h = rw (← e) (room (text-output broken bytes) out (output-fits broken bytes) h)
 
 -- and what is printed is what main prints; it stands in the output.
 pub output-printed :
-    (bytes line : List ℕ) (n : ℕ) (out after : List ℕ) → text-output bytes ≡ line → Printed line n out after →
-    (n ≡ length (text-output bytes)) × ((after ≡ text-output bytes ++ drop n out) × ((n ≤ length after) × (n ≡ length (take n after))))
-output-printed bytes line n out after e p =
+    (broken : Bool) (bytes line : List ℕ) (n : ℕ) (out after : List ℕ) → text-output broken bytes ≡ line → Printed line n out after →
+    (n ≡ length (text-output broken bytes)) × ((after ≡ text-output broken bytes ++ drop n out) × ((n ≤ length after) × (n ≡ length (take n after))))
+output-printed broken bytes line n out after e p =
     let inside : n ≤ length after =
     rw (p .stored, length-append line (drop (length line) out)) (omega (arith, p .counted)) in
     rw e (p .counted, (rw (p .counted) (p .stored), (inside, sym (length-take-le n after inside))))

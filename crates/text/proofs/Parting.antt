@@ -18,11 +18,11 @@ use Rattle.text.specs.Told.{First-at}
 abbrev pub Free : ℕ → List ℕ → Type 0
 Free separator part = All (λ (b : ℕ). b ≡ separator → ⊥) part
 
-part-one : (separator b : ℕ) (bytes : List ℕ) → (b ≡ separator → ⊥) → parts separator (b ∷ bytes) ≡ onto b (parts separator bytes)
+pub part-one : (separator b : ℕ) (bytes : List ℕ) → (b ≡ separator → ⊥) → parts separator (b ∷ bytes) ≡ onto b (parts separator bytes)
 unfolding parts
 part-one separator b bytes h = rw (ne-eqb b separator h)
 
-part-here : (separator : ℕ) (bytes : List ℕ) → parts separator (separator ∷ bytes) ≡ [] ∷ parts separator bytes
+pub part-here : (separator : ℕ) (bytes : List ℕ) → parts separator (separator ∷ bytes) ≡ [] ∷ parts separator bytes
 unfolding parts
 part-here separator bytes = rw (eq-eqb separator separator refl)
 

@@ -1,20 +1,21 @@
 -- What main's reading of text yields: P is below 65,535, the list holds two 16-bit numbers a line, and it is shorter than the
 -- input; and a malformed line's number is at most one more than the bytes. Assumes nothing.
-use Prim.Native.Nat.{ℕ, suc, _+_, _%_, _≤_, _<_}
-use mathlib.Core.Path.{_≡_, refl, ap, subst}
+use Prim.Native.Nat.{ℕ, suc, _+_, _*_, _%_, _/_, _≤_, _<_}
+use mathlib.Core.Path.{_≡_, refl, sym, _∙_, ap, subst}
 use mathlib.Core.Bool.{Bool, true, false, _||_}
 use mathlib.Core.List.{List, [], _∷_}
 use mathlib.Core.Option.{Option, none, some}
 use native.Mathlib.Omega.{arith}
-use borrow.Author.Tests.{eqb-false, ltb-true}
+use borrow.Author.Tests.{eqb-true, eqb-false, ltb-true}
 use lib.Dec.{eqb, ltb}
 use lib.ListN.{length}
-use Rattle.words.specs.Basics.{pick, total, All}
+use Rattle.words.specs.Basics.{pick, is, total, count, All}
 use Rattle.words.proofs.Bools.{neither}
+use Rattle.words.proofs.Sums.{is-eq, is-ne, count-le}
 use Rattle.appointments.specs.Appointments.{Appt, appt}
 use Rattle.appointments.specs.Checks.{blank}
 use Rattle.text.specs.Ascii.{line-feed, comma}
-use Rattle.text.specs.Reading.{onto, parts, digits-value, below-blank, number, end-of, both, two-ends, appointment-of, Input, input, malformed, and-then-lines, read-lines, with-parties, read-first, read-text}
+use Rattle.text.specs.Reading.{onto, parts, digits-value, below-blank, number, end-of, both, two-ends, appointment-of, Input, input, malformed, and-then-lines, read-lines, with-parties, read-first, read-text, broke-off, read-input}
 
 none-some {ℓ} : {A : Type 0} {Y : Type ℓ} (a : A) → _≡_ {A = Option A} none (some a) → Y
 none-some a e = let z : _≡_ {A = ℕ} 0 1 = cc in absurd (omega arith)
@@ -34,6 +35,19 @@ parts-spread separator (b ∷ bytes) = go (eqb b separator) (parts separator byt
     go true more e = omega arith
     go false [] e = absurd (omega arith)
     go false (part ∷ more) e = omega arith
+
+-- one part more than there are separators
+pub parts-count : (separator : ℕ) (bytes : List ℕ) → length (parts separator bytes) ≡ count separator bytes + 1
+unfolding parts count
+parts-count separator [] = refl
+parts-count separator (b ∷ bytes) = go (eqb b separator) refl (parts separator bytes) (parts-count separator bytes)
+  where
+    go : (t : Bool) → eqb b separator ≡ t → (more : List (List ℕ)) → length more ≡ count separator bytes + 1 → length (pick t ([] ∷ more) (onto b more)) ≡ is separator b + count separator bytes + 1
+    go true h more e = omega (arith, is-eq (sym (eqb-true b separator h)))
+    go false h [] e = absurd (omega arith)
+    go false h (part ∷ more) e =
+        let other : separator ≡ b → ⊥ = λ q. eqb-false b separator h (sym q) in
+        omega (arith, is-ne other)
 
 -- ── a part more ──
 
@@ -116,7 +130,7 @@ input-malformed i P list n p q = let z : _≡_ {A = ℕ} 0 1 = cc in absurd (ome
 
 pub record Lines-read (ps : List (List ℕ)) (P Q : ℕ) (list : List ℕ) : Type 0 where
   pub same : P ≡ Q
-  pub even : length list % 2 ≡ 0
+  pub two-each : length list + 2 ≡ 2 * length ps
   pub ends : All (λ (e : ℕ). e < 65536) list
   pub short : length list + 1 ≤ spread ps
 
@@ -127,7 +141,7 @@ unfolding total
 with-line line ps P Q x list l r =
     record {
       same = r .same;
-      even = omega (arith, r .even);
+      two-each = omega (arith, r .two-each);
       ends = (l .first-end, (l .second-end, r .ends));
       short = omega (arith, r .short, l .some-byte);
     }
@@ -141,7 +155,7 @@ lines-are P n (rest ∷ []) Q list e = go (eqb (length rest) 0) e
     go true q =
         let same : P ≡ Q = cc in
         let none-left : [] ≡ list = cc in
-        subst (λ (l : List ℕ). Lines-read (rest ∷ []) P Q l) none-left (record { same = same; even = refl; ends = tt; short = omega arith })
+        subst (λ (l : List ℕ). Lines-read (rest ∷ []) P Q l) none-left (record { same = same; two-each = refl; ends = tt; short = omega arith })
     go false q = input-malformed (malformed n) Q list n q refl
 lines-are P n (line ∷ next ∷ more) Q list e = go (appointment-of line) refl (read-lines P (n + 1) (next ∷ more)) (lines-are P (n + 1) (next ∷ more) Q) e
   where
@@ -159,24 +173,32 @@ lines-are P n (line ∷ next ∷ more) Q list e = go (appointment-of line) refl 
 pub record Read (bytes : List ℕ) (P : ℕ) (list : List ℕ) : Type 0 where
   pub parties : P < 65535
   pub even : length list % 2 ≡ 0
+  pub lines : count line-feed bytes ≡ length list / 2 + 1
   pub ends : All (λ (e : ℕ). e < 65536) list
   pub short : length list + 2 ≤ length bytes
 
 pub reads : (bytes : List ℕ) (P : ℕ) (list : List ℕ) → read-text bytes ≡ input P list → Read bytes P list
 unfolding read-text total
-reads bytes P list e = go (parts line-feed bytes) (parts-spread line-feed bytes) e
+reads bytes P list e = go (parts line-feed bytes) (parts-spread line-feed bytes) (parts-count line-feed bytes) e
   where
-    first : (o : Option ℕ) (line : List ℕ) (ps : List (List ℕ)) → number line ≡ o → length line + 1 + spread ps ≡ length bytes + 1 → with-parties o ps ≡ input P list → Read bytes P list
-    first none line ps h l q = input-malformed (malformed 1) P list 1 q refl
-    first (some Q) line ps h l q =
+    first : (o : Option ℕ) (line : List ℕ) (ps : List (List ℕ)) → number line ≡ o → length line + 1 + spread ps ≡ length bytes + 1 → length ps ≡ count line-feed bytes
+        → with-parties o ps ≡ input P list → Read bytes P list
+    first none line ps h l k q = input-malformed (malformed 1) P list 1 q refl
+    first (some Q) line ps h l k q =
         let r : Lines-read ps Q P list = lines-are Q 2 ps P list q in
         let n : Number line Q = number-is line Q h in
-        record { parties = omega (arith, r .same, n .below); even = r .even; ends = r .ends; short = omega (arith, r .short, n .some-digit) }
+        record {
+          parties = omega (arith, r .same, n .below);
+          even = omega (arith, r .two-each);
+          lines = omega (arith, r .two-each);
+          ends = r .ends;
+          short = omega (arith, r .short, n .some-digit);
+        }
 
-    go : (ps : List (List ℕ)) → spread ps ≡ length bytes + 1 → read-first ps ≡ input P list → Read bytes P list
-    go [] l q = input-malformed (malformed 1) P list 1 q refl
-    go (rest ∷ []) l q = input-malformed (malformed 1) P list 1 q refl
-    go (line ∷ next ∷ more) l q = first (number line) line (next ∷ more) refl l q
+    go : (ps : List (List ℕ)) → spread ps ≡ length bytes + 1 → length ps ≡ count line-feed bytes + 1 → read-first ps ≡ input P list → Read bytes P list
+    go [] l k q = input-malformed (malformed 1) P list 1 q refl
+    go (rest ∷ []) l k q = input-malformed (malformed 1) P list 1 q refl
+    go (line ∷ next ∷ more) l k q = first (number line) line (next ∷ more) refl l (omega arith) q
 
 -- ── a malformed line ──
 
@@ -208,3 +230,13 @@ malformed-place bytes m e = go (parts line-feed bytes) (parts-spread line-feed b
     go [] l q = let same : 1 ≡ m = cc in omega arith
     go (rest ∷ []) l q = let same : 1 ≡ m = cc in omega arith
     go (line ∷ next ∷ more) l q = first (number line) line (next ∷ more) refl l q
+
+-- The same of an input that may be broken.
+pub input-place : (broken : Bool) (bytes : List ℕ) (m : ℕ) → read-input broken bytes ≡ malformed m → m ≤ length bytes + 1
+unfolding read-input
+input-place false bytes m e = malformed-place bytes m e
+input-place true bytes m e = go (read-text bytes) refl e
+  where
+    go : (i : Input) → read-text bytes ≡ i → broke-off bytes i ≡ malformed m → m ≤ length bytes + 1
+    go (malformed n) h q = malformed-place bytes m (h ∙ q)
+    go (input P list) h q = let same : 1 + count line-feed bytes ≡ m = cc in omega (arith, count-le line-feed bytes)

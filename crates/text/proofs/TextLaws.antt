@@ -16,11 +16,11 @@ use Rattle.appointments.proofs.ChecksLaws.{Passes, passed-passes}
 use Rattle.planning.specs.Planning.{Answer, planned, refusal, plan-answer, plan-slots}
 use Rattle.planning.specs.Demand3.{Shortest-plan}
 use Rattle.planning.proofs.Demand3.{demand-3, refusal-small}
-use Rattle.text.specs.Reading.{Input, input, malformed, read-text}
+use Rattle.text.specs.Reading.{Input, input, malformed, read-input}
 use Rattle.text.specs.Printing.{Report, printed, plan-lines}
 use Rattle.text.specs.Text.{lent-slots, lent-scratch, planned-report, input-report, report, text-output}
 use Rattle.text.proofs.Lengths.{Slots-fit, small-load, plan-fits, refusal-fits}
-use Rattle.text.proofs.ReadingLaws.{malformed-place}
+use Rattle.text.proofs.ReadingLaws.{input-place}
 
 -- ── what an answer of the planning call tells ──
 
@@ -57,18 +57,18 @@ answer-fits P list = go (plan-answer P list lent-slots lent-scratch) refl
         let small = refusal-small P list lent-slots lent-scratch number place e in
         omega (arith, refusal-fits number place (omega (arith, small .number)) (omega (arith, small .place)))
 
-input-fits : (bytes : List ℕ) → length bytes ≤ 4096 → length (printed (input-report (read-text bytes))) ≤ 1801
-input-fits bytes h = go (read-text bytes) refl
+input-fits : (broken : Bool) (bytes : List ℕ) → length bytes ≤ 4096 → length (printed (input-report (read-input broken bytes))) ≤ 1801
+input-fits broken bytes h = go (read-input broken bytes) refl
   where
-    go : (i : Input) → read-text bytes ≡ i → length (printed (input-report i)) ≤ 1801
+    go : (i : Input) → read-input broken bytes ≡ i → length (printed (input-report i)) ≤ 1801
     go (input P list) e = answer-fits P list
-    go (malformed n) e = omega (arith, refusal-fits 10 n (omega arith) (omega (arith, malformed-place bytes n e)))
+    go (malformed n) e = omega (arith, refusal-fits 10 n (omega arith) (omega (arith, input-place broken bytes n e)))
 
 -- Main's output has at most 1,801 bytes, whatever its input.
-pub output-fits : (bytes : List ℕ) → length (text-output bytes) ≤ 1801
+pub output-fits : (broken : Bool) (bytes : List ℕ) → length (text-output broken bytes) ≤ 1801
 unfolding text-output report
-output-fits bytes = go (ltb 4096 (length bytes)) refl
+output-fits broken bytes = go (ltb 4096 (length bytes)) refl
   where
-    go : (t : Bool) → ltb 4096 (length bytes) ≡ t → length (printed (pick t (Report.refused 11 0) (input-report (read-text bytes)))) ≤ 1801
+    go : (t : Bool) → ltb 4096 (length bytes) ≡ t → length (printed (pick t (Report.refused 11 0) (input-report (read-input broken bytes)))) ≤ 1801
     go true e = omega (arith, refusal-fits 11 0 (omega arith) (omega arith))
-    go false e = input-fits bytes (ltb-false 4096 (length bytes) e)
+    go false e = input-fits broken bytes (ltb-false 4096 (length bytes) e)

@@ -1,15 +1,20 @@
 -- Worked examples of main, each computed to the byte: document 01's input, malformed lines of each kind, the order of 11, 10
--- and 1, and lines that look odd and are read. A wrong definition is refused here. Assumes nothing.
+-- and 1, lines that look odd and are read, and broken inputs. A wrong definition is refused here. Assumes nothing.
 use Prim.Native.String.{String}
 use mathlib.Core.Path.{_≡_, refl}
+use mathlib.Core.Bool.{true, false}
 use lib.ListN.{replicate}
 use Rattle.text.specs.Ascii.{ascii}
 use Rattle.text.specs.Text.{text-output}
 use Rattle.text.specs.Computing.{computing}
 
--- the input gives the output
+-- the input, which ended, gives the output
 abbrev Prints : String → String → Type 0
-Prints given output = text-output (ascii given) ≡ ascii output
+Prints given output = text-output false (ascii given) ≡ ascii output
+
+-- the bytes that came of a broken input give the output
+abbrev Prints-broken : String → String → Type 0
+Prints-broken came output = text-output true (ascii came) ≡ ascii output
 
 -- document 01's example
 document-01 : Prints "3\n0,1\n1,2\n" "plan 2\n0 0 1 0\n1 1 2 1\nparty 0 1\nparty 1 0\nparty 2 1\n"
@@ -39,8 +44,8 @@ malformed-lines = (refl, refl, refl, refl, refl, refl, refl, refl, refl, refl, r
 
 -- 11 precedes 10, which precedes 1
 refusals-in-order :
-    (text-output (replicate 4097 0) ≡ ascii "refused 11 0\n")
-    × (text-output (replicate 4096 0) ≡ ascii "refused 10 1\n")
+    (text-output false (replicate 4097 0) ≡ ascii "refused 11 0\n")
+    × (text-output false (replicate 4096 0) ≡ ascii "refused 10 1\n")
     × Prints "1025\n0,1,2\n" "refused 10 2\n"
     × Prints "1025\n0,\n" "refused 1 0\n"
 unfolding computing
@@ -63,3 +68,26 @@ odd-looking :
     × Prints "2\n" "plan 0\nparty 0 0\nparty 1 0\n"
 unfolding computing
 odd-looking = (refl, refl, refl)
+
+-- no line malformed: 1 plus the number of line feeds, also where bytes stand behind the last one
+broken-off :
+    Prints-broken "" "refused 10 1\n"
+    × Prints-broken "3" "refused 10 1\n"
+    × Prints-broken "3\n" "refused 10 2\n"
+    × Prints-broken "3\n0,1" "refused 10 2\n"
+    × Prints-broken "3\n0,1\n" "refused 10 3\n"
+    × Prints-broken "3\n0,1\n1" "refused 10 3\n"
+    × Prints-broken "3\n0,1\n1,2\n" "refused 10 4\n"
+unfolding computing
+broken-off = (refl, refl, refl, refl, refl, refl, refl)
+
+-- a malformed line among those that ended comes first, and 11 before it; what the planning call would refuse isn't looked at
+broken-malformed :
+    Prints-broken "\n" "refused 10 1\n"
+    × Prints-broken "3\n\n0,1" "refused 10 2\n"
+    × Prints-broken "3\n0,1,2\n0" "refused 10 2\n"
+    × (text-output true (replicate 4097 0) ≡ ascii "refused 11 0\n")
+    × (text-output true (replicate 4096 0) ≡ ascii "refused 10 1\n")
+    × Prints-broken "1025\n0,\n" "refused 10 3\n"
+unfolding computing
+broken-malformed = (refl, refl, refl, refl, refl, refl)

@@ -1,12 +1,12 @@
 -- What main reads: a line P, then lines `first,second`, each ended by a line feed; or the first line that is malformed.
 -- Assumes nothing.
 use Prim.Native.Nat.{ℕ, _+_, _-_, _*_}
-use mathlib.Core.Bool.{Bool, _&&_, _||_}
+use mathlib.Core.Bool.{Bool, true, false, _&&_, _||_}
 use mathlib.Core.List.{List, [], _∷_}
 use mathlib.Core.Option.{Option, none, some}
 use lib.Dec.{eqb, leb, ltb}
 use lib.ListN.{length}
-use Rattle.words.specs.Basics.{pick}
+use Rattle.words.specs.Basics.{pick, count}
 use Rattle.appointments.specs.Appointments.{Appt, appt}
 use Rattle.appointments.specs.Checks.{blank}
 use Rattle.text.specs.Ascii.{line-feed, comma}
@@ -108,3 +108,17 @@ read-first (line ∷ next ∷ more) = with-parties (number line) (next ∷ more)
 unfoldable pub read-text : List ℕ → Input
 unfolding parts number read-lines
 read-text bytes = read-first (parts line-feed bytes)
+
+-- ── a broken input ──
+
+-- Reading failed for good behind the bytes that came, so no list is read. The line is the one that is malformed, or else the
+-- one behind those that ended: 1 plus the number of line feeds.
+abbrev pub broke-off : List ℕ → Input → Input
+broke-off bytes (malformed n) = malformed n
+broke-off bytes (input P list) = malformed (1 + count line-feed bytes)
+
+-- the bytes that came, of a broken input or of one that ended
+unfoldable pub read-input : Bool → List ℕ → Input
+unfolding read-text count
+read-input true bytes = broke-off bytes (read-text bytes)
+read-input false bytes = read-text bytes

@@ -1,11 +1,12 @@
--- Main as one function from input bytes to output bytes. Assumes nothing.
+-- Main as one function from the bytes that came, and whether the input is broken, to output bytes. Assumes nothing.
 use Prim.Native.Nat.{ℕ}
+use mathlib.Core.Bool.{Bool}
 use mathlib.Core.List.{List}
 use lib.Dec.{ltb}
 use lib.ListN.{length, replicate}
 use Rattle.words.specs.Basics.{pick}
 use Rattle.planning.specs.Planning.{Answer, planned, refusal, plan-answer, plan-slots}
-use Rattle.text.specs.Reading.{Input, input, malformed, read-text}
+use Rattle.text.specs.Reading.{Input, input, malformed, read-input}
 use Rattle.text.specs.Printing.{Report, plan, refused, printed, plan-lines, refusal-line}
 
 -- Main lends 4,096 slot entries and 16,384 scratch words.
@@ -27,13 +28,14 @@ input-report (input P list) =
 input-report (malformed n) = refused 10 n
 
 -- 11 precedes 10, which precedes 1.
-unfoldable pub report : List ℕ → Report
-unfolding read-text
-report bytes =
-    let read = input-report (read-text bytes) in
+unfoldable pub report : Bool → List ℕ → Report
+unfolding read-input
+report broken bytes =
+    let read = input-report (read-input broken bytes) in
     pick (ltb 4096 (length bytes)) (refused 11 0) read
 
--- Main's output of its input.
-unfoldable pub text-output : List ℕ → List ℕ
+-- Main's output of the bytes that came. A broken input is one whose reading failed for good; of any other document 01 says what
+-- is printed.
+unfoldable pub text-output : Bool → List ℕ → List ℕ
 unfolding report plan-lines refusal-line
-text-output bytes = printed (report bytes)
+text-output broken bytes = printed (report broken bytes)

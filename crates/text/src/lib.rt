@@ -1,4 +1,5 @@
-// Main as one function from the bytes of its input to the bytes of its output. The program around it only reads and writes.
+// Main as one function from the bytes that came of its input to the bytes of its output. The program around it only reads and
+// writes.
 mod parsing; // parsing.rt: what main reads
 mod putting; // putting.rt: what main prints
 
@@ -27,19 +28,29 @@ fn plan_output(p: u16, list: &[u16], output: &mut [u8; 1801]) -> usize
     }
 }
 
-// Main on any input: the first bytes of the output are what it prints, the later ones stay, and it gives how many it prints. It
-// asks nothing of its caller, since main never prints more than 1,801 bytes, and a list that is read from at most 4,096 bytes has
-// no more than 4,096 numbers. The last clause follows from the others, and spares callers that take the printed bytes a proof.
-pub fn text_output(input: &[u8], output: &mut [u8; 1801]) -> usize
-    ensures count { λ r. ⌜ r ≡ length (text-output (now (input .entry))) ⌝ }
-    ensures bytes { λ r. ⌜ now (output .exit) ≡ text-output (now (input .entry)) ++ drop r (now (output .entry)) ⌝ }
+// What came of main's input: how many bytes, and whether it is broken, that is, reading failed for good before the input ended.
+pub struct Came {
+    pub count: usize,
+    pub broken: bool,
+}
+
+// Main on any input, of which the first bytes of the array came: the first bytes of the output are what it prints, the later ones
+// stay, and it gives how many it prints. It asks nothing of its caller: a count above 4,097 is the whole array, main never prints
+// more than 1,801 bytes, and a list that is read from at most 4,096 bytes has no more than 4,096 numbers. The array has one byte
+// more than main takes, so that a longer input is seen to be longer. The last clause follows from the others, and spares callers
+// that take the printed bytes a proof.
+pub fn text_output(input: &[u8; 4097], came: Came, output: &mut [u8; 1801]) -> usize
+    ensures count { λ r. ⌜ r ≡ length (text-output (came .broken) (take (came .count) (now (input .entry)))) ⌝ }
+    ensures bytes { λ r. ⌜ now (output .exit) ≡ text-output (came .broken) (take (came .count) (now (input .entry))) ++ drop r (now (output .entry)) ⌝ }
     ensures inside { λ r. ⌜ (r ≤ length (now (output .exit))) × (r ≡ length (take r (now (output .exit)))) ⌝ }
 {
-    if 4096 < input.len() {
+    let all: &[u8] = input; // parts are taken of slices
+    let count = came.count;
+    if 4096 < count {
         return putting::put_refusal(11, 0, output);
     }
     let mut list = [0u16; 4096];
-    let read = parsing::read_text(input, &mut list);
+    let read = parsing::read_input(&all[..count], came.broken, &mut list);
     match read {
         ReadInput::Input(p, count) => plan_output(p, &list[..count], output),
         ReadInput::Malformed(n) => putting::put_refusal(10, n, output),

@@ -3,7 +3,7 @@ ghost use mathlib.Core.Path.{_≡_};
 ghost use Prim.Native.Nat.{_+_, _<_, _≤_};
 ghost use lib.ListN.{length, set};
 ghost use Rattle.text.specs.Ascii.{«line-feed»};
-ghost use Rattle.text.specs.Reading.{parts, «digits-value», number, «end-of», «appointment-of», «read-lines», «read-text»};
+ghost use Rattle.text.specs.Reading.{parts, «digits-value», number, «end-of», «appointment-of», «read-lines», «read-text», «read-input»};
 ghost use Rattle.text.specs.Told.{«First-at», «value-of», «ends-of», «Next-line», «Read-as»};
 
 // The value of a text, or nothing if it is malformed.
@@ -167,7 +167,7 @@ fn read_lines(p: u16, bytes: &[u8], list: &mut [u16]) -> ReadInput
 
 // Main's input: P and, in the first numbers of the list, the list; or the first malformed line. The list has two numbers for
 // each line and a line two bytes at least, so a list as long as the input is long enough.
-pub(crate) fn read_text(input: &[u8], list: &mut [u16]) -> ReadInput
+fn read_text(input: &[u8], list: &mut [u16]) -> ReadInput
     requires { ⌜ length (now input) ≤ length (now list) ⌝ }
     ensures { λ r. ⌜ Read-as (read-text (now (input .entry))) r (now (list .entry)) (now (list .exit)) ⌝ }
 {
@@ -180,4 +180,20 @@ pub(crate) fn read_text(input: &[u8], list: &mut [u16]) -> ReadInput
         return ReadInput::Malformed(1);
     };
     read_lines(p as u16, &input[end + 1..], list)
+}
+
+// The same of the bytes that came of an input that may be broken: no list is read of a broken one. Where its lines are all well
+// formed, each but the first gave two numbers of the list, and it broke off in the line behind them.
+pub(crate) fn read_input(bytes: &[u8], broken: bool, list: &mut [u16]) -> ReadInput
+    requires { ⌜ length (now bytes) ≤ length (now list) ⌝ }
+    ensures { λ r. ⌜ Read-as (read-input broken (now (bytes .entry))) r (now (list .entry)) (now (list .exit)) ⌝ }
+{
+    let read = read_text(bytes, list);
+    let ReadInput::Input(p, count) = read else {
+        return read;
+    };
+    if broken {
+        return ReadInput::Malformed(count / 2 + 2);
+    }
+    ReadInput::Input(p, count)
 }

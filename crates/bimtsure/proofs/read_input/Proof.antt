@@ -1,0 +1,34 @@
+-- `read_input` is safe and ends: a turn brings bytes, of which at most 4,097 come, or is a failed try, of which there are a
+-- million. Assumes nothing.
+use Prim.Native.Nat.{_+_, _-_, _≤_}
+use native.Mathlib.Omega.{arith}
+use borrow.Author.Tests.{ltb-true}
+use borrow.Author.Needs.{needs}
+use Rattle.bimtsure.proofs.read_input.Statement.{statement}
+use Rattle.bimtsure.proofs.read_input.Tie as tie
+
+abbrev Inv-loop : tie.InvT-loop
+Inv-loop input₀ count₀ tries₀ input count tries = count ≤ 4097
+
+abbrev μ-loop : tie.MeasureT-loop
+μ-loop input₀ count₀ tries₀ input count tries = 4097 - count + tries
+
+loop-less : tie.Need-loop-less Inv-loop μ-loop
+loop-less c = omega (arith, ltb-true)
+
+pub read-input-spec : {M : Type 1} → statement M
+read-input-spec =
+    tie.close
+    (tie.spec
+    Inv-loop
+    μ-loop
+    (λ c. search needs)
+    (λ c κs. search needs)
+    (λ c. search needs)
+    loop-less
+    (λ c. search needs)
+    (λ c. search needs)
+    (λ c. search needs)
+    (λ c. search needs)
+    (λ c. search needs)
+    (λ c. search needs))
