@@ -1,5 +1,6 @@
 // The program: reads standard input, and writes to standard output what the text crate makes of it. What is read and written no
 // contract can say, so these lines are kept few (docs/PROVED.md says which of them are trusted).
+use libc::STDERR_FILENO;
 use libc::STDIN_FILENO;
 use libc::STDOUT_FILENO;
 use text::Came;
@@ -56,5 +57,8 @@ fn main() {
     let came = read_input(&mut input);
     let mut output = [0u8; 1801];
     let count = text::text_output(&input, came, &mut output);
-    io::write_all(STDOUT_FILENO, &output[..count]);
+    let is_written = io::write_all(STDOUT_FILENO, &output[..count]);
+    if !is_written {
+        io::write_all(STDERR_FILENO, b"bimtsure: the output can't be written\n");
+    }
 }
