@@ -1,11 +1,12 @@
 //! Throws bytes at the program and at reading a filed plan for a while. Each must end with an answer, and that of the second
-//! versions: main_text.rs for the program, and desk.rs for reading. What is read is also written again.
+//! versions: main_text.rs for the program, and desk.rs for reading. What is read is also written again. First come inputs of
+//! exactly as many bytes as main takes, and of one more: no contract says how many bytes main reads.
 
 use crate::bimtsure::{self, Filed};
 use crate::desk_calls::{self, noise, Reading};
 use crate::filed_inputs::FiledInputs;
 use crate::format::write_bytes;
-use crate::main_inputs::Inputs;
+use crate::main_inputs::{self, Inputs};
 use crate::main_text::{self, MOST_BYTES};
 use crate::program::{self, Piece};
 use crate::random::Random;
@@ -46,9 +47,7 @@ struct Counts {
 
 /// For that many seconds. An error has the first input that is answered otherwise or not at all.
 pub fn throw(seconds: usize, seed: u64) -> Result<(), String> {
-    if !Path::new(PROGRAM).exists() {
-        return Err(format!("{PROGRAM} is missing here: `rt check bimtsure` writes it"));
-    }
+    program_is_there()?;
     reference::silence_panics();
     let until = Instant::now().checked_add(Duration::from_secs(seconds as u64));
     let until = until.ok_or_else(|| format!("{seconds} seconds are too many"))?;
@@ -56,9 +55,10 @@ pub fn throw(seconds: usize, seed: u64) -> Result<(), String> {
     let mut random = Random::new(seed.rotate_left(32));
     let watch = Watch::start(program::LIMIT);
     let mut counts = Counts::default();
+    throw_exact_lengths(&mut counts)?;
     while Instant::now() < until {
         let input = inputs.next();
-        run_main(&input, &mut random, &mut counts).map_err(|error| told(PROGRAM, &input, &error))?;
+        run_main(&input, &pieces(&input, &mut random), &mut counts)?;
         for _ in 0..READINGS {
             let bytes = filed_inputs.next();
             watch.begin(&bytes);
@@ -71,15 +71,36 @@ pub fn throw(seconds: usize, seed: u64) -> Result<(), String> {
     counts.check_kinds(seconds)
 }
 
+pub fn program_is_there() -> Result<(), String> {
+    match Path::new(PROGRAM).exists() {
+        true => Ok(()),
+        false => Err(format!("{PROGRAM} is missing here: `rt check bimtsure` writes it")),
+    }
+}
+
 fn told(what: &str, input: &[u8], error: &str) -> String {
     format!("{what}, {} bytes (hexadecimal):\n{}\n{error}", input.len(), write_bytes(input))
 }
 
-/// One run of the program.
-fn run_main(input: &[u8], random: &mut Random, counts: &mut Counts) -> Result<(), String> {
-    let pieces = pieces(input, random);
+/// Inputs of 4,096 and 4,097 bytes, each as a whole, and with its last byte alone.
+fn throw_exact_lengths(counts: &mut Counts) -> Result<(), String> {
+    for (input, _) in main_inputs::of_the_most_bytes().into_iter().chain(main_inputs::of_one_byte_more()) {
+        let (front, last) = input.split_at(input.len() - 1);
+        let pause = Duration::from_millis(1);
+        run_main(&input, &[Piece { bytes: &input, pause }], counts)?;
+        run_main(&input, &[Piece { bytes: front, pause }, Piece { bytes: last, pause }], counts)?;
+    }
+    Ok(())
+}
+
+/// One run of the program, which is fed the input in pieces.
+fn run_main(input: &[u8], pieces: &[Piece], counts: &mut Counts) -> Result<(), String> {
+    answer_of_main(input, pieces, counts).map_err(|error| told(PROGRAM, input, &error))
+}
+
+fn answer_of_main(input: &[u8], pieces: &[Piece], counts: &mut Counts) -> Result<(), String> {
     let expected = main_text::output(input);
-    let ended = program::run(PROGRAM, &pieces)?;
+    let ended = program::run(PROGRAM, pieces)?;
     if !ended.status.success() || ended.output != expected.text.as_bytes() {
         let answered = String::from_utf8_lossy(&ended.output);
         return Err(format!("expected\n{}answered ({})\n{answered}", expected.text, ended.status));

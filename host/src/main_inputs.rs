@@ -236,6 +236,36 @@ fn of_a_length(inputs: &mut Inputs) -> Vec<u8> {
     text
 }
 
+/// Inputs of exactly as many bytes as main takes, each with the number that must come: lists without a malformed line, which the
+/// planning call refuses (4,096 bytes have far more lines than main's scratch has room for), and malformed ones.
+pub fn of_the_most_bytes() -> Vec<(Vec<u8>, u8)> {
+    let list = |first: &str, last: &str, number: u8| (filled(first, last, MOST_BYTES), number);
+    vec![
+        list("002\n", "0,1\n", 8),
+        list("009\n", "0,1\n", 6),
+        list("002\n", "10,\n", 4),
+        list("002\n", "0,2\n", 5),
+        list("1025\n", "00,001\n", 1),
+        list("2\n", "0,", 10),
+        list("2\n", "0\n", 10),
+        (vec![b'0'; MOST_BYTES], 10),
+        (vec![b'\n'; MOST_BYTES], 10),
+    ]
+}
+
+/// The same with one byte more, a zero before them: 11, also of those that have no malformed line.
+pub fn of_one_byte_more() -> Vec<(Vec<u8>, u8)> {
+    of_the_most_bytes().into_iter().map(|(input, _)| ([b"0".as_slice(), &input].concat(), 11)).collect()
+}
+
+/// Lines `0,1` between a first and a last one, up to that length.
+fn filled(first: &str, last: &str, length: usize) -> Vec<u8> {
+    const LINE: &str = "0,1\n";
+    let left = length - first.len() - last.len();
+    assert_eq!(left % LINE.len(), 0, "whole lines fit between {first:?} and {last:?}");
+    [first, &LINE.repeat(left / LINE.len()), last].concat().into_bytes()
+}
+
 /// A length at which main's answer can turn, or a far larger one.
 fn length(random: &mut Random) -> usize {
     let far = random.between(MOST_BYTES, 1 << 18);
@@ -252,4 +282,19 @@ fn noise(random: &mut Random) -> Vec<u8> {
         _ => MIXED[random.below(MIXED.len())],
     };
     (0..length).map(|_| byte()).collect()
+}
+
+#[cfg(test)]
+mod tests {
+    use super::*;
+    use crate::main_text;
+
+    #[test]
+    fn inputs_of_exact_lengths_are_answered_as_they_say() {
+        for (length, inputs) in [(MOST_BYTES, of_the_most_bytes()), (MOST_BYTES + 1, of_one_byte_more())] {
+            for (input, number) in inputs {
+                assert_eq!((input.len(), main_text::output(&input).number), (length, number));
+            }
+        }
+    }
 }
