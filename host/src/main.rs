@@ -1,6 +1,8 @@
 //! Runs rustworkx-core's `bipartite_edge_color` on lists of appointments, makes random lists, has the definitions computed on
 //! lists with the Rust's fresh answers, compares our exported calls with the Rust's, makes them between unreadable pages, times
 //! the planning call beside it, and throws bytes at the program.
+//! lists with the Rust's fresh answers, compares our exported calls with the Rust's, times the planning call beside it,
+//! throws bytes at the program and feeds it late.
 
 mod answer;
 mod bench;
@@ -22,6 +24,7 @@ mod main_changes;
 mod main_inputs;
 mod main_text;
 mod needs;
+mod pieces;
 mod plan;
 mod plan_counts;
 mod program;
@@ -95,6 +98,9 @@ bimtsure-host bytes SECONDS SEED
     throw bytes, which SEED decides, at the program and at reading a filed plan for so long: lists, damaged ones and noise; each
     must end with the answer of main_text.rs or desk.rs, or its bytes are printed; from 60 seconds on, each kind of answer must
     come; from the repository's root, after `rt check bimtsure`
+bimtsure-host pieces
+    feed the program its input late, break it off, and let its writes fail: it must print the whole plan or a refusal; as `bytes`,
+    after `rt check bimtsure`
 bimtsure-host bench
     time our planning call beside the Rust on the same lists
 bimtsure-host stack
@@ -124,6 +130,7 @@ fn main() -> ExitCode {
         ["plan", count, seed] => compare(plan::compare, count, seed),
         ["guard", count, seed] => compare(guard::run, count, seed),
         ["bytes", seconds, seed] => compare(bytes::throw, seconds, seed),
+        ["pieces"] => pieces::check(),
         ["bench"] => bench::run(1),
         ["stack"] => stack::measure(),
         ["stored", count, seed] => print_stored(count, seed, MOST_STORED),

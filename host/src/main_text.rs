@@ -1,5 +1,6 @@
 //! Main once more, in Rust and after document 01's text, with no line taken from the definitions or the code: from input to
-//! output bytes. The program is compared with this. Checks 1 to 8 are those of list.rs, and the slots are the Rust's.
+//! output bytes, and what is printed of a broken input. The program is compared with this. Checks 1 to 8 are those of list.rs,
+//! and the slots are the Rust's.
 
 use crate::answer::{self, Answer};
 use crate::list::{List, Refusal, BLANK};
@@ -29,6 +30,19 @@ pub fn output(input: &[u8]) -> Printed {
             Printed { text: refusal_text(refusal), number: refusal.number, second: false }
         }
     }
+}
+
+/// What main prints where reading fails for good behind these bytes: 11 if there are more than 4,096; else 10 with the first
+/// malformed line among those that ended, or else 1 plus the number of line feeds.
+pub fn broken_output(came: &[u8]) -> String {
+    if came.len() > MOST_BYTES {
+        return refusal_text(Refusal { number: 11, place: 0 });
+    }
+    let ended: Vec<&[u8]> =
+        came.split_inclusive(|&byte| byte == b'\n').filter_map(|line| line.strip_suffix(b"\n")).collect();
+    let well_formed = |at: usize| if at == 0 { number(ended[0]).is_some() } else { appointment(ended[at]).is_some() };
+    let malformed = (0..ended.len()).find(|&at| !well_formed(at));
+    refusal_text(Refusal { number: 10, place: 1 + malformed.unwrap_or(ended.len()) })
 }
 
 /// The list with its answer, and whether it is by the second search.
@@ -138,6 +152,24 @@ mod tests {
         prints("2\n0,1\n0,65534\n", "refused 5 1\n");
         prints("129\n", "refused 8 0\n");
         prints("1\n0,0\n", "refused 9 0\n");
+    }
+
+    #[test]
+    fn a_broken_input_is_refused() {
+        let of_length = |length: usize| broken_output(&vec![0; length]);
+        assert_eq!(of_length(MOST_BYTES + 1), "refused 11 0\n");
+        assert_eq!(of_length(MOST_BYTES), "refused 10 1\n");
+        let by_place: [(usize, &[&str]); 4] = [
+            (1, &["", "3", "\n", "x\n0,1\n", "3\r\n0,1\n"]),
+            (2, &["3\n", "3\n0", "3\n0,1", "3\nx", "3\n0\n0,1\n", "3\n\n"]),
+            (3, &["3\n0,1\n", "3\n0,1\n1,2", "3\n0,1\n1\n1,2\n", "1025\n,\n"]),
+            (4, &["3\n0,1\n1,2\n", "3\n0,1\n1,2\n,,"]),
+        ];
+        for (place, inputs) in by_place {
+            for input in inputs {
+                assert_eq!(broken_output(input.as_bytes()), format!("refused 10 {place}\n"), "{input:?}");
+            }
+        }
     }
 
     #[test]
