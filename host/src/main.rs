@@ -1,8 +1,6 @@
 //! Runs rustworkx-core's `bipartite_edge_color` on lists of appointments, makes random lists, has the definitions computed on
-//! lists with the Rust's fresh answers, compares our exported calls with the Rust's, makes them between unreadable pages, times
-//! the planning call beside it, and throws bytes at the program.
-//! lists with the Rust's fresh answers, compares our exported calls with the Rust's, times the planning call beside it,
-//! throws bytes at the program and feeds it late.
+//! lists with the Rust's fresh answers, compares our exported calls with the Rust's, makes them between unreadable pages and on
+//! a measured stack, times the planning call beside the Rust, throws bytes at the program and feeds it late.
 
 mod answer;
 mod bench;
