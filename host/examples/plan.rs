@@ -20,7 +20,8 @@ fn main() {
         std::process::exit(2);
     };
     let mut slots = vec![0; list.len() / 2];
-    let mut scratch = vec![0; bimtsure::SCRATCH_WORDS];
+    // none for a list that is refused, which planning refuses too
+    let mut scratch = vec![0; bimtsure::needs(p, list).words as usize];
     let answer = bimtsure::plan(p, list, &mut slots, &mut scratch);
     if answer.number != 0 {
         println!("refused {} {}", answer.number, answer.place);

@@ -76,7 +76,7 @@ class Plan(NamedTuple):
 
 
 class Needs(NamedTuple):
-    """D, and W, the words of scratch that planning works in."""
+    """D, and the words of scratch that planning needs."""
 
     d: int
     words: int
@@ -207,18 +207,18 @@ _library = _load()
 
 def plan(parties, appointments):
     """The plan of a list: D and the slots. Refuses by 1, 3 to 6 and 9."""
-    ends = _checked_list(appointments)
+    p, ends = _checked_p(parties), _checked_list(appointments)
+    needed = _library.bimtsure_needs(p, ends, len(ends))
+    _accept(needed)
     slots = (c_uint16 * (len(ends) // 2))()
-    scratch = (c_uint32 * SCRATCH_WORDS)()
-    answer = _library.bimtsure_plan(
-        _checked_p(parties), ends, len(ends), slots, len(slots), scratch, len(scratch)
-    )
+    scratch = (c_uint32 * needed.words)()
+    answer = _library.bimtsure_plan(p, ends, len(ends), slots, len(slots), scratch, len(scratch))
     _accept(answer)
     return Plan(answer.d, list(slots))
 
 
 def needs(parties, appointments):
-    """D of a list, and how many words planning it takes. Refuses by 1 and 3 to 6."""
+    """D, and the words of scratch that planning needs. Refuses by 1 and 3 to 6."""
     ends = _checked_list(appointments)
     answer = _library.bimtsure_needs(_checked_p(parties), ends, len(ends))
     _accept(answer)

@@ -84,6 +84,8 @@ class Answers(unittest.TestCase):
             self.assertEqual(list(bimtsure.view(appointments, slots, party)), expected)
             if all(end is not None and end < parties for end in named) and parties > 0:
                 largest = max((load(appointments, other) for other in set(named)), default=0)
+                if largest * parties <= 8192:
+                    self.assertEqual(bimtsure.needs(parties, appointments), (largest, 128 * parties * (largest + 1)))
                 party = chance.randrange(parties)
                 self.assertEqual(bimtsure.waiting(parties, appointments, party), largest - load(appointments, party))
 
@@ -116,19 +118,13 @@ class Calls(Trying):
 
     def test_the_example(self):
         self.assertEqual(bimtsure.plan(3, EXAMPLE), Plan(2, [0, 1]))
+        self.assertEqual(bimtsure.needs(3, EXAMPLE), (2, 128 * 3 * 3))
         self.assertEqual([bimtsure.waiting(3, EXAMPLE, party) for party in range(3)], [1, 0, 1])
         self.assertEqual(list(bimtsure.view(EXAMPLE, [0, 1], 1)), [(0, 0), (1, 1)])
         filed = bytes([3, 0, 2, 0, 0, 0, 1, 0, 0, 0, 1, 0, 2, 0, 1, 0])
         self.assertEqual(bimtsure.file_plan(3, EXAMPLE, [0, 1]), filed)
         self.assertEqual(bimtsure.read_plan(filed), (3, EXAMPLE, [0, 1]))
         self.assertEqual(bimtsure.read_plan(bytearray(filed)), (3, EXAMPLE, [0, 1]))
-
-    def test_how_much_scratch(self):
-        # document 01's W, 128*P*(D+1), at its limits
-        self.assertEqual(bimtsure.needs(3, EXAMPLE), (2, 128 * 3 * 3))
-        self.assertEqual(bimtsure.needs(0, []), (0, 0))
-        self.assertEqual(bimtsure.needs(2, [(0, 1)] * 4096), (4096, 128 * 2 * 4097))
-        self.assertEqual(bimtsure.needs(1024, [(0, 1)] * 8), (8, bimtsure.SCRATCH_WORDS))
 
     def test_the_shape_of_rustworkx(self):
         edges = [(0, 1), (1, 2), (2, 3), (3, 0)]
@@ -137,17 +133,17 @@ class Calls(Trying):
         with self.assertRaises(GraphNotBipartite):
             bimtsure.graph_bipartite_edge_color(3, [(0, 1), (1, 2), (2, 0)])
 
-    def test_refusals_of_the_planning_call(self):
-        plan = bimtsure.plan
-        self.refused(1, 0, plan, 1025, [])
-        self.refused(3, 0, plan, 2, [(0, 1)] * 4097)
-        said = self.refused(4, 6, plan, 2, [(0, 1)] * 6 + [(0, None)])
-        self.assertEqual(said, "appointment 6: an end is blank")
-        said = self.refused(5, 1, plan, 2, [(0, 1), (2, 1)])
-        self.assertEqual(said, "appointment 1: an end is not below the number of parties")
-        self.refused(6, 0, plan, 3, [(0, 1)] * 2731)
-        self.assertEqual(plan(3, [(0, 1)] * 2730).d, 2730)
-        self.refused(9, 0, plan, 1, [(0, 0)])
+    def test_refusals_of_the_planning_call_and_of_needs(self):
+        for call in [bimtsure.plan, bimtsure.needs]:
+            self.refused(1, 0, call, 1025, [])
+            self.refused(3, 0, call, 2, [(0, 1)] * 4097)
+            said = self.refused(4, 6, call, 2, [(0, 1)] * 6 + [(0, None)])
+            self.assertEqual(said, "appointment 6: an end is blank")
+            said = self.refused(5, 1, call, 2, [(0, 1), (2, 1)])
+            self.assertEqual(said, "appointment 1: an end is not below the number of parties")
+            self.refused(6, 0, call, 3, [(0, 1)] * 2731)
+            self.assertEqual(call(3, [(0, 1)] * 2730)[0], 2730)
+        self.refused(9, 0, bimtsure.plan, 1, [(0, 0)])
 
     def test_refusals_of_the_desks_calls(self):
         said = self.refused(5, 0, bimtsure.waiting, 3, EXAMPLE, 3)
@@ -155,11 +151,6 @@ class Calls(Trying):
         said = self.refused(5, 0, bimtsure.waiting, 3, [(0, 9)], 3)
         self.assertEqual(said, "appointment 0: an end is not below the number of parties")
         self.refused(4, 1, bimtsure.waiting, 3, [(0, 1), (None, 2)], 0)
-        self.refused(1, 0, bimtsure.needs, 65537, [])
-        self.refused(3, 0, bimtsure.needs, 2, [(0, 1)] * 4097)
-        self.refused(4, 1, bimtsure.needs, 3, [(0, 1), (None, 2)])
-        self.refused(5, 1, bimtsure.needs, 2, [(0, 1), (65536, 1)])
-        self.refused(6, 0, bimtsure.needs, 3, [(0, 1)] * 2731)
         self.refused(7, 0, bimtsure.view, EXAMPLE, [0], 1)
         self.refused(1, 0, bimtsure.file_plan, 1025, EXAMPLE, [0, 1])
         self.refused(3, 0, bimtsure.file_plan, 3, [(0, 1)] * 4097, [0] * 4097)
@@ -203,6 +194,7 @@ class Mistakes(Trying):
         for end in [65534, 65535, 65536, 65537, 1 << 32, 1 << 64, 10**30]:
             self.refused(5, 1, bimtsure.plan, 2, [(0, 1), (0, end), (0, end)])
             self.refused(5, 1, bimtsure.plan, 2, [(0, 1), (end, 0)])
+            self.refused(5, 1, bimtsure.needs, 2, [(0, 1), (end, 0)])
             self.refused(4, 2, bimtsure.plan, 2, [(0, 1), (0, end), (0, None)])
             self.refused(1, 0, bimtsure.plan, 1025, [(0, 1), (0, end)])
             self.refused(5, 1, bimtsure.waiting, 2, [(0, 1), (0, end)], 0)
@@ -215,6 +207,7 @@ class Mistakes(Trying):
     def test_parties_that_16_bits_would_cut(self):
         for parties in [1025, 65535, 65536, 65537, 65538, 1 << 32, (1 << 64) + 2]:
             self.refused(1, 0, bimtsure.plan, parties, EXAMPLE[:1])
+            self.refused(1, 0, bimtsure.needs, parties, EXAMPLE[:1])
             self.refused(1, 0, bimtsure.waiting, parties, EXAMPLE[:1], 0)
             self.refused(1, 0, bimtsure.file_plan, parties, EXAMPLE[:1], [0])
             self.refused(1, 0, bimtsure.graph_bipartite_edge_color, parties, EXAMPLE[:1])
@@ -236,6 +229,7 @@ class Mistakes(Trying):
         for value in [True, False, 1.0, 0.5, float("nan"), "1", "", b"1", [1], (0, 1), object()]:
             self.wrong(TypeError, bimtsure.plan, value, [])
             self.wrong(TypeError, bimtsure.plan, 2, [(0, value)])
+            self.wrong(TypeError, bimtsure.needs, value, [])
             self.wrong(TypeError, bimtsure.waiting, 2, EXAMPLE[:1], value)
             self.wrong(TypeError, bimtsure.view, EXAMPLE, [0, value], 1)
             self.wrong(TypeError, bimtsure.view, EXAMPLE, [0, 1], value)

@@ -16,17 +16,20 @@ use Rattle.words.specs.Words.{word}
 use Rattle.words.proofs.Sums.{count-le}
 use Rattle.appointments.specs.Appointments.{Appt, appt, appts, load, largest-load, scratch-words}
 use Rattle.appointments.specs.Checks.{First, at, nowhere, first-from, has-blank, has-unlisted, Check, passed, refused, bar, bar-at, check-slots, checks-1-to-5, checks-1-to-6, checks, check-ends}
-use Rattle.appointments.specs.Needed.{needed, needs-answer, scratch-enough}
+use Rattle.appointments.specs.Answers.{accepted}
+use Rattle.appointments.specs.Answers as answers
+use Rattle.appointments.specs.Needed.{needing, needs-answer, needed-of, scratch-enough}
 use Rattle.appointments.specs.Checked.{found, checked, largest-word, Words-fit}
 use Rattle.appointments.specs.declared.Found.{Found}
 use Rattle.appointments.specs.declared.Found.the-variants.{At, Nowhere}
-use Rattle.appointments.specs.declared.Checked.{Checked}
-use Rattle.appointments.specs.declared.Checked.the-variants.{Passed, Refused}
+use Rattle.appointments.specs.declared.Answered.{Answered}
+use Rattle.appointments.specs.declared.Answered.the-variants.{Accepted, Refused}
 use Rattle.appointments.specs.declared.Needed.the-variants as needs
 use Rattle.appointments.proofs.Loads.{largest-load-le, appts-length}
 use Rattle.appointments.proofs.ChecksLaws.{good-goes-on, sized-goes-on, passed-good, passed-sized}
 use Rattle.appointments.proofs.Causes.{never-refused, refused-cause, cause-number}
 use Rattle.appointments.proofs.Enough.{words-enough, enough, needed-words}
+use Rattle.appointments.proofs.AnswerLaws.{refused-checked}
 use Rattle.appointments.proofs.Flat.{appts-count, load-count}
 
 pub zeros : (n v : ℕ) → word (replicate n 0) v ≡ 0
@@ -106,11 +109,11 @@ pub checked-refused : (c : Check) (d e n i : ℕ) → checked c d ≡ Refused n 
 checked-refused passed d e n i h = cc
 checked-refused (refused m j) d e n i h = h
 
-pub checked-passed : (c : Check) (d e : ℕ) → checked c d ≡ Passed e → c ≡ passed
+pub checked-passed : (c : Check) (d e : ℕ) → checked c d ≡ Accepted e → c ≡ passed
 checked-passed passed d e h = refl
 checked-passed (refused m j) d e h = cc
 
-pub checked-figure : (c : Check) (d e : ℕ) → checked c d ≡ Passed e → e ≡ d
+pub checked-figure : (c : Check) (d e : ℕ) → checked c d ≡ Accepted e → e ≡ d
 checked-figure passed d e h = cc
 checked-figure (refused m j) d e h = cc
 
@@ -205,11 +208,11 @@ module _ (P : ℕ) (list : List ℕ) (slots scratch : ℕ) where
 
 -- a code's answer to how much scratch a list needs
 module _ (P : ℕ) (list : List ℕ) where
-  pub needs-refused : (n i : ℕ) → checks-1-to-6 P list passed ≡ refused n i → needs.Refused n i ≡ needs-answer P list
+  pub needs-refused : (n i : ℕ) → checks-1-to-6 P list passed ≡ refused n i → needs.Refused n i ≡ needed-of (needs-answer P list)
   unfolding needs-answer
   needs-refused n i h = rw h
 
-  pub needs-words : (D : ℕ) → D ≡ largest-load P (appts list) → checks-1-to-6 P list passed ≡ passed → needs.Words D (scratch-words P D) ≡ needs-answer P list
+  pub needs-words : (D : ℕ) → D ≡ largest-load P (appts list) → checks-1-to-6 P list passed ≡ passed → needs.Words D (scratch-words P D) ≡ needed-of (needs-answer P list)
   unfolding needs-answer
   needs-words D e h = rw (h, e)
 
@@ -227,8 +230,8 @@ pub record Listed (P : ℕ) (list : List ℕ) (D : ℕ) : Type 0 where
   pub product : D * P ≤ 8388608
 
 pub listed :
-    (P : ℕ) (list : List ℕ) (D : ℕ) (told : Checked) →
-    told ≡ checked (checks-1-to-5 P list passed) (largest-load P (appts list)) → told ≡ Passed D → Listed P list D
+    (P : ℕ) (list : List ℕ) (D : ℕ) (told : Answered) →
+    told ≡ checked (checks-1-to-5 P list passed) (largest-load P (appts list)) → told ≡ Accepted D → Listed P list D
 listed P list D told e k =
     let h = sym e ∙ k in
     let ok = checked-passed (checks-1-to-5 P list passed) (largest-load P (appts list)) D h in
@@ -248,8 +251,8 @@ pub record Sized (P : ℕ) (list : List ℕ) (D : ℕ) : Type 0 where
   pub room : Words-fit P D
 
 pub sized :
-    (P : ℕ) (list : List ℕ) (D : ℕ) (told : Checked) →
-    told ≡ checked (checks-1-to-6 P list passed) (largest-load P (appts list)) → told ≡ Passed D → Sized P list D
+    (P : ℕ) (list : List ℕ) (D : ℕ) (told : Answered) →
+    told ≡ checked (checks-1-to-6 P list passed) (largest-load P (appts list)) → told ≡ Accepted D → Sized P list D
 sized P list D told e k =
     let h = sym e ∙ k in
     let ok = checked-passed (checks-1-to-6 P list passed) (largest-load P (appts list)) D h in
@@ -265,12 +268,8 @@ sized P list D told e k =
 
 -- ── how large the numbers of a list's needs are ──
 
-needed-refused : (c : Check) (d w n i : ℕ) → needed c d w ≡ needs.Refused n i → c ≡ refused n i
-needed-refused passed d w n i e = cc
-needed-refused (refused m j) d w n i e = cc
-
 module _ (P : ℕ) (list : List ℕ) where
-  pub needs-small : (D W : ℕ) → needs-answer P list ≡ needs.Words D W → (D ≤ 8192) × (W ≤ scratch-enough)
+  pub needs-small : (D W : ℕ) → needs-answer P list ≡ accepted (needing D W) → (D ≤ 8192) × (W ≤ scratch-enough)
   unfolding needs-answer
   needs-small D W e =
       let D₀ : ℕ = largest-load P (appts list) in
@@ -278,8 +277,8 @@ module _ (P : ℕ) (list : List ℕ) where
       let good = passed-sized P list passed (k .0) .0 in
       omega (arith, k .1, k .2, d-small P list (good-goes-on P list passed good), enough P list .words (k .0))
 
-  pub needs-refusal-small : (n i : ℕ) → needs-answer P list ≡ needs.Refused n i → (n ≤ 8) × (i ≤ 4096)
+  pub needs-refusal-small : (n i : ℕ) → needs-answer P list ≡ answers.refused n i → (n ≤ 8) × (i ≤ 4096)
   unfolding needs-answer
   needs-refusal-small n i e =
-      let h = needed-refused (checks-1-to-6 P list passed) _ _ n i e in
+      let h = refused-checked (checks-1-to-6 P list passed) _ n i e in
       omega (arith, cause-number (refused-cause P list 0 0 n i (all-refused P list 0 0 n i h)))

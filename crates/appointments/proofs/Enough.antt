@@ -1,13 +1,14 @@
 -- W is what check 8 asks, and 1,179,648 words are enough for every list that passes check 6. Assumes nothing.
 use Prim.Native.Nat.{ℕ, _+_, _*_, _<_, _≤_}
-use mathlib.Core.Path.{_≡_, refl}
+use mathlib.Core.Path.{_≡_, refl, ap}
 use mathlib.Core.List.{List}
 use native.Mathlib.Omega.{arith}
 use native.Mathlib.Nat.{mul-add, mul-assoc, mul-comm}
 use Rattle.appointments.specs.Appointments.{appts, largest-load, scratch-words}
 use Rattle.appointments.specs.Checks.{Check, passed, refused, checks-1-to-6, checks}
-use Rattle.appointments.specs.Needed.{needed, needs-answer, Asked, Exact, scratch-enough, Enough}
-use Rattle.appointments.specs.declared.Needed.the-variants as needs
+use Rattle.appointments.specs.Answers.{accepted, answer}
+use Rattle.appointments.specs.Needed.{needing, needs-answer, Asked, Exact, scratch-enough, Enough}
+use Rattle.appointments.proofs.AnswerLaws.{accepted-passed}
 use Rattle.appointments.proofs.ChecksLaws.{passes-passed, passed-sized}
 use Rattle.appointments.proofs.Causes.{Cause, many-parties, odd-length, many-appts, blank-end, unlisted-end, large-product, few-slots, small-scratch, cause-refused, refused-cause}
 
@@ -40,9 +41,10 @@ enough P list =
 
 -- ── the words that the call gives ──
 
-pub needed-words : (c : Check) (d w D W : ℕ) → needed c d w ≡ needs.Words D W → (c ≡ passed) × (d ≡ D) × (w ≡ W)
-needed-words passed d w D W e = (refl, cc, cc)
-needed-words (refused n i) d w D W e = (cc, cc, cc)
+pub needed-words : (c : Check) (d w D W : ℕ) → answer c (needing d w) ≡ accepted (needing D W) → (c ≡ passed) × (d ≡ D) × (w ≡ W)
+needed-words c d w D W e =
+    let k = accepted-passed c (needing d w) (needing D W) e in
+    (k .0, ap (λ n. n .d) (k .1), ap (λ n. n .words) (k .1))
 
 -- W is what check 8 asks.
 pub exact : (P : ℕ) (list : List ℕ) → Exact P list

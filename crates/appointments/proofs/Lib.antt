@@ -8,3 +8,4 @@ pub mod Causes
 pub mod Enough
 pub mod Flat
 pub mod Answering
+pub mod AnswerLaws

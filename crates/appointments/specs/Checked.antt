@@ -3,22 +3,21 @@ use Prim.Native.Nat.{ℕ, zero, suc, max, _≤_}
 use mathlib.Core.List.{List}
 use Rattle.words.specs.Words.{word}
 use Rattle.appointments.specs.Appointments.{scratch-words}
-use Rattle.appointments.specs.Checks.{First, at, nowhere, Check, passed, refused}
+use Rattle.appointments.specs.Checks.{First, at, nowhere, Check}
+use Rattle.appointments.specs.Answers.{answer, answered-of}
 use Rattle.appointments.specs.Needed.{scratch-enough}
 use Rattle.appointments.specs.declared.Found.{Found}
 use Rattle.appointments.specs.declared.Found.the-variants.{At, Nowhere}
-use Rattle.appointments.specs.declared.Checked.{Checked}
-use Rattle.appointments.specs.declared.Checked.the-variants.{Passed, Refused}
+use Rattle.appointments.specs.declared.Answered.{Answered}
 
 -- a first position as the code answers it
 abbrev pub found : First → Found
 found (at i) = At i
 found nowhere = Nowhere
 
--- what the checks came to as the code answers it: D where all passed, else the number and the place
-abbrev pub checked : Check → ℕ → Checked
-checked passed D = Passed D
-checked (refused number place) D = Refused number place
+-- what the checks came to as the code tells it: D where all passed, else the number and the place
+abbrev pub checked : Check → ℕ → Answered
+checked c D = answered-of (answer c D)
 
 -- the largest of the first p words
 unfoldable pub largest-word : ℕ → List ℕ → ℕ

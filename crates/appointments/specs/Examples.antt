@@ -6,9 +6,9 @@ use mathlib.Core.List.{List, [], _∷_}
 use Rattle.appointments.specs.Appointments.{appts, load, largest-load, scratch-words}
 use Rattle.appointments.specs.Plans.{different, meets}
 use Rattle.appointments.specs.Checks.{passed, refused, checks}
-use Rattle.appointments.specs.Needed.{needs-answer, number-of, place-of, figure-of, words-of, scratch-enough}
-use Rattle.appointments.specs.declared.Needed.{Needed}
-use Rattle.appointments.specs.declared.Needed.the-variants.{Words, Refused}
+use Rattle.appointments.specs.Answers.{Answer, accepted, number-of, place-of}
+use Rattle.appointments.specs.Answers as answers
+use Rattle.appointments.specs.Needed.{Needs, needing, needs-answer, d-of, words-of, scratch-enough}
 use Rattle.appointments.specs.Computing.{computing}
 
 -- the appointment 0-1, n times
@@ -115,40 +115,40 @@ scratch-383 = refl
 -- ── how much scratch a list needs ──
 
 -- P 2 with D 4,096: W is 128 × 2 × 4,097
-pub needs-4096 : needs-answer 2 (again 4096) ≡ Words 4096 1048832
+pub needs-4096 : needs-answer 2 (again 4096) ≡ accepted (needing 4096 1048832)
 unfolding computing again
 needs-4096 = refl
 
 -- P 3 with D 2,730, and 2,731 gives 6
-pub needs-2730 : needs-answer 3 (again 2730) ≡ Words 2730 1048704
+pub needs-2730 : needs-answer 3 (again 2730) ≡ accepted (needing 2730 1048704)
 unfolding computing again
 needs-2730 = refl
 
-pub needs-2731 : needs-answer 3 (again 2731) ≡ Refused 6 0
+pub needs-2731 : needs-answer 3 (again 2731) ≡ answers.refused 6 0
 unfolding computing again
 needs-2731 = refl
 
 -- P 1,024 with D 8 needs all of the scratch that is enough for every list, and 9 gives 6
-pub needs-8 : needs-answer 1024 (again 8) ≡ Words 8 scratch-enough
+pub needs-8 : needs-answer 1024 (again 8) ≡ accepted (needing 8 scratch-enough)
 unfolding computing again
 needs-8 = refl
 
-pub needs-9 : needs-answer 1024 (again 9) ≡ Refused 6 0
+pub needs-9 : needs-answer 1024 (again 9) ≡ answers.refused 6 0
 unfolding computing again
 needs-9 = refl
 
 -- without parties no words are needed; without appointments 128 for each party
-pub needs-nothing : needs-answer 0 [] ≡ Words 0 0
+pub needs-nothing : needs-answer 0 [] ≡ accepted (needing 0 0)
 unfolding computing
 needs-nothing = refl
 
-pub needs-empty : needs-answer 3 [] ≡ Words 0 384
+pub needs-empty : needs-answer 3 [] ≡ accepted (needing 0 384)
 unfolding computing
 needs-empty = refl
 
 -- number, place, D and W of an answer
-abbrev four : Needed → List ℕ
-four a = number-of a ∷ place-of a ∷ figure-of a ∷ words-of a ∷ []
+abbrev four : Answer Needs → List ℕ
+four a = number-of a ∷ place-of a ∷ d-of a ∷ words-of a ∷ []
 
 pub needs-figures : four (needs-answer 2 (0 ∷ 1 ∷ [])) ≡ (0 ∷ 0 ∷ 1 ∷ 512 ∷ [])
 unfolding computing
@@ -159,22 +159,22 @@ unfolding computing
 needs-no-figures = refl
 
 -- a blank end, an end not below P, and the checks before them
-pub needs-blank : needs-answer 2 (0 ∷ 1 ∷ 2 ∷ 65535 ∷ []) ≡ Refused 4 1
+pub needs-blank : needs-answer 2 (0 ∷ 1 ∷ 2 ∷ 65535 ∷ []) ≡ answers.refused 4 1
 unfolding computing
 needs-blank = refl
 
-pub needs-unlisted : needs-answer 2 (0 ∷ 1 ∷ 0 ∷ 2 ∷ []) ≡ Refused 5 1
+pub needs-unlisted : needs-answer 2 (0 ∷ 1 ∷ 0 ∷ 2 ∷ []) ≡ answers.refused 5 1
 unfolding computing
 needs-unlisted = refl
 
-pub needs-1025 : needs-answer 1025 (0 ∷ []) ≡ Refused 1 0
+pub needs-1025 : needs-answer 1025 (0 ∷ []) ≡ answers.refused 1 0
 unfolding computing
 needs-1025 = refl
 
-pub needs-odd : needs-answer 0 (0 ∷ []) ≡ Refused 2 0
+pub needs-odd : needs-answer 0 (0 ∷ []) ≡ answers.refused 2 0
 unfolding computing
 needs-odd = refl
 
-pub needs-4097 : needs-answer 0 (again 4097) ≡ Refused 3 0
+pub needs-4097 : needs-answer 0 (again 4097) ≡ answers.refused 3 0
 unfolding computing again
 needs-4097 = refl

@@ -2,6 +2,7 @@ pub mod Appointments
 pub mod Rounds
 pub mod Plans
 pub mod Checks
+pub mod Answers
 pub mod Needed
 pub mod Checked
 pub mod Computing

@@ -7,7 +7,7 @@ ghost use Rattle.words.specs.Words.{word, «put-word»};
 ghost use Rattle.appointments.specs.Appointments.{appts, «largest-load», «scratch-words»};
 ghost use Rattle.appointments.specs.Checks.{«first-from», «has-unlisted», «check-ends», «checks-1-to-5», «checks-1-to-6», checks, passed};
 ghost use Rattle.appointments.specs.Checked.{found, checked, «largest-word», «Words-fit»};
-ghost use Rattle.appointments.specs.Needed.{«needs-answer»};
+ghost use Rattle.appointments.specs.Needed.{«needs-answer», «needed-of»};
 
 // A first position, or none.
 pub enum Found {
@@ -15,9 +15,9 @@ pub enum Found {
     Nowhere,
 }
 
-// What the checks came to: passed, with D, or refused with document 01's number and place.
-pub enum Checked {
-    Passed(usize),
+// What a call says: accepted, with its one figure, or refused with document 01's number and place. The figure of checks is D.
+pub enum Answered {
+    Accepted(usize),
     Refused(usize, usize),
 }
 
@@ -97,53 +97,53 @@ fn largest_load(p: usize, list: &[u16]) -> usize
 }
 
 // Checks 4 and 5: the first blank end of the whole list, then the first other end that is not below `p`.
-fn check_ends(p: usize, list: &[u16]) -> Checked
+fn check_ends(p: usize, list: &[u16]) -> Answered
     requires { do ⌜ (← ⟦list.len()⟧) ≤ 8192 ⌝ }
     ensures { λ r. ⌜ r ≡ checked (check-ends p (now (list .entry)) passed) 0 ⌝ }
 {
     let blank = first_not_below(list, 65535);
     if let Found::At(i) = blank {
-        return Checked::Refused(4, i);
+        return Answered::Refused(4, i);
     }
     let unlisted = first_not_below(list, p);
     if let Found::At(i) = unlisted {
-        return Checked::Refused(5, i);
+        return Answered::Refused(5, i);
     }
-    Checked::Passed(0)
+    Answered::Accepted(0)
 }
 
 // Checks 1 to 5, those of the list alone; passed, it gives D.
-pub fn check_list(p: usize, list: &[u16]) -> Checked
+pub fn check_list(p: usize, list: &[u16]) -> Answered
     ensures { λ r. ⌜ r ≡ checked (checks-1-to-5 p (now (list .entry)) passed) (largest-load p (appts (now (list .entry)))) ⌝ }
 {
     if 1024 < p {
-        return Checked::Refused(1, 0);
+        return Answered::Refused(1, 0);
     }
     if list.len() % 2 == 1 {
-        return Checked::Refused(2, 0);
+        return Answered::Refused(2, 0);
     }
     if 8192 < list.len() {
-        return Checked::Refused(3, 0);
+        return Answered::Refused(3, 0);
     }
     let ends = check_ends(p, list);
-    if let Checked::Refused(number, place) = ends {
-        return Checked::Refused(number, place);
+    if let Answered::Refused(number, place) = ends {
+        return Answered::Refused(number, place);
     }
-    Checked::Passed(largest_load(p, list))
+    Answered::Accepted(largest_load(p, list))
 }
 
 // Checks 1 to 6, those before any buffer is looked at; passed, it gives D.
-pub fn check_size(p: usize, list: &[u16]) -> Checked
+pub fn check_size(p: usize, list: &[u16]) -> Answered
     ensures { λ r. ⌜ r ≡ checked (checks-1-to-6 p (now (list .entry)) passed) (largest-load p (appts (now (list .entry)))) ⌝ }
 {
     let listed = check_list(p, list);
-    let Checked::Passed(d) = listed else {
+    let Answered::Accepted(d) = listed else {
         return listed;
     };
     if 8192 < d * p {
-        return Checked::Refused(6, 0);
+        return Answered::Refused(6, 0);
     }
-    Checked::Passed(d)
+    Answered::Accepted(d)
 }
 
 // W, the words that scratch needs. It fits, since check 6 has passed.
@@ -155,29 +155,29 @@ fn scratch_words(p: usize, d: usize) -> usize
 }
 
 // Checks 1 to 8, of P, the list and the lengths of the slot buffer and of scratch; passed, it gives D.
-pub fn check_all(p: usize, list: &[u16], slots: usize, scratch: usize) -> Checked
+pub fn check_all(p: usize, list: &[u16], slots: usize, scratch: usize) -> Answered
     ensures { λ r. ⌜ r ≡ checked (checks p (now (list .entry)) slots scratch) (largest-load p (appts (now (list .entry)))) ⌝ }
 {
     let sized = check_size(p, list);
-    let Checked::Passed(d) = sized else {
+    let Answered::Accepted(d) = sized else {
         return sized;
     };
     if slots < list.len() / 2 {
-        return Checked::Refused(7, 0);
+        return Answered::Refused(7, 0);
     }
     if scratch < scratch_words(p, d) {
-        return Checked::Refused(8, 0);
+        return Answered::Refused(8, 0);
     }
-    Checked::Passed(d)
+    Answered::Accepted(d)
 }
 
 // How much scratch the list needs: checks 1 to 6, then D and W.
 pub fn needs(p: usize, list: &[u16]) -> Needed
-    ensures { λ r. ⌜ r ≡ needs-answer p (now (list .entry)) ⌝ }
+    ensures { λ r. ⌜ r ≡ needed-of (needs-answer p (now (list .entry))) ⌝ }
 {
     let sized = check_size(p, list);
     match sized {
-        Checked::Refused(number, place) => Needed::Refused(number, place),
-        Checked::Passed(d) => Needed::Words(d, scratch_words(p, d)),
+        Answered::Refused(number, place) => Needed::Refused(number, place),
+        Answered::Accepted(d) => Needed::Words(d, scratch_words(p, d)),
     }
 }

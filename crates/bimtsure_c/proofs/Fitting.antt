@@ -9,27 +9,22 @@ use lib.Dec.{eqb, ltb, leb}
 use lib.ListN.{length}
 use Rattle.appointments.specs.Appointments.{Appt, appts}
 use Rattle.appointments.specs.Checks.{at, Check, first-from, has-blank, has-unlisted, bar, checks-1-to-5}
-use Rattle.appointments.specs.Needed.{needs-answer}
-use Rattle.appointments.specs.declared.Needed.the-variants as needed
+use Rattle.appointments.specs.Needed.{needing, needs-answer}
 use Rattle.appointments.proofs.Answering.{d-small, needs-small, needs-refusal-small}
+use Rattle.appointments.proofs.AnswerLaws.{refused-checked}
 use Rattle.appointments.proofs.Causes.{bar-cause, bar-at-cause, never-refused}
 use Rattle.appointments.proofs.ChecksLaws.{good-goes-on}
 use Rattle.appointments.proofs.FirstFrom.{found-is-first}
-use Rattle.desk.specs.Answers.{accepted, refused, answer}
-use Rattle.desk.specs.Waiting.{waiting, waiting-checks, waiting-answer}
-use Rattle.desk.specs.Filed.{filed-length, writing-checks, writing-answer, header-of, header, reading-checks, reading-answer}
-use Rattle.desk.specs.Viewer.{viewer-checks, viewer-answer}
-use Rattle.desk.proofs.WaitingLaws.{accepted-askable, waiting-and-load}
-use Rattle.desk.proofs.FiledLaws.{accepted-writable, accepted-readable}
+use Rattle.appointments.specs.Answers.{accepted, refused}
+use Rattle.asking.specs.Waiting.{waiting, waiting-checks, waiting-answer}
+use Rattle.filing.specs.Filed.{filed-length, writing-checks, writing-answer, header-of, header, reading-checks, reading-answer}
+use Rattle.viewing.specs.Viewer.{viewer-checks, viewer-answer}
+use Rattle.asking.proofs.WaitingLaws.{accepted-askable, waiting-and-load}
+use Rattle.filing.proofs.FiledLaws.{accepted-writable, accepted-readable}
 
 -- a number and a place below 2^32
 abbrev pub Both-fit : ℕ → ℕ → Type 0
 Both-fit n i = (n < 4294967296) × (i < 4294967296)
-
--- a refusal is that of the checks
-refused-checked : {F : Type 0} (c : Check) (f : F) (n i : ℕ) → answer c f ≡ refused n i → c ≡ Check.refused n i
-refused-checked Check.passed f n i e = cc
-refused-checked (Check.refused k j) f n i e = cc
 
 -- one check with a small number and place 0
 bar-fits : (t : Bool) (k : ℕ) (next : Check) (n i : ℕ) → k < 4294967296 → (next ≡ Check.refused n i → Both-fit n i) → bar t k next ≡ Check.refused n i → Both-fit n i
@@ -42,10 +37,10 @@ first-fits test xs j h e = omega (arith, found-is-first test xs j e .inside)
 -- ── how much scratch a list needs ──
 
 module _ (P : ℕ) (list : List ℕ) where
-  pub needs-fit : (D W : ℕ) → needs-answer P list ≡ needed.Words D W → Both-fit D W
+  pub needs-fit : (D W : ℕ) → needs-answer P list ≡ accepted (needing D W) → Both-fit D W
   needs-fit D W e = omega (arith, needs-small P list D W e)
 
-  pub needs-refusal-fits : (n i : ℕ) → needs-answer P list ≡ needed.Refused n i → Both-fit n i
+  pub needs-refusal-fits : (n i : ℕ) → needs-answer P list ≡ refused n i → Both-fit n i
   needs-refusal-fits n i e = omega (arith, needs-refusal-small P list n i e)
 
 -- ── waiting ──

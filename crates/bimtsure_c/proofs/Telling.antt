@@ -1,37 +1,39 @@
 -- From the enum that a call tells to the definitions' answer, and from that to its numbers. Assumes nothing.
 use Prim.Native.Nat.{ℕ}
 use mathlib.Core.Path.{_≡_, refl}
-use Rattle.appointments.specs.Needed as needs
-use Rattle.appointments.specs.declared.Needed.{Needed}
+use Rattle.appointments.specs.Needed.{Needs, needing, needed-of, d-of, words-of}
 use Rattle.appointments.specs.declared.Needed.the-variants as needed
-use Rattle.desk.specs.Answers.{Answer, accepted, refused, number-of, place-of, figure-of}
-use Rattle.desk.specs.Filed.{Header, header-of, parties-of, appointments-of}
-use Rattle.desk.specs.Viewer.{Step, found, end}
-use Rattle.desk.specs.Told.{asked-of, filed-of, read-of, opened-of, shown-of}
-use Rattle.desk.specs.declared.asking.Asked.the-variants as asked
-use Rattle.desk.specs.declared.filing.Filed.the-variants as filed
-use Rattle.desk.specs.declared.filing.Read.the-variants as read
-use Rattle.desk.specs.declared.viewing.Opened.the-variants as opened
-use Rattle.desk.specs.declared.viewing.Shown.{Shown}
+use Rattle.appointments.specs.Answers.{Answer, accepted, refused, number-of, place-of, figure-of, answered-of}
+use Rattle.filing.specs.Filed.{Header, header-of, parties-of, appointments-of}
+use Rattle.viewing.specs.Viewer.{Step, found, end}
+use Rattle.filing.specs.Told.{read-of}
+use Rattle.viewing.specs.Told.{opened-of, shown-of}
+use Rattle.appointments.specs.declared.Answered.the-variants as answered
+use Rattle.filing.specs.declared.Read.the-variants as read
+use Rattle.viewing.specs.declared.Opened.the-variants as opened
+use Rattle.viewing.specs.declared.Shown.{Shown}
 use Rattle.bimtsure_c.specs.Viewed.{if-open, found-of, position-of, slot-of, shown-found, shown-position, shown-slot, shown-next}
 
 -- ── the answer behind what was told ──
 
-pub asked-waits : (a : Answer ℕ) (n : ℕ) → asked-of a ≡ asked.Waits n → a ≡ accepted n
-asked-waits (accepted m) n e = cc
-asked-waits (refused k i) n e = cc
+pub one-figure : (a : Answer ℕ) (n : ℕ) → answered-of a ≡ answered.Accepted n → a ≡ accepted n
+one-figure (accepted m) n e = cc
+one-figure (refused k i) n e = cc
 
-pub asked-refused : (a : Answer ℕ) (n i : ℕ) → asked-of a ≡ asked.Refused n i → a ≡ refused n i
-asked-refused (accepted m) n i e = cc
-asked-refused (refused k j) n i e = cc
+pub one-refusal : (a : Answer ℕ) (n i : ℕ) → answered-of a ≡ answered.Refused n i → a ≡ refused n i
+one-refusal (accepted m) n i e = cc
+one-refusal (refused k j) n i e = cc
 
-pub filed-written : (a : Answer ℕ) (n : ℕ) → filed-of a ≡ filed.Written n → a ≡ accepted n
-filed-written (accepted m) n e = cc
-filed-written (refused k i) n e = cc
+pub needed-words : (a : Answer Needs) (D W : ℕ) → needed-of a ≡ needed.Words D W → a ≡ accepted (needing D W)
+needed-words (accepted h) D W e =
+    let d : h .d ≡ D = cc in
+    let w : h .words ≡ W = cc in
+    rw (d, w)
+needed-words (refused k i) D W e = cc
 
-pub filed-refused : (a : Answer ℕ) (n i : ℕ) → filed-of a ≡ filed.Refused n i → a ≡ refused n i
-filed-refused (accepted m) n i e = cc
-filed-refused (refused k j) n i e = cc
+pub needed-refused : (a : Answer Needs) (n i : ℕ) → needed-of a ≡ needed.Refused n i → a ≡ refused n i
+needed-refused (accepted h) n i e = cc
+needed-refused (refused k j) n i e = cc
 
 pub read-plan : (a : Answer Header) (P A : ℕ) → read-of a ≡ read.Plan P A → a ≡ accepted (header-of P A)
 read-plan (accepted h) P A e =
@@ -55,14 +57,14 @@ opened-refused (refused k j) n i e = cc
 -- ── its numbers ──
 
 -- How much scratch a list needs: number, place, D and W.
-abbrev pub Needs-say : Needed → ℕ → ℕ → ℕ → ℕ → Type 0
+abbrev pub Needs-say : Answer Needs → ℕ → ℕ → ℕ → ℕ → Type 0
 Needs-say a number place d words =
-    (number ≡ needs.number-of a) × ((place ≡ needs.place-of a) × ((d ≡ needs.figure-of a) × (words ≡ needs.words-of a)))
+    (number ≡ number-of a) × ((place ≡ place-of a) × ((d ≡ d-of a) × (words ≡ words-of a)))
 
-pub words-say : (a : Needed) (D W : ℕ) → a ≡ needed.Words D W → Needs-say a 0 0 D W
+pub words-say : (a : Answer Needs) (D W : ℕ) → a ≡ accepted (needing D W) → Needs-say a 0 0 D W
 words-say a D W e = rw e (refl, (refl, (refl, refl)))
 
-pub needs-refused-say : (a : Needed) (n i : ℕ) → a ≡ needed.Refused n i → Needs-say a n i 0 0
+pub needs-refused-say : (a : Answer Needs) (n i : ℕ) → a ≡ refused n i → Needs-say a n i 0 0
 needs-refused-say a n i e = rw e (refl, (refl, (refl, refl)))
 
 pub accepted-says : (a : Answer ℕ) (n : ℕ) → a ≡ accepted n → (0 ≡ number-of a) × ((0 ≡ place-of a) × (n ≡ figure-of a))

@@ -1,9 +1,9 @@
 -- What the exported step of the viewer says, as numbers. Assumes nothing.
 use Prim.Native.Nat.{ℕ}
-use Rattle.desk.specs.Answers.{Answer, accepted, refused}
-use Rattle.desk.specs.Viewer.{Step, found, end}
-use Rattle.desk.specs.declared.viewing.Shown.{Shown}
-use Rattle.desk.specs.declared.viewing.Shown.the-variants.{Found, End}
+use Rattle.appointments.specs.Answers.{Answer, accepted, refused}
+use Rattle.viewing.specs.Viewer.{Step, found, end}
+use Rattle.viewing.specs.declared.Shown.{Shown}
+use Rattle.viewing.specs.declared.Shown.the-variants.{Found, End}
 
 -- a figure of a viewer that was opened, 0 where opening refuses
 abbrev pub if-open : Answer Unit → ℕ → ℕ

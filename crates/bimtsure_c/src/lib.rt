@@ -3,22 +3,21 @@
 // host/include/bimtsure.h declares them.
 ghost use mathlib.Core.Path.{_≡_};
 ghost use lib.ListN.{length};
-ghost use Rattle.appointments.specs.Needed as Needs;
+ghost use Rattle.appointments.specs.Needed.{«needs-answer», «d-of», «words-of»};
 ghost use Rattle.planning.specs.Planning as Planning;
 ghost use Rattle.planning.specs.Demand3.{«Demand-3»};
 ghost use Rattle.bimtsure_c.specs.Planned.{«answer-by»};
-ghost use Rattle.desk.specs.Answers.{«number-of», «place-of», «figure-of»};
-ghost use Rattle.desk.specs.Waiting.{«waiting-answer»};
-ghost use Rattle.desk.specs.Filed.{«writing-answer», «writing-output», «reading-answer», «reading-list», «reading-slots», «parties-of», «appointments-of»};
-ghost use Rattle.desk.specs.Viewer.{«viewer-answer», «view-step», «view-next»};
+ghost use Rattle.appointments.specs.Answers.{«number-of», «place-of», «figure-of»};
+ghost use Rattle.asking.specs.Waiting.{«waiting-answer»};
+ghost use Rattle.filing.specs.Filed.{«writing-answer», «writing-output», «reading-answer», «reading-list», «reading-slots», «parties-of», «appointments-of»};
+ghost use Rattle.viewing.specs.Viewer.{«viewer-answer», «view-step», «view-next»};
 ghost use Rattle.bimtsure_c.specs.Viewed.{«if-open», «found-of», «position-of», «slot-of», «shown-found», «shown-position», «shown-slot», «shown-next»};
+use appointments::Answered;
 use appointments::Needed;
-use desk::asking::Asked;
-use desk::filing::Filed;
-use desk::filing::Read;
-use desk::viewing::Opened;
-use desk::viewing::Shown;
+use filing::Read;
 use planning::Answer;
+use viewing::Opened;
+use viewing::Shown;
 
 // Number, place, and D.
 #[repr(C)]
@@ -107,10 +106,10 @@ pub extern "C" fn bimtsure_plan(
 // How much scratch a list needs: checks 1 to 6 of the planning call, then D and W.
 #[no_mangle]
 pub extern "C" fn bimtsure_needs(p: u16, list: &[u16]) -> BimtsureNeeds
-    ensures number { λ r. ⌜ r .number ≡ Needs.number-of (Needs.needs-answer p (now (list .entry))) ⌝ }
-    ensures place { λ r. ⌜ r .place ≡ Needs.place-of (Needs.needs-answer p (now (list .entry))) ⌝ }
-    ensures d { λ r. ⌜ r .d ≡ Needs.figure-of (Needs.needs-answer p (now (list .entry))) ⌝ }
-    ensures words { λ r. ⌜ r .words ≡ Needs.words-of (Needs.needs-answer p (now (list .entry))) ⌝ }
+    ensures number { λ r. ⌜ r .number ≡ number-of (needs-answer p (now (list .entry))) ⌝ }
+    ensures place { λ r. ⌜ r .place ≡ place-of (needs-answer p (now (list .entry))) ⌝ }
+    ensures d { λ r. ⌜ r .d ≡ d-of (needs-answer p (now (list .entry))) ⌝ }
+    ensures words { λ r. ⌜ r .words ≡ words-of (needs-answer p (now (list .entry))) ⌝ }
 {
     let needed = appointments::needs(p as usize, list);
     match needed {
@@ -136,14 +135,14 @@ pub extern "C" fn bimtsure_waiting(p: u16, list: &[u16], party: u16) -> Bimtsure
     ensures place { λ r. ⌜ r .place ≡ place-of (waiting-answer p (now (list .entry)) party) ⌝ }
     ensures waiting { λ r. ⌜ r .waiting ≡ figure-of (waiting-answer p (now (list .entry)) party) ⌝ }
 {
-    let asked = desk::asking::waiting(p, list, party);
+    let asked = asking::waiting(p, list, party);
     match asked {
-        Asked::Waits(n) => BimtsureWaiting {
+        Answered::Accepted(n) => BimtsureWaiting {
             number: 0,
             place: 0,
             waiting: n as u32,
         },
-        Asked::Refused(number, place) => BimtsureWaiting {
+        Answered::Refused(number, place) => BimtsureWaiting {
             number: number as u32,
             place: place as u32,
             waiting: 0,
@@ -164,14 +163,14 @@ pub extern "C" fn bimtsure_file_plan(
     ensures length { λ r. ⌜ r .length ≡ figure-of (writing-answer p (now (list .entry)) (now (slots .entry)) (now (output .entry))) ⌝ }
     ensures bytes { λ r. ⌜ now (output .exit) ≡ writing-output p (now (list .entry)) (now (slots .entry)) (now (output .entry)) ⌝ }
 {
-    let filed = desk::filing::file_plan(p, list, slots, output);
+    let filed = filing::file_plan(p, list, slots, output);
     match filed {
-        Filed::Written(n) => BimtsureFiled {
+        Answered::Accepted(n) => BimtsureFiled {
             number: 0,
             place: 0,
             length: n as u32,
         },
-        Filed::Refused(number, place) => BimtsureFiled {
+        Answered::Refused(number, place) => BimtsureFiled {
             number: number as u32,
             place: place as u32,
             length: 0,
@@ -193,7 +192,7 @@ pub extern "C" fn bimtsure_read_plan(
     ensures list { λ r. ⌜ now (list .exit) ≡ reading-list (now (bytes .entry)) (now (list .entry)) (now (slots .entry)) ⌝ }
     ensures slots { λ r. ⌜ now (slots .exit) ≡ reading-slots (now (bytes .entry)) (now (list .entry)) (now (slots .entry)) ⌝ }
 {
-    let read = desk::filing::read_plan(bytes, list, slots);
+    let read = filing::read_plan(bytes, list, slots);
     match read {
         Read::Plan(p, a) => BimtsureRead {
             number: 0,
@@ -249,7 +248,7 @@ pub extern "C" fn bimtsure_view<'a>(
     ensures slot { λ r. ⌜ r .slot ≡ if-open (viewer-answer (now (list .entry)) (now (slots .entry))) (slot-of (view-step party (now (list .entry)) (now (slots .entry)) from)) ⌝ }
     ensures next { λ r. ⌜ r .next ≡ if-open (viewer-answer (now (list .entry)) (now (slots .entry))) (view-next party (now (list .entry)) (now (slots .entry)) from) ⌝ }
 {
-    let opened = desk::viewing::open_viewer(list, slots);
+    let opened = viewing::open_viewer(list, slots);
     match opened {
         Opened::Refused(number, place) => BimtsureView {
             number: number as u32,
@@ -260,7 +259,7 @@ pub extern "C" fn bimtsure_view<'a>(
             next: 0,
         },
         Opened::Open => {
-            let shown = desk::viewing::view_step(party, list, slots, from);
+            let shown = viewing::view_step(party, list, slots, from);
             seen(shown)
         }
     }

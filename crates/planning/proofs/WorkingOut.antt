@@ -10,8 +10,8 @@ use Rattle.words.specs.Basics.{All}
 use Rattle.appointments.specs.Appointments.{Appt, appts, largest-load, scratch-words}
 use Rattle.appointments.specs.Checks.{passed, refused, checks}
 use Rattle.appointments.specs.Checked.{checked}
-use Rattle.appointments.specs.declared.Checked.{Checked}
-use Rattle.appointments.specs.declared.Checked.the-variants.{Passed, Refused}
+use Rattle.appointments.specs.declared.Answered.{Answered}
+use Rattle.appointments.specs.declared.Answered.the-variants.{Accepted, Refused}
 use Rattle.appointments.proofs.Loads.{Listed, largest-load-empty}
 use Rattle.appointments.proofs.ChecksLaws.{Passes, passed-passes, passes-passed, good-goes-on}
 use Rattle.appointments.proofs.Answering.{checked-passed, checked-figure, checked-number, d-small}
@@ -113,7 +113,7 @@ module _ (P : ℕ) (list slots scratch : List ℕ) where
       cleared ≡ plan-scratch P list slots scratch → Stated a after cleared
   stated a after cleared e f g = (e, (f, (g, rw (e, f) (demand-3 P list slots scratch))))
 
-  abbrev pub Told : Checked → Type 0
+  abbrev pub Told : Answered → Type 0
   Told c = c ≡ checked (checks P list (length slots) (length scratch)) (largest-load P (appts list))
 
   module _ {number place : ℕ} (told : Told (Refused number place)) where
@@ -124,7 +124,7 @@ module _ (P : ℕ) (list slots scratch : List ℕ) where
     unfolding plan-answer plan-slots plan-scratch
     refused-stated = stated (refusal number place) slots scratch (rw barred) (rw barred) (rw barred)
 
-  module _ {D : ℕ} (told : Told (Passed D)) where
+  module _ {D : ℕ} (told : Told (Accepted D)) where
     ok : checks P list (length slots) (length scratch) ≡ passed
     ok = checked-passed (checks P list (length slots) (length scratch)) (largest-load P (appts list)) D (sym told)
 

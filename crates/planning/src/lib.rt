@@ -14,7 +14,7 @@ ghost use Rattle.planning.specs.Planning.{«plan-answer», «plan-slots�
 ghost use Rattle.planning.specs.Demand3.{«Demand-3»};
 ghost use Rattle.planning.specs.Told.{«answer-of»};
 ghost use Rattle.planning.specs.Steps.{Ready, Sided, Prepared, «Slots-planned», «Worked-out»};
-use appointments::Checked;
+use appointments::Answered;
 use evening::Bases;
 use mark::Mark;
 use matching::Table;
@@ -153,8 +153,8 @@ pub fn bipartite_edge_color(p: u16, list: &[u16], slots: &mut [u16], scratch: &m
     let parties = p as usize;
     let checked = appointments::check_all(parties, list, slots.len(), scratch.len());
     match checked {
-        Checked::Refused(number, place) => Answer::Refused(number, place),
-        Checked::Passed(d) => {
+        Answered::Refused(number, place) => Answer::Refused(number, place),
+        Answered::Accepted(d) => {
             let q = parties * (d + 1);
             let w = 128 * q;
             work_out_cleanly(&mut scratch[..w], slots, list, parties, d, q)

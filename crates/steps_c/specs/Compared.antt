@@ -5,14 +5,14 @@ use mathlib.Core.List.{List}
 use lib.ListN.{length}
 use Rattle.appointments.specs.Appointments.{appts}
 use Rattle.appointments.specs.Checks.{Check, passed, refused, checks}
-use Rattle.appointments.specs.declared.Checked.{Checked}
-use Rattle.appointments.specs.declared.Checked.the-variants.{Passed, Refused}
+use Rattle.appointments.specs.declared.Answered.{Answered}
+use Rattle.appointments.specs.declared.Answered.the-variants.{Accepted, Refused}
 use Rattle.two_color.specs.TwoColor.{Sides, sides, not-bipartite, unfinished, two-color}
 use Rattle.two_color.specs.Contract.{region}
 
 -- the number of a refusal by the checks, as the code has it
-abbrev pub refusal-number : Checked → ℕ
-refusal-number (Passed d) = 0
+abbrev pub refusal-number : Answered → ℕ
+refusal-number (Accepted d) = 0
 refusal-number (Refused number place) = number
 
 -- Document 01's number: that of the check that refuses; else 0 with sides, and 9 without. (A law rules out that the definition

@@ -3,7 +3,7 @@ ghost use mathlib.Core.Path.{_≡_};
 ghost use Prim.Native.Nat.{_%_, _+_, _*_};
 ghost use Rattle.steps_c.specs.Compared.{«Two-colored», «refusal-number»};
 ghost use Rattle.euler.specs.Room.{Splits, «Halves-stored»};
-use appointments::Checked;
+use appointments::Answered;
 use mark::Mark;
 use two_color::TwoColoring;
 
@@ -15,12 +15,12 @@ pub struct TwoColorAnswer {
 }
 
 // The answer to a list that a check refuses: its number.
-fn refused(checked: Checked) -> TwoColorAnswer
+fn refused(checked: Answered) -> TwoColorAnswer
     ensures { λ r. ⌜ (r .left ≡ 0) × (r .number ≡ refusal-number checked % 4294967296) ⌝ }
 {
     match checked {
-        Checked::Passed(_) => TwoColorAnswer { number: 0, left: 0 },
-        Checked::Refused(number, _) => TwoColorAnswer {
+        Answered::Accepted(_) => TwoColorAnswer { number: 0, left: 0 },
+        Answered::Refused(number, _) => TwoColorAnswer {
             number: (number % 4294967296) as u32,
             left: 0,
         },
@@ -35,7 +35,7 @@ pub extern "C" fn bimtsure_two_color(p: u16, list: &[u16], scratch: &mut [u32]) 
 {
     let parties = p as usize;
     let checked = appointments::check_all(parties, list, list.len(), scratch.len());
-    let Checked::Passed(d) = checked else {
+    let Answered::Accepted(d) = checked else {
         return refused(checked);
     };
     let colored = two_color::two_sides(scratch, parties, d, list);

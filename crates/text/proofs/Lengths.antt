@@ -13,7 +13,7 @@ use Rattle.words.proofs.Sums.{all-map, sum-below-le, sum-below-const}
 use Rattle.appointments.specs.Appointments.{Appt, appts, load, largest-load}
 use Rattle.appointments.proofs.Loads.{Listed, load-le-largest, loads-sum}
 use Rattle.appointments.proofs.ChecksLaws.{Passes}
-use Rattle.desk.specs.Waiting.{waiting}
+use Rattle.asking.specs.Waiting.{waiting}
 use Rattle.text.specs.Ascii.{ascii}
 use Rattle.text.specs.Printing.{decimal-by, decimal, line, appointment-lines, party-lines, plan-lines, refusal-line}
 

@@ -11,7 +11,7 @@ use lib.ListN.{length, getD, drop, set, length-append}
 use lib.Seq.{sets, length-sets, sets-eq, append-snoc, drop-cons, drop-length}
 use Rattle.appointments.specs.Appointments.{Appt, appts}
 use Rattle.appointments.proofs.Flat.{rest-cons, rest-none, appts-count}
-use Rattle.desk.specs.Waiting.{waiting}
+use Rattle.asking.specs.Waiting.{waiting}
 use Rattle.text.specs.Ascii.{ascii, space, line-feed}
 use Rattle.text.specs.Printing.{decimal-by, decimal, line, party-line, appointment-lines, party-lines, plan-lines, refusal-line}
 use Rattle.text.specs.Placed.{Room, Placed, Printed, field, appointment-line-at}

@@ -1,9 +1,9 @@
 -- Opens every definition of this crate and of those below it: an example that is computed says `unfolding computing`.
 -- Assumes nothing.
 use Rattle.planning.specs.Computing as Planning
-use Rattle.desk.specs.Computing as Desk
+use Rattle.asking.specs.Computing as Asking
 use Rattle.text.specs.Text.{text-output}
 
 unfoldable pub computing : Unit {0}
-unfolding Planning.computing Desk.computing text-output
+unfolding Planning.computing Asking.computing text-output
 computing = tt

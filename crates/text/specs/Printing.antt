@@ -5,7 +5,7 @@ use lib.Dec.{ltb}
 use lib.ListN.{getD}
 use Rattle.words.specs.Basics.{pick}
 use Rattle.appointments.specs.Appointments.{Appt, appts}
-use Rattle.desk.specs.Waiting.{waiting}
+use Rattle.asking.specs.Waiting.{waiting}
 use Rattle.text.specs.Ascii.{ascii, line-feed, space}
 
 -- The decimal digits of n, without leading zeros. It has no more than n + 1 of them.

@@ -1,12 +1,12 @@
 // What main prints: bytes put into a lent output, each line behind the one before. Every function needs room for its bytes,
 // and gives the place behind them.
-use desk::asking::Asked;
+use appointments::Answered;
 ghost use mathlib.Core.Path.{_≡_};
 ghost use mathlib.Core.List.{[], _∷_};
 ghost use Prim.Native.Nat.{_+_, _*_, _<_};
 ghost use lib.ListN.{length};
 ghost use Rattle.appointments.specs.Appointments.{appts};
-ghost use Rattle.desk.specs.Waiting.{waiting};
+ghost use Rattle.asking.specs.Waiting.{waiting};
 ghost use Rattle.text.specs.Printing.{decimal, «party-line», «appointment-lines», «party-lines», «plan-lines», «refusal-line»};
 ghost use Rattle.text.specs.Placed.{Placed, Printed, Room, field, «Passes-1-to-5», «appointment-line-at»};
 
@@ -87,10 +87,10 @@ fn waiting_of(p: u16, list: &[u16], party: u16) -> usize
     requires { ⌜ Passes-1-to-5 p (now list) × (party < p) ⌝ }
     ensures { λ r. ⌜ r ≡ waiting p (appts (now (list .entry))) party ⌝ }
 {
-    let asked = desk::asking::waiting(p, list, party);
+    let asked = asking::waiting(p, list, party);
     match asked {
-        Asked::Waits(n) => n,
-        Asked::Refused(_, _) => 0,
+        Answered::Accepted(n) => n,
+        Answered::Refused(_, _) => 0,
     }
 }
 

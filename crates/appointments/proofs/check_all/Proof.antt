@@ -3,7 +3,7 @@
 use mathlib.Core.Path.{sym, _∙_, ap}
 use native.Mathlib.Omega.{arith}
 use Rattle.appointments.specs.Checks.{passed, checks-1-to-6}
-use Rattle.appointments.specs.declared.Checked.the-variants.{Passed}
+use Rattle.appointments.specs.declared.Answered.the-variants.{Accepted}
 use Rattle.appointments.proofs.Answering.{checked-number, all-refused, refuses-7, refuses-8, passes-all, sized}
 use borrow.Author.Needs.{needs}
 use Rattle.appointments.proofs.check_all.Statement.{statement}
@@ -37,7 +37,7 @@ returns-4 : tie.Need-returns-4
 returns-4 c =
     let a = c .before .before .before .before .before .before .before .before .args in
     let k = sized (a .p) (a .list .now) _ _ (c .before .before .before .before .before .before .check-size .ensures) (c .before .before .before .before .sized .given .1) in
-    rw (passes-all (a .p) (a .list .now) (a .slots) (a .scratch) _ (k .figure) (k .ok) (omega arith) (omega arith)) (ap Passed (k .figure))
+    rw (passes-all (a .p) (a .list .now) (a .slots) (a .scratch) _ (k .figure) (k .ok) (omega arith) (omega arith)) (ap Accepted (k .figure))
 
 pub check-all-spec : {M : Type 1} → statement M
 check-all-spec =

@@ -6,7 +6,7 @@ use native.Mathlib.Omega.{arith}
 use Rattle.appointments.specs.Appointments.{appts, largest-load}
 use Rattle.appointments.specs.Checks.{passed, checks-1-to-5, check-ends}
 use Rattle.appointments.specs.Checked.{checked}
-use Rattle.appointments.specs.declared.Checked.the-variants.{Passed}
+use Rattle.appointments.specs.declared.Answered.the-variants.{Accepted}
 use Rattle.appointments.proofs.Answering.{refuses-1, refuses-2, refuses-3, goes-on, checked-refused, checked-passed}
 use borrow.Author.Needs.{needs}
 use Rattle.appointments.proofs.check_list.Statement.{statement}
@@ -39,7 +39,7 @@ returns-5 c =
     let on = goes-on P l (omega arith) (c .before .before .before .before .before .if2 .left) (omega arith) in
     let h = sym (c .before .before .before .check-ends .ensures) ∙ c .before .enum-told .given .1 in
     let e : checks-1-to-5 P l passed ≡ passed = on ∙ checked-passed (check-ends P l passed) 0 _ h in
-    ap Passed (c .largest-load .ensures) ∙ sym (ap (λ k. checked k (largest-load P (appts l))) e)
+    ap Accepted (c .largest-load .ensures) ∙ sym (ap (λ k. checked k (largest-load P (appts l))) e)
 
 pub check-list-spec : {M : Type 1} → statement M
 check-list-spec =

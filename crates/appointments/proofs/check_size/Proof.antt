@@ -3,7 +3,7 @@
 use mathlib.Core.Path.{sym, _∙_, ap}
 use native.Mathlib.Omega.{arith}
 use Rattle.appointments.specs.Checks.{passed, checks-1-to-5}
-use Rattle.appointments.specs.declared.Checked.the-variants.{Passed}
+use Rattle.appointments.specs.declared.Answered.the-variants.{Accepted}
 use Rattle.appointments.proofs.Answering.{checked-number, still-refused, refuses-6, passes-6, listed}
 use borrow.Author.Needs.{needs}
 use Rattle.appointments.proofs.check_size.Statement.{statement}
@@ -31,7 +31,7 @@ returns-3 : tie.Need-returns-3
 returns-3 c =
     let a = c .before .before .before .before .before .before .args in
     let k = listed (a .p) (a .list .now) _ _ (c .before .before .before .before .check-list .ensures) (c .before .before .listed .given .1) in
-    rw (passes-6 (a .p) (a .list .now) _ (k .figure) (k .ok) (omega arith)) (ap Passed (k .figure))
+    rw (passes-6 (a .p) (a .list .now) _ (k .figure) (k .ok) (omega arith)) (ap Accepted (k .figure))
 
 pub check-size-spec : {M : Type 1} → statement M
 check-size-spec =

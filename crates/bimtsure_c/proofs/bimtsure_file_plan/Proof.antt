@@ -2,9 +2,9 @@
 -- left it. Assumes nothing.
 use mathlib.Core.Path.{_≡_, sym, _∙_}
 use native.Mathlib.Omega.{arith}
-use Rattle.desk.specs.Answers.{accepted, refused}
-use Rattle.desk.specs.Filed.{writing-answer}
-use Rattle.bimtsure_c.proofs.Telling.{filed-written, filed-refused, accepted-says, refused-says}
+use Rattle.appointments.specs.Answers.{accepted, refused}
+use Rattle.filing.specs.Filed.{writing-answer}
+use Rattle.bimtsure_c.proofs.Telling.{one-figure, one-refusal, accepted-says, refused-says}
 use Rattle.bimtsure_c.proofs.Fitting.{writing-fits, writing-refusal-fits}
 use borrow.Author.Needs.{needs}
 use Rattle.bimtsure_c.proofs.bimtsure_file_plan.Statement.{statement}
@@ -14,13 +14,13 @@ use Rattle.bimtsure_c.proofs.bimtsure_file_plan.Tie as tie
 writes :
     (c : tie.After-known-told) →
     let a = c .before .before .before .before .before .before .before .before .before .before .args in writing-answer (a .p) (a .list .now) (a .slots .now) (a .output .now) ≡ accepted (c .before .filed .given .0 .0)
-writes c = filed-written _ _ (sym (c .before .before .before .before .before .file-plan .ensures .0) ∙ c .before .filed .given .1)
+writes c = one-figure _ _ (sym (c .before .before .before .before .before .file-plan .ensures .0) ∙ c .before .filed .given .1)
 
 -- the desk refused
 refuses :
     (c : tie.After-known-told2) →
     let a = c .before .before .before .before .before .before .before .before .before .before .args in writing-answer (a .p) (a .list .now) (a .slots .now) (a .output .now) ≡ refused (c .before .filed2 .given .0 .0) (c .before .filed2 .given .0 .1 .0)
-refuses c = filed-refused _ _ _ (sym (c .before .before .before .before .before .file-plan .ensures .0) ∙ c .before .filed2 .given .1)
+refuses c = one-refusal _ _ _ (sym (c .before .before .before .before .before .file-plan .ensures .0) ∙ c .before .filed2 .given .1)
 
 cast-t12 : tie.Need-cast-t12
 cast-t12 c = let a = c .before .before .before .before .before .before .before .before .before .before .args in omega (arith, writing-fits (a .p) (a .list .now) (a .slots .now) (a .output .now) _ (writes c))

@@ -1,9 +1,9 @@
 -- `bimtsure_needs` meets its contract: its numbers are those of the answer that `appointments::needs` told. Assumes nothing.
 use mathlib.Core.Path.{_≡_, sym, _∙_}
 use native.Mathlib.Omega.{arith}
-use Rattle.appointments.specs.Needed.{needs-answer}
-use Rattle.appointments.specs.declared.Needed.the-variants as needed
-use Rattle.bimtsure_c.proofs.Telling.{words-say, needs-refused-say}
+use Rattle.appointments.specs.Answers.{accepted, refused}
+use Rattle.appointments.specs.Needed.{needing, needs-answer}
+use Rattle.bimtsure_c.proofs.Telling.{needed-words, needed-refused, words-say, needs-refused-say}
 use Rattle.bimtsure_c.proofs.Fitting.{needs-fit, needs-refusal-fits}
 use borrow.Author.Needs.{needs}
 use Rattle.bimtsure_c.proofs.bimtsure_needs.Statement.{statement}
@@ -12,14 +12,14 @@ use Rattle.bimtsure_c.proofs.bimtsure_needs.Tie as tie
 -- the checks passed
 gives :
     (c : tie.After-known-told) →
-    let a = c .before .before .before .before .before .args in needs-answer (a .p) (a .list .now) ≡ needed.Words (c .before .needed .given .0 .0) (c .before .needed .given .0 .1 .0)
-gives c = sym (c .before .before .before .needs .ensures) ∙ c .before .needed .given .1
+    let a = c .before .before .before .before .before .args in needs-answer (a .p) (a .list .now) ≡ accepted (needing (c .before .needed .given .0 .0) (c .before .needed .given .0 .1 .0))
+gives c = needed-words _ _ _ (sym (c .before .before .before .needs .ensures) ∙ c .before .needed .given .1)
 
 -- a check refused
 refuses :
     (c : tie.After-known-told2) →
-    let a = c .before .before .before .before .before .args in needs-answer (a .p) (a .list .now) ≡ needed.Refused (c .before .needed2 .given .0 .0) (c .before .needed2 .given .0 .1 .0)
-refuses c = sym (c .before .before .before .needs .ensures) ∙ c .before .needed2 .given .1
+    let a = c .before .before .before .before .before .args in needs-answer (a .p) (a .list .now) ≡ refused (c .before .needed2 .given .0 .0) (c .before .needed2 .given .0 .1 .0)
+refuses c = needed-refused _ _ _ (sym (c .before .before .before .needs .ensures) ∙ c .before .needed2 .given .1)
 
 cast-t10 : tie.Need-cast-t10
 cast-t10 c = let a = c .before .before .before .before .before .args in omega (arith, needs-fit (a .p) (a .list .now) _ _ (gives c))

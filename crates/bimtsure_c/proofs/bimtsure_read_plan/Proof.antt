@@ -2,8 +2,8 @@
 -- desk left them. Assumes nothing.
 use mathlib.Core.Path.{_≡_, sym, _∙_}
 use native.Mathlib.Omega.{arith}
-use Rattle.desk.specs.Answers.{accepted, refused}
-use Rattle.desk.specs.Filed.{header-of, reading-answer}
+use Rattle.appointments.specs.Answers.{accepted, refused}
+use Rattle.filing.specs.Filed.{header-of, reading-answer}
 use Rattle.bimtsure_c.proofs.Telling.{read-plan, read-refused, read-says, read-refused-says}
 use Rattle.bimtsure_c.proofs.Fitting.{reading-fits, reading-refusal-fits}
 use borrow.Author.Needs.{needs}

@@ -1,8 +1,8 @@
 -- `bimtsure_view` meets its contract: opening's number and place, and where it is open the numbers of the step. Assumes nothing.
 use mathlib.Core.Path.{_≡_, sym, _∙_}
 use native.Mathlib.Omega.{arith}
-use Rattle.desk.specs.Answers.{accepted, refused}
-use Rattle.desk.specs.Viewer.{viewer-answer, view-step, view-next}
+use Rattle.appointments.specs.Answers.{accepted, refused}
+use Rattle.viewing.specs.Viewer.{viewer-answer, view-step, view-next}
 use Rattle.bimtsure_c.proofs.Telling.{opened-open, opened-refused, closed-says, open-says}
 use Rattle.bimtsure_c.proofs.Fitting.{viewer-refusal-fits}
 use borrow.Author.Needs.{needs}

@@ -1,9 +1,9 @@
 -- `bimtsure_waiting` meets its contract: its numbers are those of the answer that the desk told. Assumes nothing.
 use mathlib.Core.Path.{_≡_, sym, _∙_}
 use native.Mathlib.Omega.{arith}
-use Rattle.desk.specs.Answers.{accepted, refused}
-use Rattle.desk.specs.Waiting.{waiting-answer}
-use Rattle.bimtsure_c.proofs.Telling.{asked-waits, asked-refused, accepted-says, refused-says}
+use Rattle.appointments.specs.Answers.{accepted, refused}
+use Rattle.asking.specs.Waiting.{waiting-answer}
+use Rattle.bimtsure_c.proofs.Telling.{one-figure, one-refusal, accepted-says, refused-says}
 use Rattle.bimtsure_c.proofs.Fitting.{waiting-fits, waiting-refusal-fits}
 use borrow.Author.Needs.{needs}
 use Rattle.bimtsure_c.proofs.bimtsure_waiting.Statement.{statement}
@@ -13,13 +13,13 @@ use Rattle.bimtsure_c.proofs.bimtsure_waiting.Tie as tie
 waits :
     (c : tie.After-known-told) →
     let a = c .before .before .before .before .before .args in waiting-answer (a .p) (a .list .now) (a .party) ≡ accepted (c .before .asked .given .0 .0)
-waits c = asked-waits _ _ (sym (c .before .before .before .waiting .ensures) ∙ c .before .asked .given .1)
+waits c = one-figure _ _ (sym (c .before .before .before .waiting .ensures) ∙ c .before .asked .given .1)
 
 -- the desk refused
 refuses :
     (c : tie.After-known-told2) →
     let a = c .before .before .before .before .before .args in waiting-answer (a .p) (a .list .now) (a .party) ≡ refused (c .before .asked2 .given .0 .0) (c .before .asked2 .given .0 .1 .0)
-refuses c = asked-refused _ _ _ (sym (c .before .before .before .waiting .ensures) ∙ c .before .asked2 .given .1)
+refuses c = one-refusal _ _ _ (sym (c .before .before .before .waiting .ensures) ∙ c .before .asked2 .given .1)
 
 cast-t9 : tie.Need-cast-t9
 cast-t9 c = let a = c .before .before .before .before .before .args in omega (arith, waiting-fits (a .p) (a .list .now) (a .party) _ (waits c))

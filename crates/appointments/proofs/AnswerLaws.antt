@@ -1,0 +1,28 @@
+-- What an answer tells of its checks, and what a lent buffer holds after acceptance. Assumes nothing.
+use Prim.Native.Nat.{ℕ}
+use mathlib.Core.Path.{_≡_, refl}
+use mathlib.Core.List.{List, _++_}
+use native.Mathlib.Omega.{arith}
+use lib.ListN.{length, drop}
+use Rattle.appointments.specs.Checks.{Check}
+use Rattle.appointments.specs.Answers.{Answer, accepted, refused, answer, after}
+
+module _ {F : Type 0} where
+  -- an accepted answer: the checks passed, and the figures are the call's
+  pub accepted-passed : (c : Check) (f g : F) → answer c f ≡ accepted g → (c ≡ Check.passed) × (f ≡ g)
+  accepted-passed Check.passed f g e = (refl, (cc))
+  accepted-passed (Check.refused number place) f g e =
+      let z : _≡_ {A = ℕ} 0 1 = cc in absurd (omega arith)
+
+  -- a refusal is that of the checks
+  pub refused-checked : (c : Check) (f : F) (n i : ℕ) → answer c f ≡ refused n i → c ≡ Check.refused n i
+  refused-checked Check.passed f n i e = cc
+  refused-checked (Check.refused k j) f n i e = cc
+
+  -- a buffer after acceptance
+  pub after-accepted : (a : Answer F) (f : F) (new buffer : List ℕ) → a ≡ accepted f → after a new buffer ≡ new ++ drop (length new) buffer
+  after-accepted a f new buffer e = rw e
+
+  -- and after a refusal
+  pub after-refused : (a : Answer F) (number place : ℕ) (new buffer : List ℕ) → a ≡ refused number place → after a new buffer ≡ buffer
+  after-refused a number place new buffer e = rw e

@@ -1,0 +1,5 @@
+pub mod Filed
+pub mod Told
+pub mod Buffers
+pub mod Computing
+pub mod Examples

@@ -1,0 +1,3 @@
+pub mod ViewerLaws
+pub mod ViewerSteps
+pub mod Searching

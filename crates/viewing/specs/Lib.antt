@@ -1,0 +1,4 @@
+pub mod Viewer
+pub mod Told
+pub mod Computing
+pub mod Examples

@@ -1,0 +1,46 @@
+-- What opening and a step tell in the code, an enum for each, and the definitions' answer that each case stands for. Assumes nothing.
+use Prim.Native.Nat.{ℕ, _+_, _*_}
+use mathlib.Core.Bool.{Bool}
+use mathlib.Core.List.{List}
+use lib.ListN.{getD}
+use denote.Ref.{now}
+use Rattle.appointments.specs.Appointments.{appt}
+use Rattle.appointments.specs.Answers.{Answer, accepted, refused}
+use Rattle.viewing.specs.Viewer.{named, Step, found, end, view-step, view-next}
+use Rattle.viewing.specs.declared.Opened.{Opened}
+use Rattle.viewing.specs.declared.Opened.the-variants as opened
+use Rattle.viewing.specs.declared.Viewer.{Viewer}
+use Rattle.viewing.specs.declared.Shown.{Shown}
+use Rattle.viewing.specs.declared.Shown.the-variants as shown
+
+-- Opening: accepted is open; a refusal has its number and place.
+abbrev pub opened-of : Answer Unit → Opened
+opened-of (accepted u) = opened.Open
+opened-of (refused number place) = opened.Refused number place
+
+-- A step and where the viewer then stands: what was found with its position and slot, or the end.
+abbrev pub shown-of : Step → ℕ → Shown
+shown-of (found s) next = shown.Found (s .position) (s .slot) next
+shown-of end next = shown.End next
+
+-- what a step from a position tells
+abbrev pub step-shown : ℕ → List ℕ → List ℕ → ℕ → Shown
+step-shown party list slots from = shown-of (view-step party list slots from) (view-next party list slots from)
+
+-- where a step leaves the viewer
+abbrev pub stands-of : Shown → ℕ
+stands-of (shown.Found position slot next) = next
+stands-of (shown.End next) = next
+
+-- the viewer after a step: the same list and slots, and where it then stands
+abbrev pub stepped : ℕ → Viewer → Viewer
+stepped party v =
+    record {
+      list = v .list;
+      slots = v .slots;
+      at = view-next party (now (v .list)) (now (v .slots)) (v .at);
+    }
+
+-- the appointment at a position of the list names the party
+abbrev pub named-at : ℕ → List ℕ → ℕ → Bool
+named-at party list i = named party (appt (getD list (2 * i) 0) (getD list (2 * i + 1) 0))
