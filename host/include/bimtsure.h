@@ -26,7 +26,8 @@
 #define BIMTSURE_MOST_APPOINTMENTS 4096
 #define BIMTSURE_MOST_CELLS 8192
 
-/* So many words of scratch, 128*(8192 + 1024), are enough for every list that passes check 6. */
+/* So many words of scratch, 128*(8192 + 1024), are enough for every list that passes check 6; how many one list needs,
+ * bimtsure_needs says. */
 #define BIMTSURE_SCRATCH_WORDS 1179648
 
 /* The numbers of answers. The place of 4 and 5 is the position of the first such appointment, counted from 0; that of 10 is the
