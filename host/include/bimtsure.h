@@ -59,7 +59,7 @@ extern "C" {
  * refuses by 1 to 9 with its place, and D 0; 9 where some closed round is of odd length. Slots then stay as they were.
  *
  * Scratch needs W = 128*P*(D+1) words, or else 8; what it holds before affects nothing. After acceptance and after 9 its first W
- * words are 0 and the others stay; after 1 to 8 all of it stays. */
+ * words are 0 and the others stay; after 1 to 8 all of it stays. Needs at most 16 KiB of stack. */
 struct bimtsure_answer {
     uint32_t number;
     uint32_t place;
@@ -69,7 +69,7 @@ struct bimtsure_answer bimtsure_plan(uint16_t p, const uint16_t *list, size_t li
                                      uint32_t *scratch, size_t scratch_len);
 
 /* How much scratch a list needs: W = 128*P*(D+1) words, and D. Refuses by 1 to 6, with its place; d and words are then 0. A list
- * that is not refused is never refused by 8 if the planning call is lent that many words or more. */
+ * that is not refused is never refused by 8 if the planning call is lent that many words or more. Needs at most 8 KiB of stack. */
 struct bimtsure_needs_answer {
     uint32_t number;
     uint32_t place;
@@ -78,7 +78,8 @@ struct bimtsure_needs_answer {
 };
 struct bimtsure_needs_answer bimtsure_needs(uint16_t p, const uint16_t *list, size_t list_len);
 
-/* Waiting of a party: D minus its load. Refuses by 1 to 5; 5 with place 0 also if the party is not below P. */
+/* Waiting of a party: D minus its load. Refuses by 1 to 5; 5 with place 0 also if the party is not below P. Needs at most 8 KiB
+ * of stack. */
 struct bimtsure_waiting_answer {
     uint32_t number;
     uint32_t place;
@@ -86,7 +87,7 @@ struct bimtsure_waiting_answer {
 };
 struct bimtsure_waiting_answer bimtsure_waiting(uint16_t p, const uint16_t *list, size_t list_len, uint16_t party);
 
-/* Writes a filed plan and gives its length in bytes. Refuses by 1, 2, 3, 7 and 13. */
+/* Writes a filed plan and gives its length in bytes. Refuses by 1, 2, 3, 7 and 13. Needs at most 1 KiB of stack. */
 struct bimtsure_filed {
     uint32_t number;
     uint32_t place;
@@ -95,7 +96,7 @@ struct bimtsure_filed {
 struct bimtsure_filed bimtsure_file_plan(uint16_t p, const uint16_t *list, size_t list_len, const uint16_t *slots,
                                          size_t slots_len, uint8_t *output, size_t output_len);
 
-/* Reads a filed plan into a list and its slots, and gives P and A. Refuses by 12, 1, 3 and 13. */
+/* Reads a filed plan into a list and its slots, and gives P and A. Refuses by 12, 1, 3 and 13. Needs at most 1 KiB of stack. */
 struct bimtsure_read {
     uint32_t number;
     uint32_t place;
@@ -107,7 +108,8 @@ struct bimtsure_read bimtsure_read_plan(const uint8_t *bytes, size_t bytes_len, 
 
 /* Opens a viewer over a list and its slots (refuses by 2 and 7) and takes one step of it, from a position to the next
  * appointment of a party: found is 1, with the appointment's position and slot; or 0 at the end. The next step starts at `next`,
- * which is A at the end. Begin at 0. Positions are as wide as a length, since opening bounds no list. */
+ * which is A at the end. Begin at 0. Positions are as wide as a length, since opening bounds no list. Needs at most 1 KiB of
+ * stack. */
 struct bimtsure_seen {
     uint32_t number;
     uint32_t place;

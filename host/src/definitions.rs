@@ -329,7 +329,7 @@ mod tests {
         is("use Rattle.matching.specs.declared.Table.{Table}", "matching declared.Table");
         is("use Rattle.two_color.specs.declared.TwoColoring.the-variants", "two_color declared.TwoColoring");
         is("use Rattle.euler.specs.declared.rings.Rings.{Rings}", "euler declared.rings.Rings");
-        is("use Rattle.desk.specs.declared.filing.Read.the-variants as read", "desk declared.filing.Read");
+        is("use Rattle.filing.specs.declared.Read.the-variants as read", "filing declared.Read");
         assert_eq!(used("use mathlib.Core.List.{List}"), None);
     }
 }

@@ -42,7 +42,7 @@ pub fn rbmg_edge_color_when_power_of_two(
 }
 
 // Writes at `to` the graph at `g` without the matching of `n` numbers at `at`. Nothing but `multigraph::remove_matching` with its
-// conditions in one `requires`: `set_aside` is proved by a walk, and there a callee has one (docs/WALKS.md).
+// conditions in one `requires`: `set_aside` is proved by a walk, and there a callee has one (docs/MARK-PROOFS.md).
 fn take_out(s: &mut [u32], places: usize, g: usize, to: usize, at: usize, n: usize)
     requires { ⌜ (places < 4294967296) × (g < 4294967296) × (to < 4294967296) × (at < 4294967296) × (n < 4294967296) ⌝ }
     ensures { λ r. ⌜ Removes-matching places g to at n (now (s .entry)) (now (s .exit)) ⌝ }

@@ -247,7 +247,7 @@ fn flagged_in(s: &[u32], h: usize, room: usize, pairs: usize) -> usize
 }
 
 // The same of words that are lent to be changed; none is. It stands here for `search`, which is proved by a walk: there a callee
-// has the scratch lent to be changed, and one `requires` (docs/WALKS.md).
+// has the scratch lent to be changed, and one `requires` (docs/MARK-PROOFS.md).
 fn flagged_left(s: &mut [u32], h: usize, room: usize, pairs: usize) -> usize
     requires { ⌜ (h + room ≤ length (now s)) × (2 + 2 * size (now s) h ≤ room) ⌝ }
     ensures { λ r. ⌜ ((ends : ℕ) → r ≡ flagged-pairs (graph-at (now (s .entry)) ends pairs h)) × (now (s .exit) ≡ now (s .entry)) ⌝ }
