@@ -4,7 +4,7 @@ use libc::STDERR_FILENO;
 use libc::STDIN_FILENO;
 use libc::STDOUT_FILENO;
 use text::Came;
-ghost use Prim.Native.Nat.{_+_, _≤_};
+ghost use Prim.Native.Nat.{_+_, _<_, _≤_};
 ghost use lib.ListN.{length};
 
 // What one read gave: how many bytes, none at the end of the input, or that it failed.
@@ -15,7 +15,7 @@ struct Piece {
 
 // One read into the buffer from where the bytes end.
 fn read_piece(buffer: &mut [u8], from: usize) -> Piece
-    requires { ⌜ from ≤ length (now buffer) ⌝ }
+    requires { ⌜ from < length (now buffer) ⌝ }
     ensures { λ r. ⌜ from + r .count ≤ length (now (buffer .entry)) ⌝ }
 {
     let behind = &mut buffer[from..];
@@ -29,11 +29,11 @@ fn read_piece(buffer: &mut [u8], from: usize) -> Piece
 
 // Reads until the input ends or the buffer is full, however few bytes come at a time. A read may fail for a while, by a signal or
 // since the next bytes aren't there yet, so it is tried again; after a million failed reads in all the input is broken.
-fn read_input(input: &mut [u8; 4097]) -> Came {
+fn read_input(buffer: &mut [u8]) -> Came {
     let mut count = 0;
     let mut tries: usize = 1_000_000;
-    while count < 4097 && 0 < tries {
-        let piece = read_piece(input, count);
+    while count < buffer.len() && 0 < tries {
+        let piece = read_piece(buffer, count);
         if piece.failed {
             tries -= 1;
             continue;

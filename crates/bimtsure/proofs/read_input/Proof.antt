@@ -1,17 +1,19 @@
--- `read_input` is safe and ends: a turn brings bytes, of which at most 4,097 come, or is a failed try, of which there are a
+-- `read_input` is safe and ends: a turn brings bytes, for which the buffer has room, or is a failed try, of which there are a
 -- million. Assumes nothing.
 use Prim.Native.Nat.{_+_, _-_, _≤_}
+use mathlib.Core.Path.{_≡_}
 use native.Mathlib.Omega.{arith}
+use lib.ListN.{length}
 use borrow.Author.Tests.{ltb-true}
 use borrow.Author.Needs.{needs}
 use Rattle.bimtsure.proofs.read_input.Statement.{statement}
 use Rattle.bimtsure.proofs.read_input.Tie as tie
 
 abbrev Inv-loop : tie.InvT-loop
-Inv-loop input₀ count₀ tries₀ input count tries = count ≤ 4097
+Inv-loop buffer₀ count₀ tries₀ buffer count tries = (length buffer ≡ length buffer₀) × (count ≤ length buffer)
 
 abbrev μ-loop : tie.MeasureT-loop
-μ-loop input₀ count₀ tries₀ input count tries = 4097 - count + tries
+μ-loop buffer₀ count₀ tries₀ buffer count tries = length buffer - count + tries
 
 loop-less : tie.Need-loop-less Inv-loop μ-loop
 loop-less c = omega (arith, ltb-true)
@@ -26,6 +28,8 @@ read-input-spec =
     (λ c κs. search needs)
     (λ c. search needs)
     loop-less
+    (λ c. search needs)
+    (λ c. search needs)
     (λ c. search needs)
     (λ c. search needs)
     (λ c. search needs)
