@@ -144,6 +144,10 @@ text-goes-on bytes = go (parted bytes .lines) (parted bytes .all) (parted bytes 
 -- ── the report ──
 
 module _ (bytes : List ℕ) where
+  report-long : 4096 < length bytes → report true bytes ≡ refused 11 0
+  unfolding report
+  report-long h = rw (lt-ltb 4096 (length bytes) h)
+
   report-read : length bytes ≤ 4096 → report true bytes ≡ input-report (broke-off bytes (read-text bytes))
   unfolding report read-input
   report-read h = rw (le-ltb 4096 (length bytes) h)
@@ -166,10 +170,6 @@ module _ (bytes : List ℕ) where
       go true i e = let z : _≡_ {A = ℕ} 0 1 = cc in omega arith
       go false (malformed n) e = let z : _≡_ {A = ℕ} 0 1 = cc in omega arith
       go false (input Q l) e = let z : _≡_ {A = ℕ} 0 1 = cc in omega arith
-
-  report-long : 4096 < length bytes → report true bytes ≡ refused 11 0
-  unfolding report
-  report-long h = rw (lt-ltb 4096 (length bytes) h)
 
 -- A broken input is refused, as specs/Broken.antt says.
 pub refuses-broken : (bytes : List ℕ) → Refuses-broken bytes

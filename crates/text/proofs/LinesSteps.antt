@@ -217,9 +217,9 @@ module _ (bytes : List ℕ) (r : ReadInput) (before after : List ℕ) (t : Read-
   input-malformed false n e = t
   input-malformed true n e = rw (was-malformed (read-text bytes) r n before after e t) e
 
-  pub input-broken : (P count : ℕ) → r ≡ read.Input P count → Read-as (read-input true bytes) (read.Malformed (count / 2 + 2)) before after
+  pub input-broken : (P count n : ℕ) → r ≡ read.Input P count → n ≡ count / 2 + 2 → Read-as (read-input true bytes) (read.Malformed n) before after
   unfolding read-input
-  input-broken P count e =
+  input-broken P count n e h =
       let w : Was-read (read-text bytes) P count after = was-read (read-text bytes) r P count before after e t in
       rw (w .is)
       (ap read.Malformed (omega (arith, reads bytes P (take count after) (w .is) .lines, length-take-le count after (w .inside))))

@@ -231,6 +231,11 @@ malformed-place bytes m e = go (parts line-feed bytes) (parts-spread line-feed b
     go (rest ∷ []) l q = let same : 1 ≡ m = cc in omega arith
     go (line ∷ next ∷ more) l q = first (number line) line (next ∷ more) refl l q
 
+-- the malformed line
+abbrev line-of : Input → ℕ
+line-of (malformed n) = n
+line-of (input P list) = 0
+
 -- The same of an input that may be broken.
 pub input-place : (broken : Bool) (bytes : List ℕ) (m : ℕ) → read-input broken bytes ≡ malformed m → m ≤ length bytes + 1
 unfolding read-input
@@ -239,4 +244,4 @@ input-place true bytes m e = go (read-text bytes) refl e
   where
     go : (i : Input) → read-text bytes ≡ i → broke-off bytes i ≡ malformed m → m ≤ length bytes + 1
     go (malformed n) h q = malformed-place bytes m (h ∙ q)
-    go (input P list) h q = let same : 1 + count line-feed bytes ≡ m = cc in omega (arith, count-le line-feed bytes)
+    go (input P list) h q = omega (arith, ap line-of q, count-le line-feed bytes)

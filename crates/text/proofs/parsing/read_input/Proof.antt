@@ -1,4 +1,5 @@
 -- `read_input` meets its contract: a list that was read of a broken input makes the line behind its lines malformed. Assumes nothing.
+use mathlib.Core.Path.{refl}
 use Rattle.text.proofs.LinesSteps.{input-malformed, input-broken, input-whole}
 use borrow.Author.Needs.{needs}
 use Rattle.text.proofs.parsing.read_input.Statement.{statement}
@@ -15,7 +16,7 @@ returns-2 c =
     let a = c .before .before .before .before .before .before .before .before .before .before .args in
     let read = c .before .before .before .before .before .before .read-text in
     let told = c .before .before .read .given in
-    rw (c .if1 .taken) (input-broken (a .bytes .now) (read .result) (a .list .now) (read .last .1 .0) (read .ensures) (told .0 .0) (told .0 .1 .0) (told .1))
+    rw (c .if1 .taken) (input-broken (a .bytes .now) (read .result) (a .list .now) (read .last .1 .0) (read .ensures) (told .0 .0) (told .0 .1 .0) _ (told .1) refl)
 
 returns-3 : tie.Need-returns-3
 returns-3 c =
