@@ -43,10 +43,6 @@ module _ (P : ℕ) (list : List ℕ) (party : ℕ) where
     unfolding waiting-answer
     asked-5 h = rw (good-goes-on P list (bar (leb P party) 5 passed) list-good, le-leb P party h)
 
-    -- the load, as the code counts it, is at most D
-    pub load-under : party < P → count party list ≤ d
-    load-under h = omega (arith, figure, load-count party list (list-good .even), load-le-largest P (appts list) party h)
-
     pub asked-waits : party < P → answered.Accepted (d - count party list) ≡ answered-of (waiting-answer P list party)
     unfolding waiting
     asked-waits h =

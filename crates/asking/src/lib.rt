@@ -1,6 +1,7 @@
 // Document 01's waiting of a party: D minus its load.
 use appointments::Answered;
 ghost use mathlib.Core.Path.{_≡_};
+ghost use Prim.Native.Nat.{_-_};
 ghost use Rattle.words.specs.Basics.{count};
 ghost use Rattle.appointments.specs.Answers.{«answered-of»};
 ghost use Rattle.asking.specs.Waiting.{«waiting-answer»};
@@ -20,6 +21,17 @@ fn load_of(list: &[u16], party: u16) -> usize
     n
 }
 
+// Waiting of a party of a list that has passed checks 1 to 5, which gave D: for a caller that has checked the list already.
+pub fn waiting_of(d: usize, list: &[u16], party: u16) -> usize
+    ensures { λ r. ⌜ r ≡ d - count party (now (list .entry)) ⌝ }
+{
+    let load = load_of(list, party);
+    if d < load {
+        return 0;
+    }
+    d - load
+}
+
 // Checks 1 to 5, then 5 with place 0 if the party inquired about is not below P.
 pub fn waiting(p: u16, list: &[u16], party: u16) -> Answered
     ensures { λ r. ⌜ r ≡ answered-of (waiting-answer p (now (list .entry)) party) ⌝ }
@@ -31,8 +43,7 @@ pub fn waiting(p: u16, list: &[u16], party: u16) -> Answered
             if p <= party {
                 return Answered::Refused(5, 0);
             }
-            let load = load_of(list, party);
-            Answered::Accepted(d - load)
+            Answered::Accepted(waiting_of(d, list, party))
         }
     }
 }

@@ -8,5 +8,4 @@ pub mod WrittenInput
 pub mod ParsingSteps
 pub mod LinesSteps
 pub mod PlacingSteps
-pub mod WaitingOf
 pub mod Main

@@ -8,8 +8,6 @@ use native.Mathlib.Omega.{arith}
 use borrow.Author.Tests.{lt-ltb, le-ltb}
 use lib.ListN.{length, take, drop, length-append}
 use lib.Seq.{length-take-le}
-use Rattle.appointments.specs.Checks.{passed}
-use Rattle.appointments.proofs.ChecksLaws.{good-goes-on}
 use Rattle.planning.specs.Planning.{planned, refusal, plan-answer, plan-slots}
 use Rattle.planning.specs.Planning as Planning
 use Rattle.planning.specs.Told.{answer-of}
@@ -17,7 +15,7 @@ use Rattle.planning.specs.declared.Answer.{Answer}
 use Rattle.text.specs.Reading.{Input, input, read-input}
 use Rattle.text.specs.Printing.{printed, plan-lines, refusal-line}
 use Rattle.text.specs.Text.{lent-slots, lent-scratch, planned-report, input-report, report, text-output}
-use Rattle.text.specs.Placed.{Room, Printed, Passes-1-to-5}
+use Rattle.text.specs.Placed.{Room, Printed, Has-d}
 use Rattle.text.proofs.TextLaws.{planned-passes, answer-fits, output-fits}
 
 -- bytes that 1,801 hold have room
@@ -48,9 +46,10 @@ module _ (P : ℕ) (list : List ℕ) where
   -- planned with D
   pub plan-needs :
       (D : ℕ) (slots out : List ℕ) → Answered (planned D) → slots ≡ main-slots → 1801 ≤ length out →
-      Passes-1-to-5 P list × Room out 0 (plan-lines P list D slots)
+      Has-d P list D × Room out 0 (plan-lines P list D slots)
   plan-needs D slots out e s h =
-      (good-goes-on P list passed (planned-passes P list lent-slots lent-scratch D e .0 .good), rw s (room (bytes-of (planned D)) out (bytes-fit (planned D) e) h))
+      let told = planned-passes P list lent-slots lent-scratch D e in
+      (record { even = told .0 .good .even; largest = sym (told .1) }, rw s (room (bytes-of (planned D)) out (bytes-fit (planned D) e) h))
 
   -- refused
   pub refusal-needs :

@@ -1,11 +1,10 @@
 -- What printing does to a lent buffer: bytes stored from a place on, and the place behind them. Assumes nothing.
-use Prim.Native.Nat.{ℕ, _+_, _*_, _≤_}
+use Prim.Native.Nat.{ℕ, _+_, _*_, _%_, _≤_}
 use mathlib.Core.Path.{_≡_}
 use mathlib.Core.List.{List, [], _∷_, _++_}
 use lib.ListN.{length, getD, drop}
 use lib.Seq.{sets}
-use Rattle.appointments.specs.Appointments.{appt}
-use Rattle.appointments.specs.Checks.{passed, checks-1-to-5}
+use Rattle.appointments.specs.Appointments.{appt, appts, largest-load}
 use Rattle.text.specs.Printing.{appointment-line}
 
 -- the buffer has room for the bytes from a place on
@@ -26,9 +25,10 @@ pub record Printed (bytes : List ℕ) (count : ℕ) (buffer after : List ℕ) : 
 abbrev pub field : List ℕ → ℕ → List ℕ
 field bytes end = bytes ++ (end ∷ [])
 
--- the list passes checks 1 to 5, so each party has a waiting
-abbrev pub Passes-1-to-5 : ℕ → List ℕ → Type 0
-Passes-1-to-5 P list = checks-1-to-5 P list passed ≡ passed
+-- the list has whole appointments and D is its largest load, so each party's waiting is D minus how often the list names it
+pub record Has-d (P : ℕ) (list : List ℕ) (D : ℕ) : Type 0 where
+  pub even : length list % 2 ≡ 0
+  pub largest : D ≡ largest-load P (appts list)
 
 -- the line of the appointment at a position of the list
 abbrev pub appointment-line-at : List ℕ → List ℕ → ℕ → List ℕ

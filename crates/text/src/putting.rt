@@ -1,14 +1,12 @@
 // What main prints: bytes put into a lent output, each line behind the one before. Every function needs room for its bytes,
 // and gives the place behind them.
-use appointments::Answered;
 ghost use mathlib.Core.Path.{_≡_};
 ghost use mathlib.Core.List.{[], _∷_};
 ghost use Prim.Native.Nat.{_+_, _*_, _<_};
 ghost use lib.ListN.{length};
 ghost use Rattle.appointments.specs.Appointments.{appts};
-ghost use Rattle.asking.specs.Waiting.{waiting};
 ghost use Rattle.text.specs.Printing.{decimal, «party-line», «appointment-lines», «party-lines», «plan-lines», «refusal-line»};
-ghost use Rattle.text.specs.Placed.{Placed, Printed, Room, field, «Passes-1-to-5», «appointment-line-at»};
+ghost use Rattle.text.specs.Placed.{Placed, Printed, Room, field, «Has-d», «appointment-line-at»};
 
 // Puts one byte.
 fn put_byte(out: &mut [u8], at: usize, byte: u8) -> usize
@@ -82,38 +80,26 @@ fn put_appointments(list: &[u16], slots: &[u16], out: &mut [u8], start: usize) -
     at
 }
 
-// The waiting of a party, which the desk gives of every list that passes checks 1 to 5.
-fn waiting_of(p: u16, list: &[u16], party: u16) -> usize
-    requires { ⌜ Passes-1-to-5 p (now list) × (party < p) ⌝ }
-    ensures { λ r. ⌜ r ≡ waiting p (appts (now (list .entry))) party ⌝ }
-{
-    let asked = asking::waiting(p, list, party);
-    match asked {
-        Answered::Accepted(n) => n,
-        Answered::Refused(_, _) => 0,
-    }
-}
-
 // Puts the line of a party: the party and its waiting.
-fn put_party(p: u16, list: &[u16], party: u16, out: &mut [u8], at: usize) -> usize
-    requires { ⌜ Passes-1-to-5 p (now list) × ((party < p) × Room (now out) at (party-line p (appts (now list)) party)) ⌝ }
+fn put_party(p: u16, d: usize, list: &[u16], party: u16, out: &mut [u8], at: usize) -> usize
+    requires { ⌜ Has-d p (now list) d × Room (now out) at (party-line p (appts (now list)) party) ⌝ }
     ensures { λ r. ⌜ Placed (now (out .entry)) at (party-line p (appts (now (list .entry))) party) (now (out .exit)) r ⌝ }
 {
-    let waits = waiting_of(p, list, party);
+    let waits = asking::waiting_of(d, list, party);
     let at_party = put_bytes(out, at, b"party ");
     let at_waits = put_field(out, at_party, party as usize, 32);
     put_field(out, at_waits, waits, 10)
 }
 
 // Puts the lines of all parties.
-fn put_parties(p: u16, list: &[u16], out: &mut [u8], start: usize) -> usize
-    requires { ⌜ Passes-1-to-5 p (now list) × Room (now out) start (party-lines p (appts (now list)) 0 p) ⌝ }
+fn put_parties(p: u16, d: usize, list: &[u16], out: &mut [u8], start: usize) -> usize
+    requires { ⌜ Has-d p (now list) d × Room (now out) start (party-lines p (appts (now list)) 0 p) ⌝ }
     ensures { λ r. ⌜ Placed (now (out .entry)) start (party-lines p (appts (now (list .entry))) 0 p) (now (out .exit)) r ⌝ }
 {
     let mut at = start;
     let mut v = 0;
     while v < p {
-        at = put_party(p, list, v, out, at);
+        at = put_party(p, d, list, v, out, at);
         v += 1;
     }
     at
@@ -121,13 +107,13 @@ fn put_parties(p: u16, list: &[u16], out: &mut [u8], start: usize) -> usize
 
 // Puts an accepted plan: D, then the appointments, then the parties. It gives the number of bytes.
 pub(crate) fn put_plan(p: u16, list: &[u16], d: usize, slots: &[u16], out: &mut [u8]) -> usize
-    requires { ⌜ Passes-1-to-5 p (now list) × Room (now out) 0 (plan-lines p (now list) d (now slots)) ⌝ }
+    requires { ⌜ Has-d p (now list) d × Room (now out) 0 (plan-lines p (now list) d (now slots)) ⌝ }
     ensures { λ r. ⌜ Printed (plan-lines p (now (list .entry)) d (now (slots .entry))) r (now (out .entry)) (now (out .exit)) ⌝ }
 {
     let at_number = put_bytes(out, 0, b"plan ");
     let at_appointments = put_field(out, at_number, d, 10);
     let at_parties = put_appointments(list, slots, out, at_appointments);
-    put_parties(p, list, out, at_parties)
+    put_parties(p, d, list, out, at_parties)
 }
 
 // Puts the one line of a refusal. It gives the number of bytes.

@@ -1,5 +1,5 @@
--- `waiting` meets its contract: what the list's checks said stays, then the party is checked, and its load is at most D. Assumes nothing.
-use Rattle.asking.proofs.WaitingSteps.{asked-5, asked-refused, asked-waits, load-under}
+-- `waiting` meets its contract: what the list's checks said stays, then the party is checked, and its waiting counted. Assumes nothing.
+use Rattle.asking.proofs.WaitingSteps.{asked-5, asked-refused, asked-waits}
 use mathlib.Core.Path.{sym, _∙_}
 use borrow.Author.Needs.{needs}
 use Rattle.asking.proofs.waiting.Statement.{statement}
@@ -10,11 +10,6 @@ returns c =
     let a = c .before .before .before .before .before .before .args in
     asked-5 (a .p) (a .list .now) (a .party) (c .before .before .listed2 .given .0 .0) (sym (c .before .before .before .before .check-list .ensures) ∙ c .before .before .listed2 .given .1) (c .if1 .taken)
 
-sub-t12 : tie.Need-sub-t12
-sub-t12 c =
-    let a = c .before .before .before .before .before .before .before .args in
-    rw (c .load-of .ensures) (load-under (a .p) (a .list .now) (a .party) (c .before .before .before .listed2 .given .0 .0) (sym (c .before .before .before .before .before .check-list .ensures) ∙ c .before .before .before .listed2 .given .1) (c .before .if1 .left))
-
 returns-2 : tie.Need-returns-2
 returns-2 c =
     let a = c .before .before .before .before .before .args in
@@ -23,7 +18,7 @@ returns-2 c =
 returns-3 : tie.Need-returns-3
 returns-3 c =
     let a = c .before .before .before .before .before .before .before .args in
-    rw (c .load-of .ensures) (asked-waits (a .p) (a .list .now) (a .party) (c .before .before .before .listed2 .given .0 .0) (sym (c .before .before .before .before .before .check-list .ensures) ∙ c .before .before .before .listed2 .given .1) (c .before .if1 .left))
+    rw (c .waiting-of .ensures) (asked-waits (a .p) (a .list .now) (a .party) (c .before .before .before .listed2 .given .0 .0) (sym (c .before .before .before .before .before .check-list .ensures) ∙ c .before .before .before .listed2 .given .1) (c .before .if1 .left))
 
 pub waiting-spec : {M : Type 1} → statement M
 waiting-spec =
@@ -34,6 +29,5 @@ waiting-spec =
     (λ c. search needs)
     returns
     (λ c κs. search needs)
-    sub-t12
     returns-2
     returns-3)

@@ -9,11 +9,11 @@ use Rattle.text.proofs.putting.put_parties.Statement.{statement}
 use Rattle.text.proofs.putting.put_parties.Tie as tie
 
 abbrev Inv-loop : tie.InvT-loop
-Inv-loop p list out₀ start at₀ v₀ out at v =
+Inv-loop p d list out₀ start at₀ v₀ out at v =
     (v ≤ p) × Underway out₀ start (party-lines p (appts list) 0 p) out at (party-lines p (appts list) v (p - v))
 
 abbrev μ-loop : tie.MeasureT-loop
-μ-loop p list out₀ start at₀ v₀ out at v = p - v
+μ-loop p d list out₀ start at₀ v₀ out at v = p - v
 
 loop-holds : tie.Need-loop-holds Inv-loop μ-loop
 loop-holds c =
@@ -23,7 +23,7 @@ put-party-requires : tie.Need-put-party-requires Inv-loop μ-loop
 put-party-requires c κs =
     let a = c .before .before .before .before .before .args in
     let next = party-next (a .p) (appts (a .list .now)) (c .before .before .loop .v) (omega arith) in
-    (c .before .before .before .before .before .pre .0, (omega arith, underway-room (c .before .before .loop .inv .1) _ _ next (c .before .before .before .before .before .pre .1)))
+    (c .before .before .before .before .before .pre .0, underway-room (c .before .before .loop .inv .1) _ _ next (c .before .before .before .before .before .pre .1))
 
 loop-again : tie.Need-loop-again Inv-loop μ-loop
 loop-again c =

@@ -16,10 +16,12 @@ abbrev Fields : tie.After-waiting-of → List ℕ
 Fields c = ascii "party " ++ (field (decimal (c .before .before .before .args .party)) space ++ field (decimal (c .waiting-of .result)) line-feed)
 
 fields : (c : tie.After-waiting-of) → party-line (c .before .before .before .args .p) (appts (c .before .before .before .args .list .now)) (c .before .before .before .args .party) ≡ Fields c
-fields c = party-fields (c .before .before .before .args .p) (appts (c .before .before .before .args .list .now)) (c .before .before .before .args .party) _ (c .waiting-of .ensures)
+fields c =
+    let a = c .before .before .before .args in
+    party-fields (a .p) (a .list .now) (a .d) (a .party) _ (c .before .before .before .pre .0) (c .waiting-of .ensures)
 
 room : (c : tie.After-waiting-of) → Room (c .before .before .before .args .out .now) (c .before .before .before .args .at) (Fields c)
-room c = rw (fields c) at (c .before .before .before .pre .1 .1)
+room c = rw (fields c) at (c .before .before .before .pre .1)
 
 put-bytes-requires : tie.Need-put-bytes-requires
 unfolding ascii
