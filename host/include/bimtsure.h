@@ -43,7 +43,7 @@ enum bimtsure_number {
     BIMTSURE_TOO_FEW_SLOTS = 7,         /* fewer slot entries than appointments */
     BIMTSURE_TOO_FEW_WORDS = 8,         /* fewer than 128*P*(D+1) scratch words */
     BIMTSURE_ODD_ROUND = 9,             /* a closed round of odd length: there are no two sides */
-    BIMTSURE_BAD_LINE = 10,             /* a line of the program's input is malformed */
+    BIMTSURE_BAD_LINE = 10,             /* a line of the program's input is malformed, or the input broke off */
     BIMTSURE_LONG_INPUT = 11,           /* the program's input is above 4,096 bytes */
     BIMTSURE_WRONG_LENGTH = 12,         /* a filed plan has the wrong length */
     BIMTSURE_SHORT_OUTPUT = 13          /* an output is too short */

@@ -7,7 +7,7 @@ use native.Mathlib.Nat.{mul-add, mul-assoc, mul-comm}
 use Rattle.appointments.specs.Appointments.{appts, largest-load, scratch-words}
 use Rattle.appointments.specs.Checks.{Check, passed, refused, checks-1-to-6, checks}
 use Rattle.appointments.specs.Answers.{accepted, answer}
-use Rattle.appointments.specs.Needed.{needing, needs-answer, Asked, Exact, scratch-enough, Enough}
+use Rattle.appointments.specs.Needed.{needing, needs-answer, Asks-w, Exact, scratch-enough, Enough}
 use Rattle.appointments.proofs.AnswerLaws.{accepted-passed}
 use Rattle.appointments.proofs.ChecksLaws.{passes-passed, passed-sized}
 use Rattle.appointments.proofs.Causes.{Cause, many-parties, odd-length, many-appts, blank-end, unlisted-end, large-product, few-slots, small-scratch, cause-refused, refused-cause}

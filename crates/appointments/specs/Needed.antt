@@ -37,13 +37,13 @@ needed-of (refused number place) = Refused number place
 
 -- That W is what check 8 asks: where the call gives W, and there is a slot entry for each appointment, W words or more
 -- pass checks 1 to 8, and fewer are refused by 8.
-pub record Asked (P : ℕ) (list : List ℕ) (W slots scratch : ℕ) : Type 0 where
+pub record Asks-w (P : ℕ) (list : List ℕ) (W slots scratch : ℕ) : Type 0 where
   pub passes : W ≤ scratch → checks P list slots scratch ≡ passed
   pub refuses : scratch < W → checks P list slots scratch ≡ Check.refused 8 0
 
 abbrev pub Exact : ℕ → List ℕ → Type 0
 Exact P list =
-    (D W slots scratch : ℕ) → needs-answer P list ≡ accepted (needing D W) → length (appts list) ≤ slots → Asked P list W slots scratch
+    (D W slots scratch : ℕ) → needs-answer P list ≡ accepted (needing D W) → length (appts list) ≤ slots → Asks-w P list W slots scratch
 
 -- Scratch that is enough for every list that passes check 6: 128 × (8,192 + 1,024) words. The header's
 -- BIMTSURE_SCRATCH_WORDS.

@@ -15,7 +15,8 @@ pub enum Found {
     Nowhere,
 }
 
-// What a call says: accepted, with its one figure, or refused with document 01's number and place. The figure of checks is D.
+// What a call says: accepted, with its one figure, or refused with document 01's number and place. The figure of
+// checks is D (of 4 and 5 alone 0).
 pub enum Answered {
     Accepted(usize),
     Refused(usize, usize),

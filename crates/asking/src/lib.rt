@@ -1,10 +1,9 @@
 // Document 01's waiting of a party: D minus its load.
 use appointments::Answered;
 ghost use mathlib.Core.Path.{_≡_};
-ghost use Prim.Native.Nat.{_-_};
 ghost use Rattle.words.specs.Basics.{count};
 ghost use Rattle.appointments.specs.Answers.{«answered-of»};
-ghost use Rattle.asking.specs.Waiting.{«waiting-answer»};
+ghost use Rattle.asking.specs.Waiting.{waits, «waiting-answer»};
 
 // How often the list names the party.
 fn load_of(list: &[u16], party: u16) -> usize
@@ -21,9 +20,10 @@ fn load_of(list: &[u16], party: u16) -> usize
     n
 }
 
-// Waiting of a party of a list that has passed checks 1 to 5, which gave D: for a caller that has checked the list already.
+// Waiting of a party of a list that has passed checks 1 to 5, which gave D: for a caller that has checked the list already. Of any
+// other list it is 0 where the load is above D.
 pub fn waiting_of(d: usize, list: &[u16], party: u16) -> usize
-    ensures { λ r. ⌜ r ≡ d - count party (now (list .entry)) ⌝ }
+    ensures { λ r. ⌜ r ≡ waits d (now (list .entry)) party ⌝ }
 {
     let load = load_of(list, party);
     if d < load {

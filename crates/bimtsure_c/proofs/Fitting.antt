@@ -1,4 +1,4 @@
--- The numbers of the desk's answers, and how much scratch a list needs, fit 32 bits. Assumes nothing.
+-- The numbers of the answers fit 32 bits. Assumes nothing.
 use Prim.Native.Nat.{ℕ, _*_, _%_, _<_, _≤_}
 use mathlib.Core.Path.{_≡_, refl}
 use mathlib.Core.Bool.{Bool, not, _||_}

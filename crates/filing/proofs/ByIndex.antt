@@ -5,7 +5,7 @@ use mathlib.Core.List.{List, [], _∷_}
 use native.Mathlib.Omega.{arith}
 use lib.ListN.{length, getD, List·getD-eq-default}
 use Rattle.appointments.specs.Appointments.{appts}
-use Rattle.filing.specs.Filed.{bytes-of, words-of, rows, rows-list, rows-slots}
+use Rattle.filing.specs.Filed.{bytes-of, numbers-of, rows, rows-list, rows-slots}
 use Rattle.filing.proofs.Bytes.{words-length}
 
 -- ── numbers and their bytes ──
@@ -26,8 +26,8 @@ byte-high (w ∷ words) (suc k) =
     let on : 2 * suc k + 1 ≡ suc (suc (2 * k + 1)) = omega arith in
     rw on (byte-high words k)
 
-pub word-at : (bytes : List ℕ) (k : ℕ) → k < length bytes / 2 → getD bytes (2 * k) 0 + 256 * getD bytes (2 * k + 1) 0 ≡ getD (words-of bytes) k 0
-unfolding words-of
+pub word-at : (bytes : List ℕ) (k : ℕ) → k < length bytes / 2 → getD bytes (2 * k) 0 + 256 * getD bytes (2 * k + 1) 0 ≡ getD (numbers-of bytes) k 0
+unfolding numbers-of
 word-at [] k h = absurd (omega arith)
 word-at (low ∷ []) k h = absurd (omega arith)
 word-at (low ∷ high ∷ bytes) zero h = refl
@@ -36,10 +36,10 @@ word-at (low ∷ high ∷ bytes) (suc k) h =
     let off : 2 * suc k + 1 ≡ suc (suc (2 * k + 1)) = omega arith in
     rw (off, on) (word-at bytes k (omega arith))
 
-pub word-past : (bytes : List ℕ) (k : ℕ) → length bytes / 2 ≤ k → 0 ≡ getD (words-of bytes) k 0
+pub word-past : (bytes : List ℕ) (k : ℕ) → length bytes / 2 ≤ k → 0 ≡ getD (numbers-of bytes) k 0
 word-past bytes k h =
-    let past : length (words-of bytes) ≤ k = omega (arith, words-length bytes) in
-    sym (List·getD-eq-default (words-of bytes) 0 past)
+    let past : length (numbers-of bytes) ≤ k = omega (arith, words-length bytes) in
+    sym (List·getD-eq-default (numbers-of bytes) 0 past)
 
 -- ── rows ──
 

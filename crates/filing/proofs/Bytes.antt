@@ -8,7 +8,7 @@ use native.Mathlib.Nat.{add-mul-mod-self-left, add-mul-div-left, mod-eq-of-lt}
 use lib.ListN.{length, take}
 use Rattle.words.specs.Basics.{All}
 use Rattle.appointments.specs.Appointments.{Appt, appts}
-use Rattle.filing.specs.Filed.{bytes-of, words-of, rows, rows-list, rows-slots}
+use Rattle.filing.specs.Filed.{bytes-of, numbers-of, rows, rows-list, rows-slots}
 
 -- a 16-bit number, a byte
 abbrev pub Word : ℕ → Type 0
@@ -24,8 +24,8 @@ unfolding bytes-of
 bytes-length [] = refl
 bytes-length (w ∷ words) = omega (arith, bytes-length words)
 
-pub words-length : (bytes : List ℕ) → length (words-of bytes) ≡ length bytes / 2
-unfolding words-of
+pub words-length : (bytes : List ℕ) → length (numbers-of bytes) ≡ length bytes / 2
+unfolding numbers-of
 words-length [] = refl
 words-length (low ∷ []) = refl
 words-length (low ∷ high ∷ bytes) = omega (arith, words-length bytes)
@@ -33,8 +33,8 @@ words-length (low ∷ high ∷ bytes) = omega (arith, words-length bytes)
 word-back : (w : ℕ) → Word w → w % 256 + 256 * (w / 256 % 256) ≡ w
 word-back w h = omega arith
 
-pub words-of-bytes : (words : List ℕ) → All Word words → words-of (bytes-of words) ≡ words
-unfolding bytes-of words-of
+pub words-of-bytes : (words : List ℕ) → All Word words → numbers-of (bytes-of words) ≡ words
+unfolding bytes-of numbers-of
 words-of-bytes [] h = refl
 words-of-bytes (w ∷ words) h = rw (word-back w (h .0), words-of-bytes words (h .1))
 
@@ -46,8 +46,8 @@ high-back low high h k =
     let whole : (low + 256 * high) / 256 ≡ low / 256 + high = add-mul-div-left low high (omega arith) in
     rw whole (omega arith)
 
-pub bytes-of-words : (bytes : List ℕ) → All Byte bytes → length bytes % 2 ≡ 0 → bytes-of (words-of bytes) ≡ bytes
-unfolding bytes-of words-of
+pub bytes-of-words : (bytes : List ℕ) → All Byte bytes → length bytes % 2 ≡ 0 → bytes-of (numbers-of bytes) ≡ bytes
+unfolding bytes-of numbers-of
 bytes-of-words [] h e = refl
 bytes-of-words (low ∷ []) h e = absurd (omega arith)
 bytes-of-words (low ∷ high ∷ bytes) h e =
@@ -59,8 +59,8 @@ unfolding bytes-of
 bytes-are [] = tt
 bytes-are (w ∷ words) = (omega arith, (omega arith, bytes-are words))
 
-pub words-are : (bytes : List ℕ) → All Byte bytes → All Word (words-of bytes)
-unfolding words-of
+pub words-are : (bytes : List ℕ) → All Byte bytes → All Word (numbers-of bytes)
+unfolding numbers-of
 words-are [] h = tt
 words-are (low ∷ []) h = tt
 words-are (low ∷ high ∷ bytes) h = (omega (arith, h .0, h .1 .0), words-are bytes (h .1 .1))

@@ -13,7 +13,7 @@ use Rattle.appointments.specs.Appointments.{appts}
 use Rattle.appointments.specs.Checks.{Check}
 use Rattle.appointments.proofs.ChecksLaws.{even-test, test-even, bar-passed}
 use Rattle.appointments.specs.Answers.{accepted, refused}
-use Rattle.filing.specs.Filed.{words-of, rows, rows-list, rows-slots, filed-length, filed-bytes, writing-checks, writing-answer, writing-output, Header, header, filed-rows, reading-checks, reading-answer, reading-list, reading-slots}
+use Rattle.filing.specs.Filed.{numbers-of, rows, rows-list, rows-slots, filed-length, filed-bytes, writing-checks, writing-answer, writing-output, Header, header, filed-rows, reading-checks, reading-answer, reading-list, reading-slots}
 use Rattle.appointments.proofs.AnswerLaws.{accepted-passed, after-accepted, after-refused}
 use Rattle.filing.proofs.Bytes.{bytes-length, words-length, rows-length, rows-list-length, rows-slots-length}
 
@@ -140,7 +140,7 @@ module _ (bytes list slots : List ℕ) where
   -- how many rows, ends and slots are read
   pub filed-rows-length : Readable bytes list slots → length (filed-rows bytes) ≡ 3 * header bytes .appointments
   unfolding filed-rows
-  filed-rows-length r = omega (arith, length-drop 2 (words-of bytes), words-length bytes, r .whole)
+  filed-rows-length r = omega (arith, length-drop 2 (numbers-of bytes), words-length bytes, r .whole)
 
   pub list-read : Readable bytes list slots → length (rows-list (filed-rows bytes)) ≡ 2 * header bytes .appointments
   list-read r = omega (arith, rows-list-length (filed-rows bytes), filed-rows-length r)

@@ -10,7 +10,7 @@ use lib.Dec.{ltb}
 use lib.ListN.{length, getD, drop, set, length-drop}
 use lib.Seq.{getD-drop}
 use Rattle.appointments.specs.Answers.{refused}
-use Rattle.filing.specs.Filed.{words-of, rows-list, rows-slots, header, filed-rows, reading-answer, reading-list, reading-slots}
+use Rattle.filing.specs.Filed.{numbers-of, rows-list, rows-slots, header, filed-rows, reading-answer, reading-list, reading-slots}
 use Rattle.filing.specs.Buffers.{filled, take-row, take-slot}
 use Rattle.filing.specs.Told.{read-of}
 use Rattle.filing.specs.declared.Read.the-variants as read
@@ -24,7 +24,7 @@ use Rattle.filing.proofs.ByIndex.{Row-at, read-at}
 module _ (bytes : List ℕ) (count : ℕ) (whole : length bytes ≡ 6 * count + 4) where
   rows-long : length (filed-rows bytes) ≡ 3 * count
   unfolding filed-rows
-  rows-long = omega (arith, length-drop 2 (words-of bytes), words-length bytes)
+  rows-long = omega (arith, length-drop 2 (numbers-of bytes), words-length bytes)
 
   -- how many ends and slots there are
   pub ends-long : length (rows-list (filed-rows bytes)) ≡ 2 * count
@@ -34,9 +34,9 @@ module _ (bytes : List ℕ) (count : ℕ) (whole : length bytes ≡ 6 * count + 
   slots-long = omega (arith, rows-slots-length (filed-rows bytes), rows-long)
 
   -- a number of the rows, among all numbers
-  in-rows : (k n : ℕ) → n ≡ 2 + k → getD (words-of bytes) n 0 ≡ getD (filed-rows bytes) k 0
+  in-rows : (k n : ℕ) → n ≡ 2 + k → getD (numbers-of bytes) n 0 ≡ getD (filed-rows bytes) k 0
   unfolding filed-rows
-  in-rows k n e = rw e (sym (getD-drop 2 (words-of bytes) k 0))
+  in-rows k n e = rw e (sym (getD-drop 2 (numbers-of bytes) k 0))
 
   module _ (i : ℕ) (h : i < count) where
     row : Row-at (filed-rows bytes) i (getD (rows-list (filed-rows bytes)) (2 * i) 0) (getD (rows-list (filed-rows bytes)) (2 * i + 1) 0) (getD (rows-slots (filed-rows bytes)) i 0)
@@ -46,19 +46,19 @@ module _ (bytes : List ℕ) (count : ℕ) (whole : length bytes ≡ 6 * count + 
     pub row-taken : (list : List ℕ) → 2 * count ≤ length list → take-row bytes i (filled (rows-list (filed-rows bytes)) (2 * i) list) ≡ filled (rows-list (filed-rows bytes)) (2 * (i + 1)) list
     row-taken list room =
         let new : List ℕ = rows-list (filed-rows bytes) in
-        let first : getD (words-of bytes) (3 * i + 2) 0 ≡ getD new (2 * i) 0 = in-rows (3 * i) (3 * i + 2) (omega arith) ∙ row .first-at in
-        let second : getD (words-of bytes) (3 * i + 3) 0 ≡ getD new (2 * i + 1) 0 = in-rows (3 * i + 1) (3 * i + 3) (omega arith) ∙ row .second-at in
+        let first : getD (numbers-of bytes) (3 * i + 2) 0 ≡ getD new (2 * i) 0 = in-rows (3 * i) (3 * i + 2) (omega arith) ∙ row .first-at in
+        let second : getD (numbers-of bytes) (3 * i + 3) 0 ≡ getD new (2 * i + 1) 0 = in-rows (3 * i + 1) (3 * i + 3) (omega arith) ∙ row .second-at in
         let two : 2 * i + 1 + 1 ≡ 2 * (i + 1) = omega arith in
-        ap (λ (l : List ℕ). set l (2 * i + 1) (getD (words-of bytes) (3 * i + 3) 0))
-        (filled-more new (2 * i) (getD (words-of bytes) (3 * i + 2) 0) list (omega (arith, ends-long)) (omega arith) first)
-        ∙ filled-more new (2 * i + 1) (getD (words-of bytes) (3 * i + 3) 0) list (omega (arith, ends-long)) (omega arith) second
+        ap (λ (l : List ℕ). set l (2 * i + 1) (getD (numbers-of bytes) (3 * i + 3) 0))
+        (filled-more new (2 * i) (getD (numbers-of bytes) (3 * i + 2) 0) list (omega (arith, ends-long)) (omega arith) first)
+        ∙ filled-more new (2 * i + 1) (getD (numbers-of bytes) (3 * i + 3) 0) list (omega (arith, ends-long)) (omega arith) second
         ∙ ap (λ (m : ℕ). filled new m list) two
 
     -- and its slot
     pub slot-taken : (slots : List ℕ) → count ≤ length slots → take-slot bytes i (filled (rows-slots (filed-rows bytes)) i slots) ≡ filled (rows-slots (filed-rows bytes)) (i + 1) slots
     slot-taken slots room =
         let new : List ℕ = rows-slots (filed-rows bytes) in
-        filled-more new i (getD (words-of bytes) (3 * i + 4) 0) slots (omega (arith, slots-long)) (omega arith)
+        filled-more new i (getD (numbers-of bytes) (3 * i + 4) 0) slots (omega (arith, slots-long)) (omega arith)
         (in-rows (3 * i + 2) (3 * i + 4) (omega arith) ∙ row .slot-at)
 
 -- ── what the call tells and leaves ──
@@ -81,7 +81,7 @@ module _ (bytes list slots : List ℕ) where
   unfolding reading-answer
   short-12 h = barred 12 (rw (lt-ltb (length bytes) 4 h))
 
-  module _ (p count : ℕ) (h : 4 ≤ length bytes) (e : p ≡ getD (words-of bytes) 0 0) (f : count ≡ getD (words-of bytes) 1 0) where
+  module _ (p count : ℕ) (h : 4 ≤ length bytes) (e : p ≡ getD (numbers-of bytes) 0 0) (f : count ≡ getD (numbers-of bytes) 1 0) where
     pub barred-12 : (length bytes ≡ 6 * count + 4 → ⊥) → Barred 12
     unfolding reading-answer header
     barred-12 n =

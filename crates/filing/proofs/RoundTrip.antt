@@ -9,7 +9,7 @@ use Rattle.words.specs.Basics.{All}
 use Rattle.appointments.specs.Appointments.{appts}
 use Rattle.appointments.proofs.Loads.{appts-length}
 use Rattle.appointments.specs.Answers.{accepted}
-use Rattle.filing.specs.Filed.{bytes-of, words-of, rows, rows-list, rows-slots, filed-length, filed-bytes, writing-answer, writing-output, Header, header-of, header, filed-rows, reading-answer, reading-list, reading-slots, Reads-back, Writes-back}
+use Rattle.filing.specs.Filed.{bytes-of, numbers-of, rows, rows-list, rows-slots, filed-length, filed-bytes, writing-answer, writing-output, Header, header-of, header, filed-rows, reading-answer, reading-list, reading-slots, Reads-back, Writes-back}
 use Rattle.filing.proofs.Bytes.{Word, Byte, words-length, words-of-bytes, bytes-of-words, list-of-rows, slots-of-rows, rows-are, rows-back}
 use Rattle.filing.proofs.FiledLaws.{filed-rows-length, Writable, writable-accepted, accepted-writable, filed-bytes-length, writing-wrote, Readable, readable-accepted, accepted-readable, list-read, slots-read, reading-list-read, reading-slots-read}
 
@@ -17,7 +17,7 @@ use Rattle.filing.proofs.FiledLaws.{filed-rows-length, Writable, writab
 
 module _ (P : ℕ) (list slots output : List ℕ) (w : Writable P list slots output) (ends : All Word list) (slots-fit : All Word slots) where
   -- the 16-bit numbers of what was written
-  words-written : words-of (filed-bytes P list slots) ≡ P ∷ length (appts list) ∷ rows (appts list) slots
+  words-written : numbers-of (filed-bytes P list slots) ≡ P ∷ length (appts list) ∷ rows (appts list) slots
   unfolding filed-bytes
   words-written =
       words-of-bytes (P ∷ length (appts list) ∷ rows (appts list) slots)
@@ -117,9 +117,9 @@ module _ (bytes lists seats : List ℕ) where
         (rows-back (drop (header bytes .appointments) seats) (filed-rows bytes) (omega (arith, filed-rows-length bytes lists seats r)))
 
     -- the two numbers of the header and the rows are all the numbers
-    words-again : header bytes .parties ∷ header bytes .appointments ∷ filed-rows bytes ≡ words-of bytes
+    words-again : header bytes .parties ∷ header bytes .appointments ∷ filed-rows bytes ≡ numbers-of bytes
     unfolding header filed-rows
-    words-again = two-first (words-of bytes) (omega (arith, words-length bytes, r .whole))
+    words-again = two-first (numbers-of bytes) (omega (arith, words-length bytes, r .whole))
 
     bytes-again : All Byte bytes → filed-bytes (header bytes .parties) list-got slots-got ≡ bytes
     unfolding filed-bytes

@@ -2,7 +2,7 @@
 use Prim.Native.Nat.{ℕ, _+_, _*_, _/_, _%_}
 use mathlib.Core.List.{List, _++_}
 use lib.ListN.{getD, take, drop, set}
-use Rattle.filing.specs.Filed.{words-of}
+use Rattle.filing.specs.Filed.{numbers-of}
 
 -- the first n entries are those of a new list, the others stay
 abbrev pub filled : List ℕ → ℕ → List ℕ → List ℕ
@@ -23,8 +23,8 @@ put-row list slots i buffer =
 -- the two ends of the appointment at a position of the filed plan go to their places in the list
 abbrev pub take-row : List ℕ → ℕ → List ℕ → List ℕ
 take-row bytes i list =
-    set (set list (2 * i) (getD (words-of bytes) (3 * i + 2) 0)) (2 * i + 1) (getD (words-of bytes) (3 * i + 3) 0)
+    set (set list (2 * i) (getD (numbers-of bytes) (3 * i + 2) 0)) (2 * i + 1) (getD (numbers-of bytes) (3 * i + 3) 0)
 
 -- and its slot to its place in the slots
 abbrev pub take-slot : List ℕ → ℕ → List ℕ → List ℕ
-take-slot bytes i slots = set slots i (getD (words-of bytes) (3 * i + 4) 0)
+take-slot bytes i slots = set slots i (getD (numbers-of bytes) (3 * i + 4) 0)

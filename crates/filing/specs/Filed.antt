@@ -7,7 +7,7 @@ use lib.Dec.{eqb, ltb}
 use lib.ListN.{length, getD, take, drop}
 use Rattle.appointments.specs.Appointments.{Appt, appts}
 use Rattle.appointments.specs.Checks.{Check, passed, bar, check-parties, check-even, check-count, check-slots}
-use Rattle.appointments.specs.Answers.{Answer, accepted, refused, answer, after}
+use Rattle.appointments.specs.Answers.{Answer, accepted, answer, figure, over, after}
 
 -- 16-bit numbers as bytes, low byte first
 unfoldable pub bytes-of : List ℕ → List ℕ
@@ -15,10 +15,10 @@ bytes-of [] = []
 bytes-of (w ∷ words) = (w % 256) ∷ (w / 256 % 256) ∷ bytes-of words
 
 -- bytes as 16-bit numbers, low byte first
-unfoldable pub words-of : List ℕ → List ℕ
-words-of [] = []
-words-of (low ∷ []) = []
-words-of (low ∷ high ∷ bytes) = (low + 256 * high) ∷ words-of bytes
+unfoldable pub numbers-of : List ℕ → List ℕ
+numbers-of [] = []
+numbers-of (low ∷ []) = []
+numbers-of (low ∷ high ∷ bytes) = (low + 256 * high) ∷ numbers-of bytes
 
 -- per appointment its first end, second end and slot
 unfoldable pub rows : List Appt → List ℕ → List ℕ
@@ -79,13 +79,13 @@ abbrev pub header-of : ℕ → ℕ → Header
 header-of P A = record { parties = P; appointments = A }
 
 unfoldable pub header : List ℕ → Header
-unfolding words-of
-header bytes = header-of (getD (words-of bytes) 0 0) (getD (words-of bytes) 1 0)
+unfolding numbers-of
+header bytes = header-of (getD (numbers-of bytes) 0 0) (getD (numbers-of bytes) 1 0)
 
 -- the rows in the bytes of a filed plan
 unfoldable pub filed-rows : List ℕ → List ℕ
-unfolding words-of
-filed-rows bytes = drop 2 (words-of bytes)
+unfolding numbers-of
+filed-rows bytes = drop 2 (numbers-of bytes)
 
 -- Reading checks 12 (length not 4+6×A, or under 4), 1, 3, 13 (list or slots).
 unfoldable pub reading-checks : List ℕ → List ℕ → List ℕ → Check
@@ -105,12 +105,10 @@ reading-answer bytes list slots = answer (reading-checks bytes list slots) (head
 
 -- P and A of an answer, 0 for a refusal
 abbrev pub parties-of : Answer Header → ℕ
-parties-of (accepted h) = h .parties
-parties-of (refused number place) = 0
+parties-of = figure (λ h. h .parties)
 
 abbrev pub appointments-of : Answer Header → ℕ
-appointments-of (accepted h) = h .appointments
-appointments-of (refused number place) = 0
+appointments-of = figure (λ h. h .appointments)
 
 -- the list and the slots after reading
 unfoldable pub reading-list : List ℕ → List ℕ → List ℕ → List ℕ
@@ -126,10 +124,10 @@ reading-slots bytes list slots = after (reading-answer bytes list slots) (rows-s
 -- What reading these bytes gives: P, A, the list and its slots; the entries of the two buffers past those stay.
 pub record Reads-back (P : ℕ) (list slots bytes lists seats : List ℕ) : Type 0 where
   pub answer : reading-answer bytes lists seats ≡ accepted (header-of P (length (appts list)))
-  pub ends : reading-list bytes lists seats ≡ list ++ drop (length list) lists
+  pub ends : reading-list bytes lists seats ≡ over list lists
   pub plan : reading-slots bytes lists seats ≡ take (length (appts list)) slots ++ drop (length (appts list)) seats
 
 -- What writing gives of what was read: these bytes; the output past them stays.
 pub record Writes-back (bytes : List ℕ) (P : ℕ) (list slots output : List ℕ) : Type 0 where
   pub answer : writing-answer P list slots output ≡ accepted (length bytes)
-  pub wrote : writing-output P list slots output ≡ bytes ++ drop (length bytes) output
+  pub wrote : writing-output P list slots output ≡ over bytes output

@@ -4,7 +4,7 @@ ghost use mathlib.Core.Path.{_≡_};
 ghost use Prim.Native.Nat.{_+_, _*_, _/_, _<_, _≤_};
 ghost use lib.ListN.{length, getD};
 ghost use Rattle.appointments.specs.Answers.{«answered-of»};
-ghost use Rattle.filing.specs.Filed.{«words-of», «filed-bytes», «filed-rows», «rows-list», «rows-slots», «writing-answer», «writing-output», «reading-answer», «reading-list», «reading-slots»};
+ghost use Rattle.filing.specs.Filed.{«numbers-of», «filed-bytes», «filed-rows», «rows-list», «rows-slots», «writing-answer», «writing-output», «reading-answer», «reading-list», «reading-slots»};
 ghost use Rattle.filing.specs.Buffers.{filled, «put-number», «put-row», «take-row», «take-slot»};
 ghost use Rattle.filing.specs.Told.{«read-of»};
 
@@ -77,7 +77,7 @@ pub fn file_plan(p: u16, list: &[u16], slots: &[u16], output: &mut [u8]) -> Answ
 
 // The 16-bit number at a place, counted in numbers, of the bytes, low byte first; 0 past their end.
 fn number_at(bytes: &[u8], k: usize) -> usize
-    ensures { λ r. ⌜ (r ≡ getD (words-of (now (bytes .entry))) k 0) × (r < 65536) ⌝ }
+    ensures { λ r. ⌜ (r ≡ getD (numbers-of (now (bytes .entry))) k 0) × (r < 65536) ⌝ }
 {
     if k < bytes.len() / 2 {
         let low = bytes[2 * k] as usize;

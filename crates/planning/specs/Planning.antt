@@ -5,6 +5,7 @@ use lib.ListN.{length, drop, replicate}
 use Rattle.words.specs.Basics.{Run, ran, failed}
 use Rattle.appointments.specs.Appointments.{Appt, appts, largest-load, scratch-words}
 use Rattle.appointments.specs.Checks.{Check, passed, refused, checks}
+use Rattle.appointments.specs.Answers.{over}
 use Rattle.two_color.specs.TwoColor.{Sides, sides, not-bipartite, unfinished, two-color}
 use Rattle.planning.specs.GivenPartition.{bipartite-edge-color-given-partition}
 
@@ -58,7 +59,7 @@ answer-for passed no-outcome D = refusal 1000 0
 -- accepted: the first A entries hold the plan and later ones stay
 abbrev pub slots-for : Check → Outcome → List ℕ → List ℕ
 slots-for (refused number place) o before = before
-slots-for passed (plan slots) before = slots ++ drop (length slots) before
+slots-for passed (plan slots) before = over slots before
 slots-for passed graph-not-bipartite before = before
 slots-for passed no-outcome before = before
 

@@ -2,11 +2,12 @@
 -- Assumes nothing.
 use Prim.Native.Nat.{ℕ, _+_, _*_, _-_, _/_, _<_, _≤_, max}
 use mathlib.Core.Path.{_≡_}
-use mathlib.Core.List.{List, [], _++_}
-use lib.ListN.{length, drop}
+use mathlib.Core.List.{List, []}
+use lib.ListN.{length}
 use Rattle.words.specs.Basics.{ran}
 use Rattle.words.specs.Words.{word}
 use Rattle.appointments.specs.Appointments.{appts, largest-load}
+use Rattle.appointments.specs.Answers.{over}
 use Rattle.appointments.specs.Checks.{passed, checks}
 use Rattle.two_color.specs.TwoColor.{sides, two-color}
 use Rattle.two_color.specs.Contract.{region}
@@ -86,7 +87,7 @@ pub record Prepared (P D q n : ℕ) (list s : List ℕ) : Type 0 where
 pub record Slots-planned (P : ℕ) (list slots after s t : List ℕ) : Type 0 where
   pub slots-of : List ℕ
   pub found : bipartite-edge-color P (appts list) ≡ plan slots-of
-  pub held : after ≡ slots-of ++ drop (length slots-of) slots
+  pub held : after ≡ over slots-of slots
   pub len : length t ≡ length s
 
 -- What the planning of a list that passed comes to: the answer, and the slots afterwards. Scratch is as long as it was.

@@ -2,12 +2,13 @@
 -- appointments get from them. Assumes nothing.
 use Prim.Native.Nat.{ℕ, _+_, _*_, _<_, _≤_}
 use mathlib.Core.Path.{_≡_}
-use mathlib.Core.List.{List, _++_}
-use lib.ListN.{length, getD, drop}
+use mathlib.Core.List.{List}
+use lib.ListN.{length, getD}
 use Rattle.words.specs.Basics.{ran}
 use Rattle.words.specs.Words.{word}
 use Rattle.words.specs.Frames.{Changes}
 use Rattle.appointments.specs.Appointments.{Appt, appt}
+use Rattle.appointments.specs.Answers.{over}
 use Rattle.multigraph.specs.Stored.{matchings-at}
 use Rattle.multigraph.specs.Places.{Distinct-ends}
 use Rattle.evening.specs.Contract.{Has-ends}
@@ -34,7 +35,7 @@ pub record Slots-fit (ends pairs n d out pair-numbers links : ℕ) (xs : List Ap
 -- The first entries of the slot buffer hold the plan and later ones stay. Of the words only the matchings and those for the
 -- pairs change.
 pub record Slots-stored (pairs n d out links : ℕ) (plan s slots t after : List ℕ) : Type 0 where
-  pub held : after ≡ plan ++ drop (length plan) slots
+  pub held : after ≡ over plan slots
   pub changes : Changes out (n * d) links pairs s t
 
 abbrev pub Gives-slots : ℕ → ℕ → ℕ → ℕ → ℕ → ℕ → List ℕ → List ℕ → List ℕ → List ℕ → Type 0

@@ -11,13 +11,13 @@ use lib.ListN.{length, getD, drop, set, length-append}
 use lib.Seq.{sets, length-sets, sets-eq, append-snoc, drop-cons, drop-length}
 use Rattle.appointments.specs.Appointments.{Appt, appts}
 use Rattle.appointments.proofs.Flat.{rest-cons, rest-none, appts-count, load-count}
-use Rattle.asking.specs.Waiting.{waiting}
+use Rattle.asking.specs.Waiting.{waiting, waits}
 use Rattle.text.specs.Ascii.{ascii, space, line-feed}
 use Rattle.text.specs.Printing.{decimal-by, decimal, line, party-line, appointment-lines, party-lines, plan-lines, refusal-line}
 use Rattle.text.specs.Placed.{Room, Placed, Printed, field, Has-d, appointment-line-at}
 use borrow.Author.Tests.{lt-ltb, le-ltb, ltb-false}
 use lib.Dec.{ltb}
-use Rattle.words.specs.Basics.{pick, count}
+use Rattle.words.specs.Basics.{pick}
 
 -- ── one piece behind another ──
 
@@ -101,14 +101,14 @@ unfolding refusal-line ascii
 refusal-fields number place = line-3 (ascii "refused") (decimal number) (decimal place)
 
 -- a party's waiting is D minus how often the list names it
-waits-is : (P : ℕ) (list : List ℕ) (D v : ℕ) → Has-d P list D → D - count v list ≡ waiting P (appts list) v
+waits-is : (P : ℕ) (list : List ℕ) (D v : ℕ) → Has-d P list D → waits D list v ≡ waiting P (appts list) v
 unfolding waiting
 waits-is P list D v h = rw (h .largest, load-count v list (h .even))
 
-pub party-fields : (P : ℕ) (list : List ℕ) (D v waits : ℕ) → Has-d P list D → waits ≡ D - count v list
-    → party-line P (appts list) v ≡ ascii "party " ++ (field (decimal v) space ++ field (decimal waits) line-feed)
+pub party-fields : (P : ℕ) (list : List ℕ) (D v w : ℕ) → Has-d P list D → w ≡ waits D list v
+    → party-line P (appts list) v ≡ ascii "party " ++ (field (decimal v) space ++ field (decimal w) line-feed)
 unfolding ascii
-party-fields P list D v waits h e =
+party-fields P list D v w h e =
     rw (e, waits-is P list D v h) (line-3 (ascii "party") (decimal v) (decimal (waiting P (appts list) v)))
 
 pub appointment-fields : (list slots : List ℕ) (i first second slot : ℕ) → first ≡ getD list (2 * i) 0 → second ≡ getD list (2 * i + 1) 0 → slot ≡ getD slots i 0

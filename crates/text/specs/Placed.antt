@@ -2,9 +2,10 @@
 use Prim.Native.Nat.{ℕ, _+_, _*_, _%_, _≤_}
 use mathlib.Core.Path.{_≡_}
 use mathlib.Core.List.{List, [], _∷_, _++_}
-use lib.ListN.{length, getD, drop}
+use lib.ListN.{length, getD}
 use lib.Seq.{sets}
 use Rattle.appointments.specs.Appointments.{appt, appts, largest-load}
+use Rattle.appointments.specs.Answers.{over}
 use Rattle.text.specs.Printing.{appointment-line}
 
 -- the buffer has room for the bytes from a place on
@@ -19,7 +20,7 @@ pub record Placed (buffer : List ℕ) (at : ℕ) (bytes after : List ℕ) (next 
 -- The bytes are the first ones of the buffer, whose later bytes stay, and they were counted.
 pub record Printed (bytes : List ℕ) (count : ℕ) (buffer after : List ℕ) : Type 0 where
   pub counted : count ≡ length bytes
-  pub stored : after ≡ bytes ++ drop (length bytes) buffer
+  pub stored : after ≡ over bytes buffer
 
 -- a field and the byte behind it
 abbrev pub field : List ℕ → ℕ → List ℕ

@@ -1,10 +1,11 @@
 -- What the code tells of the text that it reads, and the definitions' values that each case stands for. Assumes nothing.
 use Prim.Native.Nat.{ℕ, _+_, _≤_, _<_}
 use mathlib.Core.Path.{_≡_}
-use mathlib.Core.List.{List, _++_}
+use mathlib.Core.List.{List}
 use mathlib.Core.Option.{Option, none, some}
 use lib.ListN.{length, getD, drop}
 use Rattle.appointments.specs.Appointments.{Appt, appt}
+use Rattle.appointments.specs.Answers.{over}
 use Rattle.text.specs.Ascii.{line-feed}
 use Rattle.text.specs.Reading.{parts, Input, input, malformed, with-ends, read-lines}
 use Rattle.text.specs.declared.parsing.Value.{Value}
@@ -48,5 +49,5 @@ Next-line bytes from line.Malformed = (P n : ℕ) → read-lines P n (parts line
 -- What reading tells: P and how many numbers the list has, which then stands first in the lent list, whose later numbers
 -- stay; or the malformed line, and nothing of the lent list.
 abbrev pub Read-as : Input → ReadInput → List ℕ → List ℕ → Type 0
-Read-as (input P list) r before after = (r ≡ read.Input P (length list)) × (after ≡ list ++ drop (length list) before)
+Read-as (input P list) r before after = (r ≡ read.Input P (length list)) × (after ≡ over list before)
 Read-as (malformed n) r before after = r ≡ read.Malformed n

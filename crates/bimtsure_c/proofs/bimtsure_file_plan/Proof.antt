@@ -1,4 +1,4 @@
--- `bimtsure_file_plan` meets its contract: its numbers are those of the answer that the desk told, and the output is as the desk
+-- `bimtsure_file_plan` meets its contract: its numbers are those of the answer that was told, and the output is as the call
 -- left it. Assumes nothing.
 use mathlib.Core.Path.{_≡_, sym, _∙_}
 use native.Mathlib.Omega.{arith}
@@ -10,13 +10,13 @@ use borrow.Author.Needs.{needs}
 use Rattle.bimtsure_c.proofs.bimtsure_file_plan.Statement.{statement}
 use Rattle.bimtsure_c.proofs.bimtsure_file_plan.Tie as tie
 
--- the desk accepted
+-- the call accepted
 writes :
     (c : tie.After-known-told) →
     let a = c .before .before .before .before .before .before .before .before .before .before .args in writing-answer (a .p) (a .list .now) (a .slots .now) (a .output .now) ≡ accepted (c .before .filed .given .0 .0)
 writes c = one-figure _ _ (sym (c .before .before .before .before .before .file-plan .ensures .0) ∙ c .before .filed .given .1)
 
--- the desk refused
+-- the call refused
 refuses :
     (c : tie.After-known-told2) →
     let a = c .before .before .before .before .before .before .before .before .before .before .args in writing-answer (a .p) (a .list .now) (a .slots .now) (a .output .now) ≡ refused (c .before .filed2 .given .0 .0) (c .before .filed2 .given .0 .1 .0)

@@ -1,5 +1,5 @@
--- `bimtsure_read_plan` meets its contract: its numbers are those of the answer that the desk told, and list and slots are as the
--- desk left them. Assumes nothing.
+-- `bimtsure_read_plan` meets its contract: its numbers are those of the answer that was told, and list and slots are as the
+-- call left them. Assumes nothing.
 use mathlib.Core.Path.{_≡_, sym, _∙_}
 use native.Mathlib.Omega.{arith}
 use Rattle.appointments.specs.Answers.{accepted, refused}
@@ -10,13 +10,13 @@ use borrow.Author.Needs.{needs}
 use Rattle.bimtsure_c.proofs.bimtsure_read_plan.Statement.{statement}
 use Rattle.bimtsure_c.proofs.bimtsure_read_plan.Tie as tie
 
--- the desk accepted
+-- the call accepted
 reads-plan :
     (c : tie.After-known-told) →
     let a = c .before .before .before .before .before .before .before .before .before .before .before .before .before .args in reading-answer (a .bytes .now) (a .list .now) (a .slots .now) ≡ accepted (header-of (c .before .read .given .0 .0) (c .before .read .given .0 .1 .0))
 reads-plan c = read-plan _ _ _ (sym (c .before .before .before .before .before .before .before .read-plan .ensures .0) ∙ c .before .read .given .1)
 
--- the desk refused
+-- the call refused
 refuses :
     (c : tie.After-known-told2) →
     let a = c .before .before .before .before .before .before .before .before .before .before .before .before .before .args in reading-answer (a .bytes .now) (a .list .now) (a .slots .now) ≡ refused (c .before .read2 .given .0 .0) (c .before .read2 .given .0 .1 .0)

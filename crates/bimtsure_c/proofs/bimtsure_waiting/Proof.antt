@@ -1,4 +1,4 @@
--- `bimtsure_waiting` meets its contract: its numbers are those of the answer that the desk told. Assumes nothing.
+-- `bimtsure_waiting` meets its contract: its numbers are those of the answer that was told. Assumes nothing.
 use mathlib.Core.Path.{_≡_, sym, _∙_}
 use native.Mathlib.Omega.{arith}
 use Rattle.appointments.specs.Answers.{accepted, refused}
@@ -9,13 +9,13 @@ use borrow.Author.Needs.{needs}
 use Rattle.bimtsure_c.proofs.bimtsure_waiting.Statement.{statement}
 use Rattle.bimtsure_c.proofs.bimtsure_waiting.Tie as tie
 
--- the desk accepted
+-- the call accepted
 waits :
     (c : tie.After-known-told) →
     let a = c .before .before .before .before .before .args in waiting-answer (a .p) (a .list .now) (a .party) ≡ accepted (c .before .asked .given .0 .0)
 waits c = one-figure _ _ (sym (c .before .before .before .waiting .ensures) ∙ c .before .asked .given .1)
 
--- the desk refused
+-- the call refused
 refuses :
     (c : tie.After-known-told2) →
     let a = c .before .before .before .before .before .args in waiting-answer (a .p) (a .list .now) (a .party) ≡ refused (c .before .asked2 .given .0 .0) (c .before .asked2 .given .0 .1 .0)
