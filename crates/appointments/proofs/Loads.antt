@@ -91,3 +91,20 @@ appts-length (a ∷ b ∷ rest) h = omega (arith, appts-length rest (omega arith
 -- The loads of all parties add up to the list's length.
 pub list-loads-sum : (P : ℕ) (list : List ℕ) → length list % 2 ≡ 0 → All (Listed P) (appts list) → sum-below (λ v. load v (appts list)) P ≡ length list
 list-loads-sum P list e h = loads-sum P (appts list) h ∙ sym (appts-length list e)
+
+-- ── appointments weighed ──
+
+-- the appointments of a list, each weighed by its ends
+unfoldable pub weigh-appts : (ℕ → ℕ → ℕ) → List Appt → ℕ
+weigh-appts w xs = total (λ x. w (x .first) (x .second)) xs
+
+-- no appointments weigh nothing
+pub weigh-appts-none : (w : ℕ → ℕ → ℕ) → weigh-appts w [] ≡ 0
+unfolding weigh-appts total
+weigh-appts-none w = refl
+
+-- one more adds its weight
+pub weigh-appts-cons :
+    (w : ℕ → ℕ → ℕ) (x : Appt) (xs : List Appt) → weigh-appts w (x ∷ xs) ≡ w (x .first) (x .second) + weigh-appts w xs
+unfolding weigh-appts total
+weigh-appts-cons w x xs = refl

@@ -1,5 +1,6 @@
 pub mod Appointments
 pub mod Rounds
+pub mod TwoSides
 pub mod Plans
 pub mod Checks
 pub mod Answers

@@ -16,9 +16,9 @@ use Rattle.multigraph.proofs.Weights.{weigh-none, weigh-cons}
 use Rattle.euler.specs.Split.{Halves, rbmg-split-into-two}
 use Rattle.euler.specs.Halved.{Split-of}
 use Rattle.euler.proofs.SplitLaws.{split-law}
-use Rattle.matching.specs.Matching.{log-up}
+use Rattle.words.specs.PowersOfTwo.{log-up}
 use Rattle.matching.specs.Perfect.{Full, Perfect}
-use Rattle.matching.proofs.Powers.{log-up-law, log-up-under}
+use Rattle.words.proofs.PowersOfTwo.{log-up-law, log-up-under}
 use Rattle.edge_color.specs.EdgeColor.{Set-aside, set-aside, add-matchings, rbmg-edge-color-when-power-of-two, rbmg-edge-color}
 use Rattle.edge_color.specs.Coloring.{Coloring}
 use Rattle.edge_color.proofs.Moving.{full, weigh-add-matchings, add-matchings-law}

@@ -17,7 +17,7 @@ use Rattle.multigraph.proofs.Sizes.{entries-few, entries-copies}
 use Rattle.multigraph.proofs.SideBySide.{matchings-append, matchings-kept, matchings-take, matchings-drop}
 use Rattle.euler.specs.Split.{rbmg-split-into-two}
 use Rattle.euler.specs.Room.{Splits, Halves-stored}
-use Rattle.matching.specs.Matching.{log-up}
+use Rattle.words.specs.PowersOfTwo.{log-up}
 use Rattle.matching.specs.Perfect.{Full}
 use Rattle.matching.specs.Searched.{lefts, rights}
 use Rattle.matching.specs.declared.Table.{Table}

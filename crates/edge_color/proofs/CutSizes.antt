@@ -6,9 +6,9 @@ use mathlib.Core.List.{List}
 use native.Mathlib.Omega.{arith}
 use native.Mathlib.Nat.{mul-le-mul-left, mul-one}
 use Rattle.multigraph.specs.Places.{size}
-use Rattle.matching.specs.Matching.{log-up}
+use Rattle.words.specs.PowersOfTwo.{log-up}
 use Rattle.matching.specs.declared.Table.{Table}
-use Rattle.matching.proofs.Powers.{log-up-law, log-up-under}
+use Rattle.words.proofs.PowersOfTwo.{log-up-law, log-up-under}
 use Rattle.edge_color.specs.Room.{Color-fits}
 use Rattle.edge_color.proofs.AsideWords.{small}
 

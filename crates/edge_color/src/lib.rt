@@ -6,9 +6,8 @@
 // Ported from rustworkx-core, `rbmg_edge_color_when_power_of_two` and `rbmg_edge_color` in bipartite_coloring.rs (Apache License 2.0, see NOTICE).
 ghost use mathlib.Core.Path.{_≡_};
 ghost use Prim.Native.Nat.{_+_, _*_, _-_, _^_, _<_, _≤_};
-ghost use lib.ListN.{length, take, drop};
 ghost use Rattle.multigraph.specs.Places.{«Adds-matching», «Removes-matching»};
-ghost use Rattle.matching.specs.Matching.{«log-up»};
+ghost use Rattle.words.specs.PowersOfTwo.{«log-up»};
 ghost use Rattle.edge_color.specs.Room.{«Power-fits», «Power-colored», «Color-fits», «Aside-stored», Colored};
 use mark::Mark;
 use matching::Table;
@@ -125,14 +124,4 @@ pub fn rbmg_edge_color(
     let r = move_earliest(s, t.places, second, from, n, h);
     rbmg_edge_color_when_power_of_two(s, m, t.ends, second, n, r, out);
     mark::give_back(m, u);
-}
-
-// Matching `i` of the colouring at `out`, as the stretch of words that holds it.
-pub fn matching<'a>(scratch: &'a [u32], out: usize, n: usize, i: usize) -> &'a [u32]
-    requires { ⌜ out + n * i + n ≤ length (now scratch) ⌝ }
-    ensures { λ r. ⌜ now r ≡ take n (drop (out + n * i) (now (scratch .entry))) ⌝ }
-{
-    let at = out + n * i;
-    let end = at + n;
-    &scratch[at..end]
 }

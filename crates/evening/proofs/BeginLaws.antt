@@ -8,7 +8,7 @@ use lib.ListN.{length}
 use Rattle.words.specs.Words.{word, put-word}
 use Rattle.words.proofs.Ranges.{three-refl, three-trans, three-within}
 use Rattle.evening.specs.DiagonalPlaces.{begun, Begins, Diag-room, Diag-small, Diag-fit, Begun, Diag-ready}
-use Rattle.evening.proofs.Puts.{Put, put-is}
+use Rattle.words.proofs.Puts.{Put, put-is}
 use Rattle.evening.specs.declared.Bases.{Bases}
 
 -- the words after one place

@@ -13,17 +13,17 @@ use Rattle.words.proofs.Ranges.{three-refl, three-trans, three-within, three-ou
 use Rattle.appointments.specs.Appointments.{appts}
 use Rattle.appointments.proofs.Flat.{appts-count}
 use Rattle.multigraph.specs.Multigraph.{add-edge}
-use Rattle.multigraph.specs.Places.{size}
+use Rattle.multigraph.specs.Places.{size, Has-ends}
 use Rattle.multigraph.proofs.Ends.{same-ends-sym, same-ends-trans}
-use Rattle.evening.specs.Contract.{first-of, second-of, Has-ends}
+use Rattle.evening.specs.Contract.{first-of, second-of}
 use Rattle.evening.specs.Adding.{Has-place, Its-number, Pair-fits, Pair-added}
 use Rattle.evening.specs.Representatives.{Rep}
 use Rattle.evening.specs.FromList.{pair-of, Pairs-change, Building, Built}
 use Rattle.evening.proofs.PlainLaws.{newest, Graph-kept, graph-kept, plain-kept, graph-kept-by}
-use Rattle.evening.proofs.TableLaws.{has-ends-new}
+use Rattle.multigraph.proofs.TableLaws.{has-ends-new}
 use Rattle.evening.proofs.Listed.{add-appointments-more, copies-few}
 use Rattle.evening.specs.declared.Bases.{Bases}
-use Rattle.evening.proofs.Puts.{Put, put-is}
+use Rattle.words.proofs.Puts.{Put, put-is}
 
 -- ── one appointment more ──
 

@@ -9,9 +9,9 @@ use Rattle.words.specs.Words.{word}
 use Rattle.multigraph.specs.Places.{size}
 use Rattle.evening.specs.Contract.{Can-diagonal, Diagonal-set}
 use Rattle.evening.specs.DiagonalPlaces.{Diag-fit, Begun, Looked}
-use Rattle.two_color.proofs.Regions.{region-all, region-once}
+use Rattle.words.proofs.Regions.{region-all, region-once}
 use Rattle.evening.proofs.BeginLaws.{left-same, right-same}
-use Rattle.evening.proofs.TableLaws.{Table-same}
+use Rattle.multigraph.proofs.TableLaws.{Table-same}
 use Rattle.evening.proofs.LookLaws.{at-place-old, at-place-new}
 use Rattle.evening.specs.declared.Bases.{Bases}
 

@@ -6,12 +6,11 @@ use native.Mathlib.Omega.{arith}
 use native.Mathlib.Numerals.{add-one}
 use lib.ListN.{length}
 use Rattle.words.specs.Basics.{iterate, Ran, ran}
-use Rattle.words.specs.Words.{word}
+use Rattle.words.specs.Words.{word, region}
 use Rattle.words.proofs.Sums.{all-map}
 use Rattle.words.proofs.Runs.{iterate-suc-out}
 use Rattle.appointments.specs.Appointments.{appts}
 use Rattle.appointments.proofs.Flat.{load-count}
-use Rattle.two_color.specs.Contract.{region}
 use Rattle.multigraph.specs.Multigraph.{Graph}
 use Rattle.multigraph.specs.Places.{size}
 use Rattle.evening.specs.Evening.{Evening, evening, even-out-step, evened, even-out}
@@ -19,9 +18,9 @@ use Rattle.evening.specs.Contract.{first-of, second-of, Evened-out}
 use Rattle.evening.specs.Adding.{plain-graph, Has-place}
 use Rattle.evening.specs.Rows.{rows-from, Rows-fit, Rows-filled}
 use Rattle.evening.specs.Filling.{Step-taken, all-passed, left-full, none-right, right-full, both-short}
-use Rattle.two_color.proofs.Regions.{region-length}
+use Rattle.words.proofs.Regions.{region-length}
 use Rattle.evening.proofs.EvenOut.{Evened, even-out-law}
-use Rattle.evening.proofs.TableLaws.{has-ends-new}
+use Rattle.multigraph.proofs.TableLaws.{has-ends-new}
 use Rattle.evening.proofs.PlainLaws.{plain-is}
 use Rattle.evening.proofs.StageWords.{start-sound, start-most, Stage, stage-none, known, stage-done, stage-left, stage-none-right, stage-right}
 use Rattle.evening.proofs.FillStage.{stage-fill}

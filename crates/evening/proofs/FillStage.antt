@@ -8,22 +8,21 @@ use native.Mathlib.Omega.{arith}
 use native.Mathlib.Decide.{ℕ-discrete, decLt, decLe}
 use lib.ListN.{length, drop, List·getD-eq-default}
 use Rattle.words.specs.Basics.{is, count}
-use Rattle.words.specs.Words.{word}
+use Rattle.words.specs.Words.{word, region}
 use Rattle.words.specs.Frames.{Changes-three}
 use Rattle.words.proofs.Ranges.{three-trans, three-within, three-low}
-use Rattle.two_color.specs.Contract.{region}
 use Rattle.multigraph.specs.Multigraph.{Graph, add-edge}
 use Rattle.multigraph.specs.Regular.{degree}
-use Rattle.multigraph.specs.Places.{size, number}
+use Rattle.multigraph.specs.Places.{size, number, Has-ends}
 use Rattle.multigraph.proofs.Ends.{same-ends-sym, same-ends-trans}
 use Rattle.evening.specs.Evening.{Evening, evening, even-out-step}
-use Rattle.evening.specs.Contract.{first-of, second-of, Has-ends}
+use Rattle.evening.specs.Contract.{first-of, second-of}
 use Rattle.evening.specs.Adding.{plain-graph, Its-number, Pair-fits, Pair-added}
 use Rattle.evening.specs.Rows.{rows-from, row, Rows-filled}
 use Rattle.evening.specs.Ends.{Joins}
 use Rattle.evening.specs.Filling.{shortfall, Filled}
 use Rattle.evening.proofs.EvenSteps.{added-left, added-right, added-else, next-fill}
-use Rattle.evening.proofs.TableLaws.{Table-same, first-same, second-same, has-ends-new, has-ends-old}
+use Rattle.multigraph.proofs.TableLaws.{Table-same, first-same, second-same, has-ends-new, has-ends-old}
 use Rattle.evening.proofs.PlainLaws.{newest, Graph-kept, graph-kept, plain-kept, graph-kept-by}
 use Rattle.evening.proofs.RepsLaws.{half-of}
 use Rattle.evening.proofs.FillingWords.{Raised, raised}

@@ -15,7 +15,7 @@ use Rattle.evening.specs.Filling.{Fill-small, Pair-found, shortfall, Fil
 use Rattle.evening.specs.Rows.{row, counter}
 use Rattle.evening.specs.declared.Bases.{Bases}
 use Rattle.evening.specs.declared.rows.RowBases.{RowBases}
-use Rattle.evening.proofs.Puts.{Put, put-is}
+use Rattle.words.proofs.Puts.{Put, put-is}
 
 -- what an answer 1 or 0 says
 pub says-yes : (r : ℕ) (P : Type 0) → Says r P → r ≡ 1 → P

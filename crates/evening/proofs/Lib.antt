@@ -1,5 +1,3 @@
-pub mod Puts
-pub mod TableLaws
 pub mod Pairs
 pub mod Padding
 pub mod Shortfalls

@@ -21,7 +21,8 @@ use Rattle.multigraph.proofs.Spans.{all-span}
 use Rattle.evening.specs.Evening.{add-appointments}
 use Rattle.evening.specs.Contract.{first-of, second-of}
 use Rattle.evening.specs.Adding.{plain-pair, plain-graph}
-use Rattle.evening.proofs.Pairs.{weigh-appts, weigh-list}
+use Rattle.appointments.proofs.Loads.{weigh-appts}
+use Rattle.evening.proofs.Pairs.{weigh-list}
 
 -- appointment i of the list
 pub appt-at :

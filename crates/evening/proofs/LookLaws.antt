@@ -11,8 +11,8 @@ use Rattle.multigraph.specs.Regular.{Same-ends}
 use Rattle.evening.specs.Ends.{Says}
 use Rattle.evening.specs.DiagonalPlaces.{place-of, At-place, On-diagonal, Looks, Looked-at, Diag-ready, Looked}
 use Rattle.evening.specs.declared.Bases.{Bases}
-use Rattle.evening.proofs.TableLaws.{Table-same, first-same, has-ends-old, has-ends-new}
-use Rattle.evening.proofs.Puts.{Put, put-is}
+use Rattle.multigraph.proofs.TableLaws.{Table-same, first-same, has-ends-old, has-ends-new}
+use Rattle.words.proofs.Puts.{Put, put-is}
 
 -- ── where the table and the sides are the same ──
 

@@ -12,7 +12,7 @@ use Rattle.words.specs.Basics.{pick, count, All}
 use Rattle.words.proofs.Sums.{is-eq, is-ne, total-all-zero, count-append, zero-count, all-append, all-map, all-both}
 use Rattle.appointments.specs.Appointments.{Appt, names, load}
 use Rattle.appointments.proofs.Loads.{Listed}
-use Rattle.two_color.specs.TwoSides.{Two-sides}
+use Rattle.appointments.specs.TwoSides.{Two-sides}
 use Rattle.multigraph.specs.Regular.{Partition}
 use Rattle.evening.specs.Evening.{new-parties, padded}
 use Rattle.evening.proofs.Pairs.{Crosses}

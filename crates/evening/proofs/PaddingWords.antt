@@ -3,13 +3,12 @@ use Prim.Native.Nat.{ℕ, zero, suc, _+_, _-_, _≤_, _<_, max}
 use mathlib.Core.Path.{_≡_, refl, _∙_, ap}
 use mathlib.Core.List.{List, [], _∷_, _++_, append-assoc, append-nil}
 use native.Mathlib.Omega.{arith}
-use Rattle.words.specs.Words.{put-word}
-use Rattle.two_color.specs.Contract.{region}
-use Rattle.two_color.proofs.Regions.{region-length, region-more, region-same}
+use Rattle.words.specs.Words.{put-word, region}
+use Rattle.words.proofs.Regions.{region-length, region-more, region-same}
 use Rattle.evening.specs.Evening.{new-parties, padded}
 use Rattle.evening.specs.Contract.{Can-pad, Sides-padded}
 use Rattle.evening.specs.Sides.{Can-pad-side, Padding}
-use Rattle.evening.proofs.Puts.{Put, put-is}
+use Rattle.words.proofs.Puts.{Put, put-is}
 
 -- ── one side ──
 

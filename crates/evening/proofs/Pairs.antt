@@ -1,12 +1,13 @@
 -- The pairs of a list: each appointment adds one copy to every weight of the graph, so a party's degree is its load, and the
 -- copies between two parties are the appointments between them. Assumes nothing.
 use Prim.Native.Nat.{ℕ, _+_}
-use mathlib.Core.Path.{_≡_, refl}
+use mathlib.Core.Path.{_≡_}
 use mathlib.Core.List.{List, [], _∷_}
 use native.Mathlib.Omega.{arith}
-use Rattle.words.specs.Basics.{total, All}
+use Rattle.words.specs.Basics.{All}
 use Rattle.appointments.specs.Appointments as Appointments
 use Rattle.appointments.specs.Appointments.{Appt, load}
+use Rattle.appointments.proofs.Loads.{weigh-appts, weigh-appts-none, weigh-appts-cons}
 use Rattle.multigraph.specs.Multigraph.{pair, Graph, add-edge}
 use Rattle.multigraph.specs.Regular.{weigh, names, degree, between, copies-between, Across, Symmetric}
 use Rattle.multigraph.proofs.Ends.{names-symmetric, between-symmetric}
@@ -14,25 +15,6 @@ use Rattle.multigraph.proofs.Weights.{weigh-none}
 use Rattle.multigraph.proofs.Adding.{weigh-add-edge, across-add-edge, positive-add-edge, apart-add-edge}
 use Rattle.multigraph.proofs.Matchings.{Sound}
 use Rattle.evening.specs.Evening.{add-appointments}
-
--- the appointments of a list, each weighed by its ends
-unfoldable pub weigh-appts : (ℕ → ℕ → ℕ) → List Appt → ℕ
-weigh-appts w xs = total (λ x. w (x .first) (x .second)) xs
-
--- how many appointments join u and v, either way round
-abbrev pub appts-between : ℕ → ℕ → List Appt → ℕ
-appts-between u v xs = weigh-appts (between u v) xs
-
--- no appointments weigh nothing
-pub weigh-appts-none : (w : ℕ → ℕ → ℕ) → weigh-appts w [] ≡ 0
-unfolding weigh-appts total
-weigh-appts-none w = refl
-
--- one more adds its weight
-pub weigh-appts-cons :
-    (w : ℕ → ℕ → ℕ) (x : Appt) (xs : List Appt) → weigh-appts w (x ∷ xs) ≡ w (x .first) (x .second) + weigh-appts w xs
-unfolding weigh-appts total
-weigh-appts-cons w x xs = refl
 
 -- Adding the appointments of a list adds their weights.
 pub weigh-add-appointments :
@@ -58,7 +40,7 @@ unfolding load weigh-appts Appointments.names
 degree-load v xs = weigh-list (names v) (names-symmetric v) xs
 
 -- The copies between two parties are the appointments between them.
-pub copies-appts : (u v : ℕ) (xs : List Appt) → copies-between u v (add-appointments [] xs) ≡ appts-between u v xs
+pub copies-appts : (u v : ℕ) (xs : List Appt) → copies-between u v (add-appointments [] xs) ≡ weigh-appts (between u v) xs
 copies-appts u v xs = weigh-list (between u v) (between-symmetric u v) xs
 
 -- both ends of an appointment are below N and on different sides

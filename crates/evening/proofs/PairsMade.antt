@@ -21,7 +21,7 @@ use Rattle.evening.proofs.PlainLaws.{plain-is}
 use Rattle.evening.proofs.RepsLaws.{rep-of}
 use Rattle.evening.proofs.Listed.{listed-half}
 use Rattle.evening.specs.declared.Bases.{Bases}
-use Rattle.evening.proofs.Puts.{Put, put-is}
+use Rattle.words.proofs.Puts.{Put, put-is}
 
 module _ (list : List ℕ) (p d : ℕ) (at : Bases) (u : ℕ) (s : List ℕ)
     (h : Can-pair list p d (at .ends) (at .apair) (at .g) u s) where

@@ -12,14 +12,14 @@ use lib.ListN.{length}
 use Rattle.words.specs.Words.{word, put-word}
 use Rattle.multigraph.specs.Multigraph.{pair, joins, add-edge}
 use Rattle.multigraph.specs.Stored.{entry, graph-at}
-use Rattle.multigraph.specs.Places.{size, number, copies-of, Alike, Distinct-ends}
+use Rattle.multigraph.specs.Places.{size, number, copies-of, Alike, Distinct-ends, Has-ends}
 use Rattle.multigraph.specs.Steps.{span}
 use Rattle.multigraph.proofs.Ends.{true-joins, same-ends-sym, same-ends-trans}
 use Rattle.multigraph.proofs.Spans.{graph-span, span-same, span-snoc, not-joins, add-last, add-there}
-use Rattle.evening.specs.Contract.{Has-ends, Plain}
+use Rattle.evening.specs.Contract.{Plain}
 use Rattle.evening.specs.Adding.{plain-pair, plain-graph, pushed, Pair-fits, Pair-added}
-use Rattle.evening.proofs.Puts.{Put, put-is}
-use Rattle.evening.proofs.TableLaws.{Table-same, first-same, second-same, has-ends-new, has-ends-old, distinct-same}
+use Rattle.words.proofs.Puts.{Put, put-is}
+use Rattle.multigraph.proofs.TableLaws.{Table-same, first-same, second-same, has-ends-new, has-ends-old, distinct-same}
 
 -- as `graph-at`, where no number is a flagged one
 pub plain-is :

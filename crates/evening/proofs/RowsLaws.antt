@@ -13,7 +13,7 @@ use Rattle.words.proofs.Below.{rows-apart, row-inside}
 use Rattle.appointments.proofs.Flat.{count-more}
 use Rattle.evening.specs.declared.rows.RowBases.{RowBases}
 use Rattle.evening.specs.Rows.{row, counter, Cleared, Pushes, row-pushed, Rows-fit, Rows-filled}
-use Rattle.evening.proofs.Puts.{Put, put-is}
+use Rattle.words.proofs.Puts.{Put, put-is}
 
 -- ── clearing ──
 

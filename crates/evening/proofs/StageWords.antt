@@ -8,12 +8,11 @@ use native.Mathlib.Omega.{arith}
 use lib.ListN.{length, drop, drop-of-length-le}
 use lib.Seq.{take-all}
 use Rattle.words.specs.Basics.{count}
-use Rattle.words.specs.Words.{word}
+use Rattle.words.specs.Words.{word, region}
 use Rattle.words.specs.Frames.{Changes-three}
 use Rattle.words.proofs.Ranges.{three-refl}
 use Rattle.appointments.specs.Appointments.{appts, load}
 use Rattle.appointments.proofs.Flat.{load-count}
-use Rattle.two_color.specs.Contract.{region}
 use Rattle.multigraph.specs.Multigraph.{Pair, Graph}
 use Rattle.multigraph.specs.Regular.{degree}
 use Rattle.multigraph.specs.Places.{size, copies-of}
@@ -24,11 +23,11 @@ use Rattle.evening.specs.Evening.{Evening, evening, add-appointments, ev
 use Rattle.evening.specs.Contract.{Plain}
 use Rattle.evening.specs.Adding.{plain-pair, plain-graph}
 use Rattle.evening.specs.Rows.{rows-from, row, Rows-filled}
-use Rattle.two_color.proofs.Regions.{region-length, region-rest}
+use Rattle.words.proofs.Regions.{region-length, region-rest}
 use Rattle.evening.proofs.Pairs.{degree-load, sound-list}
 use Rattle.evening.proofs.EvenSteps.{Evens, next-done, next-left, next-none, next-right}
 use Rattle.evening.proofs.EvenOut.{keep}
-use Rattle.evening.proofs.TableLaws.{Table-same}
+use Rattle.multigraph.proofs.TableLaws.{Table-same}
 use Rattle.evening.proofs.PlainLaws.{plain-is, Graph-kept, graph-kept, plain-kept, graph-kept-by}
 use Rattle.evening.specs.declared.Bases.{Bases}
 use Rattle.evening.specs.Filling.{Evens-at}

@@ -7,9 +7,9 @@ use lib.ListN.{length}
 use Rattle.words.specs.Frames.{Changes}
 use Rattle.words.specs.Words.{word, put-word}
 use Rattle.multigraph.specs.Multigraph.{Pair, pair, Graph, add-edge}
-use Rattle.multigraph.specs.Places.{size, copies-of}
+use Rattle.multigraph.specs.Places.{size, copies-of, Has-ends}
 use Rattle.multigraph.specs.Steps.{span}
-use Rattle.evening.specs.Contract.{Has-ends, Plain}
+use Rattle.evening.specs.Contract.{Plain}
 use Rattle.evening.specs.Rows.{row}
 
 -- the pair at place e, which is its number

@@ -6,21 +6,16 @@ use mathlib.Core.List.{List, []}
 use mathlib.Core.Logic.{_⊎_}
 use lib.ListN.{length}
 use Rattle.words.specs.Basics.{All, ran}
-use Rattle.words.specs.Words.{word}
+use Rattle.words.specs.Words.{word, region}
 use Rattle.words.specs.Frames.{Changes, Changes-three}
 use Rattle.appointments.specs.Appointments.{appts, load}
-use Rattle.two_color.specs.Contract.{region}
 use Rattle.multigraph.specs.Multigraph.{pair}
-use Rattle.multigraph.specs.Regular.{Same-ends, Across, Partition}
+use Rattle.multigraph.specs.Regular.{Across, Partition}
 use Rattle.multigraph.specs.Stored.{graph-at}
-use Rattle.multigraph.specs.Places.{size, number, copies-of, Distinct-ends}
+use Rattle.multigraph.specs.Places.{size, number, copies-of, Distinct-ends, Has-ends}
 use Rattle.evening.specs.Evening.{add-appointments, padded, even-out}
 
 -- ── what all steps speak of ──
-
--- pair e of the table has these ends, either way round
-abbrev pub Has-ends : List ℕ → ℕ → ℕ → ℕ → ℕ → Type 0
-Has-ends s ends e l r = Same-ends l r (word s (ends + 2 * e)) (word s (ends + 2 * e + 1))
 
 -- the header is the base, each entry's number is its place, and no two pairs have the same ends
 pub record Plain (ends g : ℕ) (s : List ℕ) : Type 0 where

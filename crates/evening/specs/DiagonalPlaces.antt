@@ -6,8 +6,7 @@ use mathlib.Core.Logic.{_⊎_}
 use lib.ListN.{length}
 use Rattle.words.specs.Frames.{Changes-three}
 use Rattle.words.specs.Words.{word, put-word}
-use Rattle.multigraph.specs.Places.{number}
-use Rattle.evening.specs.Contract.{Has-ends}
+use Rattle.multigraph.specs.Places.{number, Has-ends}
 use Rattle.evening.specs.Rows.{row}
 use Rattle.evening.specs.declared.Bases.{Bases}
 

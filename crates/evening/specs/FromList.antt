@@ -8,9 +8,9 @@ use Rattle.words.specs.Basics.{pick}
 use Rattle.words.specs.Frames.{Changes-three}
 use Rattle.words.specs.Words.{word}
 use Rattle.appointments.specs.Appointments.{appts}
-use Rattle.multigraph.specs.Places.{size}
+use Rattle.multigraph.specs.Places.{size, Has-ends}
 use Rattle.evening.specs.Evening.{add-appointments}
-use Rattle.evening.specs.Contract.{first-of, second-of, Has-ends, Plain}
+use Rattle.evening.specs.Contract.{first-of, second-of, Plain}
 use Rattle.evening.specs.Adding.{plain-graph}
 use Rattle.evening.specs.Representatives.{Rep}
 use Rattle.evening.specs.declared.Bases.{Bases}

@@ -3,8 +3,7 @@ use Prim.Native.Nat.{ℕ, _+_, _-_, _<_, _≤_}
 use mathlib.Core.Path.{_≡_}
 use mathlib.Core.List.{List, _++_}
 use lib.ListN.{length}
-use Rattle.words.specs.Words.{word}
-use Rattle.two_color.specs.Contract.{region}
+use Rattle.words.specs.Words.{word, region}
 use Rattle.evening.specs.Evening.{new-parties}
 
 -- k parties stand at `at`, which has room for n

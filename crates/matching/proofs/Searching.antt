@@ -14,8 +14,10 @@ use Rattle.multigraph.specs.Regular.{weigh, names, degree, between, copies-betw
 use Rattle.multigraph.proofs.Ends.{names-symmetric, between-symmetric, between-ends}
 use Rattle.multigraph.proofs.Weights.{weigh-none, own-copies, no-pairs-no-copies}
 use Rattle.multigraph.proofs.Adding.{agrees-add-edge, weigh-add-edge}
-use Rattle.matching.specs.Matching.{log-up, add-times, add-diagonal, search-graph}
-use Rattle.matching.proofs.Powers.{Shares, log-up-law, shares}
+use Rattle.words.specs.PowersOfTwo.{log-up}
+use Rattle.matching.specs.Matching.{add-times, add-diagonal, search-graph}
+use Rattle.words.proofs.PowersOfTwo.{log-up-law}
+use Rattle.matching.proofs.Powers.{Shares, shares}
 use Rattle.matching.proofs.Diagonal.{diagonal, diagonal-names, diagonal-le, weigh-add-times, weigh-add-diagonal, Between-sides, between-add-times, between-add-diagonal}
 
 -- 1 where the graph has no copy between the two parties, else 0

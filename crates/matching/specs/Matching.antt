@@ -5,13 +5,9 @@ use mathlib.Core.List.{List, [], _∷_}
 use lib.Dec.{eqb, leb}
 use lib.ListN.{length}
 use Rattle.words.specs.Basics.{pick, total, Run, ran, and-then}
+use Rattle.words.specs.PowersOfTwo.{log-up}
 use Rattle.multigraph.specs.Multigraph.{Pair, Graph, add-edge}
 use Rattle.euler.specs.Split.{Halves, rbmg-split-into-two}
-
--- log2 of m rounded up: the exponent of the least power of two not below m (0 for m = 0)
-unfoldable pub log-up : ℕ → ℕ
-log-up zero = 0
-log-up (suc m) = let e : ℕ = log-up m in pick (leb (suc m) (2 ^ e)) e (e + 1)
 
 -- how many pairs are flagged, however many copies they have
 unfoldable pub flagged-pairs : Graph → ℕ

@@ -9,6 +9,7 @@ pub mod Flags
 pub mod Numbers
 pub mod Kept
 pub mod SideBySide
+pub mod TableLaws
 pub mod Mapping
 pub mod AddingWords
 pub mod MatchingWords

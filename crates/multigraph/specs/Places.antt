@@ -22,6 +22,10 @@ number s g i = word s (g + 2 + 2 * i)
 abbrev pub copies-of : List ℕ → ℕ → ℕ → ℕ
 copies-of s g i = word s (g + 3 + 2 * i)
 
+-- pair e of the table has these ends, either way round
+abbrev pub Has-ends : List ℕ → ℕ → ℕ → ℕ → ℕ → Type 0
+Has-ends s ends e l r = Same-ends l r (word s (ends + 2 * e)) (word s (ends + 2 * e + 1))
+
 -- the pairs e and f have the same ends, either way round
 abbrev pub Alike : List ℕ → ℕ → ℕ → ℕ → Type 0
 Alike s ends e f =

@@ -7,7 +7,7 @@
 // Ported from rustworkx-core, `RegularBipartiteMultiGraph` in bipartite_coloring.rs (Apache License 2.0, see NOTICE).
 ghost use mathlib.Core.Path.{_≡_};
 ghost use Prim.Native.Nat.{ℕ, _+_, _*_, _-_, _<_, _≤_};
-ghost use lib.ListN.{length};
+ghost use lib.ListN.{length, take, drop};
 ghost use Rattle.words.specs.Words.{word, «put-word»};
 ghost use Rattle.multigraph.specs.Places.{size, «copies-of», «Maps-places», «Adds-edge», «Adds-matching», «Removes-matching»};
 ghost use Rattle.multigraph.specs.Steps.{Writes, «less-of», «rest-words», «rest-next», «Copies-rest»};
@@ -218,4 +218,14 @@ pub fn remove_matching(s: &mut [u32], places: usize, g: usize, to: usize, m: usi
     let k = copy_rest(s, places, g, to);
     put(s, to, to);
     put(s, to + 1, k);
+}
+
+// Matching `i` of those that lie side by side at `out`, `n` numbers each, as the stretch of words that holds it.
+pub fn matching<'a>(scratch: &'a [u32], out: usize, n: usize, i: usize) -> &'a [u32]
+    requires { ⌜ out + n * i + n ≤ length (now scratch) ⌝ }
+    ensures { λ r. ⌜ now r ≡ take n (drop (out + n * i) (now (scratch .entry))) ⌝ }
+{
+    let at = out + n * i;
+    let end = at + n;
+    &scratch[at..end]
 }

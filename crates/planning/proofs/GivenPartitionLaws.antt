@@ -12,7 +12,7 @@ use Rattle.appointments.specs.Appointments as Appointments
 use Rattle.appointments.specs.Appointments.{Appt, load, largest-load}
 use Rattle.appointments.specs.Plans.{Plan-of, Clash-free}
 use Rattle.appointments.proofs.Loads.{Listed, load-le-largest, largest-load-le}
-use Rattle.two_color.specs.TwoSides.{Two-sides}
+use Rattle.appointments.specs.TwoSides.{Two-sides}
 use Rattle.multigraph.specs.Multigraph.{Graph}
 use Rattle.multigraph.specs.Regular.{names, degree, between, Across, Regular, Positive, Partition}
 use Rattle.multigraph.proofs.Ends.{between-symmetric}

@@ -10,7 +10,7 @@ use Rattle.words.specs.Words.{word}
 use Rattle.words.proofs.Runs.{ran-is}
 use Rattle.appointments.specs.Appointments.{Appt, appts, largest-load}
 use Rattle.appointments.proofs.Flat.{appts-count}
-use Rattle.two_color.specs.TwoSides.{Two-sides}
+use Rattle.appointments.specs.TwoSides.{Two-sides}
 use Rattle.two_color.proofs.TwoColorLaws.{sides-proper}
 use Rattle.multigraph.specs.Multigraph.{Graph}
 use Rattle.multigraph.specs.Stored.{graph-at, matchings-at}

@@ -7,22 +7,21 @@ use mathlib.Core.Logic.{inl, inr, ⊎-elim}
 use native.Mathlib.Omega.{arith}
 use lib.ListN.{length}
 use Rattle.words.specs.Basics.{All, ran}
-use Rattle.words.specs.Words.{word}
+use Rattle.words.specs.Words.{word, region}
 use Rattle.appointments.specs.Appointments.{appts}
-use Rattle.two_color.specs.TwoSides.{Two-sides}
-use Rattle.two_color.specs.Contract.{region}
+use Rattle.appointments.specs.TwoSides.{Two-sides}
 use Rattle.two_color.proofs.TwoColorLaws.{sides-proper}
-use Rattle.two_color.proofs.Regions.{region-same, region-length, region-front}
+use Rattle.words.proofs.Regions.{region-same, region-length, region-front}
 use Rattle.multigraph.specs.Regular.{Partition}
 use Rattle.multigraph.specs.Stored.{graph-at}
-use Rattle.multigraph.specs.Places.{size, number, Alike}
+use Rattle.multigraph.specs.Places.{size, number, Alike, Has-ends}
 use Rattle.multigraph.proofs.Kept.{Ends-kept, alike-back, Graph-kept, kept-above}
 use Rattle.multigraph.proofs.Ends.{same-ends-sym}
 use Rattle.matching.specs.declared.Table.{Table}
 use Rattle.matching.specs.Searched.{column, lefts, rights, Tabled}
 use Rattle.edge_color.specs.Room.{Colorable, Color-fits}
 use Rattle.evening.specs.Evening.{add-appointments, padded, even-out}
-use Rattle.evening.specs.Contract.{Has-ends, Can-pad, Sides-padded, Can-pair, Pairs-made, Can-even, Evened-out, Can-diagonal, Diagonal-set}
+use Rattle.evening.specs.Contract.{Can-pad, Sides-padded, Can-pair, Pairs-made, Can-even, Evened-out, Can-diagonal, Diagonal-set}
 use Rattle.evening.proofs.Pairs.{Crosses, sound-list, degree-load}
 use Rattle.evening.proofs.Padding.{padded-side, padded-partition, padded-crosses, padded-loads}
 use Rattle.evening.proofs.EvenOut.{Evened, even-out-law}

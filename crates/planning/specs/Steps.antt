@@ -5,19 +5,18 @@ use mathlib.Core.Path.{_≡_}
 use mathlib.Core.List.{List, []}
 use lib.ListN.{length}
 use Rattle.words.specs.Basics.{ran}
-use Rattle.words.specs.Words.{word}
+use Rattle.words.specs.Words.{word, region}
 use Rattle.appointments.specs.Appointments.{appts, largest-load}
 use Rattle.appointments.specs.Answers.{over}
 use Rattle.appointments.specs.Checks.{passed, checks}
 use Rattle.two_color.specs.TwoColor.{sides, two-color}
-use Rattle.two_color.specs.Contract.{region}
 use Rattle.multigraph.specs.Stored.{graph-at}
-use Rattle.multigraph.specs.Places.{size}
+use Rattle.multigraph.specs.Places.{size, Has-ends}
 use Rattle.matching.specs.Searched.{lefts, rights}
 use Rattle.matching.specs.declared.Table.{Table}
 use Rattle.edge_color.specs.Room.{Color-fits}
 use Rattle.evening.specs.Evening.{add-appointments, padded, even-out}
-use Rattle.evening.specs.Contract.{first-of, second-of, Has-ends}
+use Rattle.evening.specs.Contract.{first-of, second-of}
 use Rattle.planning.specs.Planning.{plan, bipartite-edge-color, answer-for, slots-for}
 use Rattle.planning.specs.Planning as Planning
 

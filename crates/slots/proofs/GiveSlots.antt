@@ -22,7 +22,7 @@ use Rattle.multigraph.proofs.Ends.{names-symmetric, between-symmetric, between-
 use Rattle.multigraph.proofs.Weights.{pairs-between-none, no-pairs-no-copies}
 use Rattle.multigraph.proofs.Removing.{weigh-remove-edge, positive-remove-edge}
 use Rattle.slots.specs.Slots.{Given, given, none-left, give-here, or-here, give, with-slot, give-slots}
-use Rattle.evening.proofs.Pairs.{appts-between, weigh-appts-cons}
+use Rattle.appointments.proofs.Loads.{weigh-appts, weigh-appts-cons}
 
 -- the copies of all matchings, each weighed by its ends
 abbrev pub weigh-all : (ℕ → ℕ → ℕ) → List Graph → ℕ
@@ -30,7 +30,7 @@ weigh-all w ms = total (λ (m : Graph). weigh w m) ms
 
 -- the matchings hold the pairs of all appointments
 abbrev pub Enough : List Appt → List Graph → Type 0
-Enough xs ms = (u v : ℕ) → appts-between u v xs ≤ weigh-all (between u v) ms
+Enough xs ms = (u v : ℕ) → weigh-appts (between u v) xs ≤ weigh-all (between u v) ms
 
 -- no matching has the pair with ends a and b
 abbrev pub Lacks : ℕ → ℕ → List Graph → Type 0

@@ -13,7 +13,7 @@ use Rattle.multigraph.specs.Multigraph.{Graph}
 use Rattle.multigraph.specs.Stored.{matchings-at}
 use Rattle.multigraph.proofs.SideBySide.{matchings-length, matchings-positive, matchings-nth}
 use Rattle.slots.specs.Slots.{give-slots}
-use Rattle.evening.specs.Contract.{Has-ends}
+use Rattle.multigraph.specs.Places.{Has-ends}
 use Rattle.slots.specs.Stored.{Slots-fit, Slots-stored}
 use Rattle.slots.specs.Steps.{all-pushed, given-words, given-slots}
 use Rattle.slots.proofs.Chains.{slots-same}

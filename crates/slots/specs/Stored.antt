@@ -10,8 +10,7 @@ use Rattle.words.specs.Frames.{Changes}
 use Rattle.appointments.specs.Appointments.{Appt, appt}
 use Rattle.appointments.specs.Answers.{over}
 use Rattle.multigraph.specs.Stored.{matchings-at}
-use Rattle.multigraph.specs.Places.{Distinct-ends}
-use Rattle.evening.specs.Contract.{Has-ends}
+use Rattle.multigraph.specs.Places.{Distinct-ends, Has-ends}
 use Rattle.slots.specs.Slots.{give-slots}
 
 -- The table of ends, the numbers of the appointments' pairs, the matchings and a word for each pair lie inside the words, the

@@ -10,7 +10,7 @@ use Rattle.appointments.proofs.ChecksLaws.{refused-passed}
 use Rattle.appointments.proofs.Causes.{refused-cause, cause-number}
 use Rattle.two_color.specs.Contract.{Answers}
 use Rattle.two_color.specs.declared.TwoColoring.the-variants.{Sides, NotBipartite}
-use Rattle.two_color.proofs.Regions.{region-length}
+use Rattle.words.proofs.Regions.{region-length}
 use Rattle.steps_c.specs.Compared.{Two-colored}
 
 module _ (p : ℕ) (list before : List ℕ) where

@@ -3,12 +3,12 @@ use Prim.Native.Nat.{ℕ, _-_}
 use mathlib.Core.Path.{_≡_}
 use mathlib.Core.List.{List}
 use lib.ListN.{length}
+use Rattle.words.specs.Words.{region}
 use Rattle.appointments.specs.Appointments.{appts}
 use Rattle.appointments.specs.Checks.{Check, passed, refused, checks}
 use Rattle.appointments.specs.declared.Answered.{Answered}
 use Rattle.appointments.specs.declared.Answered.the-variants.{Accepted, Refused}
 use Rattle.two_color.specs.TwoColor.{Sides, sides, not-bipartite, unfinished, two-color}
-use Rattle.two_color.specs.Contract.{region}
 
 -- the number of a refusal by the checks, as the code has it
 abbrev pub refusal-number : Answered → ℕ

@@ -6,13 +6,13 @@ use native.Mathlib.Omega.{arith}
 use native.Mathlib.Nat.{le-refl}
 use lib.ListN.{length}
 use Rattle.words.specs.Basics.{All, iterate}
-use Rattle.words.specs.Words.{word}
+use Rattle.words.specs.Words.{word, region}
 use Rattle.words.specs.Frames.{Keeps}
 use Rattle.words.proofs.Frames.{keeps-refl, keeps-trans}
 use Rattle.words.proofs.Sums.{all-map}
 use Rattle.appointments.specs.Appointments.{Appt, appts}
 use Rattle.two_color.specs.TwoColor.{Colouring, neighbours, Search, going, refused, search-below, side, sides, two-color}
-use Rattle.two_color.specs.Contract.{region, Can-color, Colored}
+use Rattle.two_color.specs.Contract.{Can-color, Colored}
 use Rattle.two_color.specs.Model.{Small, right-place, refused-place, left-count, prepareM, stepsM}
 use Rattle.two_color.specs.Bounds.{Can-step-all}
 use Rattle.two_color.specs.declared.TwoColoring.the-variants.{Sides, NotBipartite}

@@ -5,11 +5,10 @@ use mathlib.Core.Path.{_≡_, refl, sym, _∙_}
 use mathlib.Core.List.{List, [], _∷_, _++_}
 use native.Mathlib.Omega.{arith}
 use lib.ListN.{length, length-append}
-use Rattle.words.specs.Words.{word, put-word}
+use Rattle.words.specs.Words.{word, put-word, region}
 use Rattle.words.proofs.Frames.{here, away, length-put}
-use Rattle.two_color.specs.Contract.{region}
 use Rattle.two_color.specs.Model.{row-count, row-start, row-place, appendM}
-use Rattle.two_color.proofs.Regions.{Same, region-same}
+use Rattle.words.proofs.Regions.{Same, region-same}
 
 -- ── the stack ──
 

@@ -7,7 +7,6 @@ pub mod Starts
 pub mod TwoColorLaws
 pub mod ModelLaws
 pub mod Turns
-pub mod Regions
 pub mod Held
 pub mod Showing
 pub mod Stepping

@@ -15,7 +15,7 @@ use Rattle.two_color.specs.Model.{Small, right-place, stack-place, colou
 use Rattle.two_color.specs.Bounds.{Can-append, Can-color-party}
 use Rattle.two_color.proofs.ModelLaws.{color-left, color-right}
 use Rattle.two_color.proofs.Colouring.{colour-new, colour-other, still-coloured, Each-once, side-same, side-other, sides-length, coloured-le}
-use Rattle.two_color.proofs.Regions.{Same}
+use Rattle.words.proofs.Regions.{Same}
 use Rattle.two_color.proofs.Held.{newest, newest-same, Held, held-same, held-more, Appended, append-does}
 
 -- ── the frame of the search ──

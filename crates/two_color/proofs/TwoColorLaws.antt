@@ -13,7 +13,8 @@ use Rattle.appointments.specs.Appointments.{Appt}
 use Rattle.appointments.specs.Rounds.{Odd-round}
 use Rattle.appointments.proofs.Loads.{Listed}
 use Rattle.two_color.specs.TwoColor.{Colouring, colour-of, Search, going, refused, search-below, side, Sides, sides, not-bipartite, unfinished, sides-of, two-color}
-use Rattle.two_color.specs.TwoSides.{Two-sides, Says, Found-sides, Refused-list}
+use Rattle.appointments.specs.TwoSides.{Two-sides}
+use Rattle.two_color.specs.TwoSides.{Says, Found-sides, Refused-list}
 use Rattle.two_color.proofs.Walks.{Both-ways, joined-all, all-joined, no-odd-round}
 use Rattle.two_color.proofs.Colouring.{coloured-stands, side-members, sides-length, coloured-all}
 use Rattle.two_color.proofs.Starts.{Settled-below, Ended, search-ends}

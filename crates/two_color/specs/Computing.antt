@@ -2,8 +2,7 @@
 -- Assumes nothing.
 use Rattle.appointments.specs.Computing as Appointments
 use Rattle.two_color.specs.TwoColor.{colour-of, far-ends, neighbours, touch, touch-all, pop, start, search-below, side, two-color}
-use Rattle.two_color.specs.Contract.{region}
 
 unfoldable pub computing : Unit {0}
-unfolding Appointments.computing colour-of far-ends neighbours touch touch-all pop start search-below side two-color region
+unfolding Appointments.computing colour-of far-ends neighbours touch touch-all pop start search-below side two-color
 computing = tt

@@ -1,20 +1,15 @@
 -- What the code of `two_color` requires, and what it does. Assumes nothing.
-use Prim.Native.Nat.{ℕ, zero, suc, _+_, _*_, _-_, _<_, _≤_}
+use Prim.Native.Nat.{ℕ, _+_, _*_, _-_, _<_, _≤_}
 use mathlib.Core.Path.{_≡_}
-use mathlib.Core.List.{List, [], _∷_, _++_}
+use mathlib.Core.List.{List}
 use lib.ListN.{length}
 use Rattle.words.specs.Basics.{All}
-use Rattle.words.specs.Words.{word}
+use Rattle.words.specs.Words.{region}
 use Rattle.words.specs.Frames.{Keeps}
 use Rattle.appointments.specs.Appointments.{appts, load}
 use Rattle.two_color.specs.TwoColor.{sides, not-bipartite, two-color}
 use Rattle.two_color.specs.declared.TwoColoring.{TwoColoring}
 use Rattle.two_color.specs.declared.TwoColoring.the-variants.{Sides, NotBipartite}
-
--- the n words from a on, in order
-unfoldable pub region : List ℕ → ℕ → ℕ → List ℕ
-region s a zero = []
-region s a (suc n) = region s a n ++ (word s (a + n) ∷ [])
 
 -- The list has passed checks 1 to 6 with d for D, and there is room above the mark u.
 pub record Can-color (p d u : ℕ) (list s : List ℕ) : Type 0 where

@@ -6,3 +6,5 @@ pub mod Frames
 pub mod Ranges
 pub mod Below
 pub mod PowersOfTwo
+pub mod Regions
+pub mod Puts

@@ -1,4 +1,5 @@
 pub mod Basics
 pub mod Words
+pub mod PowersOfTwo
 pub mod Frames
 pub mod Computing

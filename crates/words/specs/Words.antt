@@ -1,7 +1,7 @@
 -- Words in a list that stands for a lent slice: read as 0 past the end, written only inside, numbers cut to the word's width.
 -- Assumes nothing.
-use Prim.Native.Nat.{ℕ, _%_}
-use mathlib.Core.List.{List}
+use Prim.Native.Nat.{ℕ, zero, suc, _+_, _%_}
+use mathlib.Core.List.{List, [], _∷_, _++_}
 use lib.ListN.{getD, set}
 
 -- the word at i, and 0 past the end
@@ -15,3 +15,8 @@ put-word s i x = set s i (x % 4294967296)
 -- x, cut to 16 bits, put at i; past the end nothing happens
 abbrev pub put-word16 : List ℕ → ℕ → ℕ → List ℕ
 put-word16 s i x = set s i (x % 65536)
+
+-- the n words from a on, in order
+unfoldable pub region : List ℕ → ℕ → ℕ → List ℕ
+region s a zero = []
+region s a (suc n) = region s a n ++ (word s (a + n) ∷ [])

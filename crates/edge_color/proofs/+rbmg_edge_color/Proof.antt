@@ -79,7 +79,7 @@ use lib.Dec.{eqb→eq}
 use Rattle.mark.proofs.Walking.{differ}
 use Rattle.multigraph.specs.Places.{Adds-matching}
 use Rattle.euler.specs.Room.{Halves-stored}
-use Rattle.matching.specs.Matching.{log-up}
+use Rattle.words.specs.PowersOfTwo.{log-up}
 use Rattle.matching.specs.Searched.{Reads-matching}
 use Rattle.edge_color.specs.Room.{Power-colored, Color-fits, Aside-stored, Colored}
 use Rattle.edge_color.proofs.AsideWords.{small, back-again}

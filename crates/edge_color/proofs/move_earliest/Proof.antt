@@ -2,8 +2,8 @@
 use Prim.Native.Nat.{ℕ, _*_, _-_, _^_, _<_}
 use mathlib.Core.Path.{_≡_, sym, subst}
 use native.Mathlib.Omega.{arith}
-use Rattle.matching.specs.Matching.{log-up}
-use Rattle.matching.proofs.Powers.{log-up-law}
+use Rattle.words.specs.PowersOfTwo.{log-up}
+use Rattle.words.proofs.PowersOfTwo.{log-up-law}
 use borrow.Author.Needs.{needs}
 use Rattle.edge_color.proofs.move_earliest.Statement.{statement}
 use Rattle.edge_color.proofs.move_earliest.Tie as tie

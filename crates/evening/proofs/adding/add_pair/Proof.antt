@@ -3,7 +3,7 @@ use mathlib.Core.Path.{_≡_}
 use Prim.Native.Nat.{_+_, _*_, _<_, _≤_}
 use native.Mathlib.Omega.{arith}
 use Rattle.multigraph.specs.Places.{size, copies-of}
-use Rattle.evening.proofs.Puts.{put-is}
+use Rattle.words.proofs.Puts.{put-is}
 use Rattle.evening.specs.Adding.{pushed}
 use Rattle.evening.proofs.PlainLaws.{pushed-words, added-there, added-new}
 use borrow.Author.Needs.{needs}

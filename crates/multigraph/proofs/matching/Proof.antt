@@ -1,8 +1,8 @@
--- `edge_color::matching` meets its contract. Assumes nothing.
+-- `multigraph::matching` meets its contract. Assumes nothing.
 use native.Mathlib.Nat.{add-sub-cancel-left}
 use borrow.Author.Needs.{needs}
-use Rattle.edge_color.proofs.matching.Statement.{statement}
-use Rattle.edge_color.proofs.matching.Tie as tie
+use Rattle.multigraph.proofs.matching.Statement.{statement}
+use Rattle.multigraph.proofs.matching.Tie as tie
 
 returns : tie.Need-returns
 returns c = rw add-sub-cancel-left

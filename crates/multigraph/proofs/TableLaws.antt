@@ -4,8 +4,7 @@ use mathlib.Core.Path.{_≡_}
 use mathlib.Core.List.{List}
 use native.Mathlib.Omega.{arith}
 use Rattle.words.specs.Words.{word}
-use Rattle.multigraph.specs.Places.{Alike, Distinct-ends}
-use Rattle.evening.specs.Contract.{Has-ends}
+use Rattle.multigraph.specs.Places.{Alike, Distinct-ends, Has-ends}
 
 -- the first n rows of the table are the same
 abbrev pub Table-same : ℕ → ℕ → List ℕ → List ℕ → Type 0

@@ -7,10 +7,9 @@ use native.Mathlib.Numerals.{add-one}
 use native.Mathlib.Decide.{ℕ-discrete}
 use lib.ListN.{length, length-append, drop, getD, List·getD-append}
 use lib.Seq.{drop-cons, getD-at}
 use Rattle.words.specs.Basics.{count, All}
-use Rattle.words.specs.Words.{word}
+use Rattle.words.specs.Words.{word, region}
 use Rattle.words.proofs.Sums.{all-at, count-once}
-use Rattle.two_color.specs.Contract.{region}
 
 -- the n words from a on are the same
 abbrev pub Same : ℕ → ℕ → List ℕ → List ℕ → Type 0
