@@ -11,7 +11,7 @@ use Rattle.words.proofs.Runs.{ran-is}
 use Rattle.appointments.specs.Appointments.{Appt, appts, largest-load}
 use Rattle.appointments.proofs.Flat.{appts-count}
 use Rattle.appointments.specs.TwoSides.{Two-sides}
-use Rattle.two_color.proofs.TwoColorLaws.{sides-proper}
+use Rattle.bipartition.proofs.TwoColorLaws.{sides-proper}
 use Rattle.multigraph.specs.Multigraph.{Graph}
 use Rattle.multigraph.specs.Stored.{graph-at, matchings-at}
 use Rattle.multigraph.specs.Places.{size}

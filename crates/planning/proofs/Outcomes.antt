@@ -13,8 +13,8 @@ use Rattle.appointments.proofs.Loads.{Listed}
 use Rattle.appointments.proofs.LowerBound.{lower-bound, different-is}
 use Rattle.appointments.proofs.Pigeonhole.{busiest-meets-once}
 use Rattle.appointments.proofs.ChecksLaws.{passed-passes}
-use Rattle.two_color.specs.TwoSides.{Found-sides}
-use Rattle.two_color.proofs.TwoColorLaws.{two-color-decides}
+use Rattle.bipartition.specs.TwoSides.{Found-sides}
+use Rattle.bipartition.proofs.TwoColorLaws.{two-color-decides}
 use Rattle.planning.specs.GivenPartition.{bipartite-edge-color-given-partition}
 use Rattle.planning.specs.Planning.{plan, graph-not-bipartite, outcome, given-sides, bipartite-edge-color}
 use Rattle.planning.specs.Demand3.{Shortest-plan}

@@ -10,7 +10,7 @@ use Rattle.words.specs.Basics.{All, ran}
 use Rattle.words.specs.Words.{word, region}
 use Rattle.appointments.specs.Appointments.{appts}
 use Rattle.appointments.specs.TwoSides.{Two-sides}
-use Rattle.two_color.proofs.TwoColorLaws.{sides-proper}
+use Rattle.bipartition.proofs.TwoColorLaws.{sides-proper}
 use Rattle.words.proofs.Regions.{region-same, region-length, region-front}
 use Rattle.multigraph.specs.Regular.{Partition}
 use Rattle.multigraph.specs.Stored.{graph-at}

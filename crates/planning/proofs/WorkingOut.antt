@@ -15,7 +15,7 @@ use Rattle.appointments.specs.declared.Answered.the-variants.{Accepted, Refused
 use Rattle.appointments.proofs.Loads.{Listed, largest-load-empty}
 use Rattle.appointments.proofs.ChecksLaws.{Passes, passed-passes, passes-passed, good-goes-on}
 use Rattle.appointments.proofs.Answering.{checked-passed, checked-figure, checked-number, d-small}
-use Rattle.two_color.specs.TwoColor.{not-bipartite, two-color}
+use Rattle.bipartition.specs.TwoColor.{not-bipartite, two-color}
 use Rattle.two_color.specs.Contract.{Colored}
 use Rattle.two_color.specs.declared.TwoColoring.the-variants.{Sides, NotBipartite}
 use Rattle.planning.specs.Planning.{Answer, planned, refusal, plan, graph-not-bipartite, given-sides, bipartite-edge-color, plan-answer, plan-slots, plan-scratch}

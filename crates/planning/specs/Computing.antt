@@ -1,6 +1,6 @@
 -- Opens every definition of this crate and of those below it: an example that is computed says `unfolding computing`.
 -- Assumes nothing.
-use Rattle.two_color.specs.Computing as TwoColor
+use Rattle.bipartition.specs.Computing as TwoColor
 use Rattle.edge_color.specs.Computing as EdgeColor
 use Rattle.evening.specs.Computing as Evening
 use Rattle.slots.specs.Computing as Slots

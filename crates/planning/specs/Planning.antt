@@ -6,7 +6,7 @@ use Rattle.words.specs.Basics.{Run, ran, failed}
 use Rattle.appointments.specs.Appointments.{Appt, appts, largest-load, scratch-words}
 use Rattle.appointments.specs.Checks.{Check, passed, refused, checks}
 use Rattle.appointments.specs.Answers.{over}
-use Rattle.two_color.specs.TwoColor.{Sides, sides, not-bipartite, unfinished, two-color}
+use Rattle.bipartition.specs.TwoColor.{Sides, sides, not-bipartite, unfinished, two-color}
 use Rattle.planning.specs.GivenPartition.{bipartite-edge-color-given-partition}
 
 -- `bipartite_edge_color`: a plan, or `GraphNotBipartite`, or (which a law rules out) neither.

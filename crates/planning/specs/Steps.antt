@@ -9,7 +9,7 @@ use Rattle.words.specs.Words.{word, region}
 use Rattle.appointments.specs.Appointments.{appts, largest-load}
 use Rattle.appointments.specs.Answers.{over}
 use Rattle.appointments.specs.Checks.{passed, checks}
-use Rattle.two_color.specs.TwoColor.{sides, two-color}
+use Rattle.bipartition.specs.TwoColor.{sides, two-color}
 use Rattle.multigraph.specs.Stored.{graph-at}
 use Rattle.multigraph.specs.Places.{size, Has-ends}
 use Rattle.matching.specs.Searched.{lefts, rights}

@@ -4,7 +4,7 @@ use mathlib.Core.Path.{_≡_, refl}
 use mathlib.Core.List.{List, [], _∷_}
 use Rattle.words.specs.Basics.{ran}
 use Rattle.appointments.specs.Appointments.{Appt, appt}
-use Rattle.two_color.specs.TwoColor.{sides, two-color}
+use Rattle.bipartition.specs.TwoColor.{sides, two-color}
 use Rattle.multigraph.specs.Multigraph.{Graph, pair}
 use Rattle.euler.specs.Split.{rbmg-split-into-two}
 use Rattle.edge_color.specs.EdgeColor.{rbmg-edge-color}

@@ -8,7 +8,7 @@ use Rattle.appointments.specs.Appointments.{appts}
 use Rattle.appointments.specs.Checks.{Check, passed, refused, checks}
 use Rattle.appointments.specs.declared.Answered.{Answered}
 use Rattle.appointments.specs.declared.Answered.the-variants.{Accepted, Refused}
-use Rattle.two_color.specs.TwoColor.{Sides, sides, not-bipartite, unfinished, two-color}
+use Rattle.bipartition.specs.TwoColor.{Sides, sides, not-bipartite, unfinished, two-color}
 
 -- the number of a refusal by the checks, as the code has it
 abbrev pub refusal-number : Answered → ℕ

@@ -9,7 +9,7 @@ use lib.ListN.{length}
 use Rattle.words.specs.Basics.{pick, is, total}
 use Rattle.words.specs.Words.{word}
 use Rattle.appointments.specs.Appointments.{Appt, appt, appts, names, load}
-use Rattle.two_color.specs.TwoColor.{far-ends, second-ends, first-ends}
+use Rattle.bipartition.specs.TwoColor.{far-ends, second-ends, first-ends}
 
 -- the first n appointments, the last of them first
 unfoldable pub backwards : List ℕ → ℕ → List Appt

@@ -14,9 +14,9 @@ use Rattle.words.proofs.Frames.{here, away, length-put, keeps-refl}
 use Rattle.words.proofs.Sums.{all-reverse}
 use Rattle.appointments.specs.Appointments.{Appt, appts, load}
 use Rattle.appointments.proofs.Loads.{Listed, load-reverse}
-use Rattle.two_color.specs.TwoColor.{colour-of, second-ends, first-ends, neighbours, side}
-use Rattle.two_color.specs.Model.{Small, right-place, colour-place, refused-place, next-place, stack-count, left-count, right-count, row-count, row-start, row-place, clearStateM, startPartyM, startPartiesM, fillRowsM, prepareM}
-use Rattle.two_color.specs.Bounds.{Can-fill, Can-prepare}
+use Rattle.bipartition.specs.TwoColor.{colour-of, second-ends, first-ends, neighbours, side}
+use Rattle.two_color_steps.specs.Model.{Small, right-place, colour-place, refused-place, next-place, stack-count, left-count, right-count, row-count, row-start, row-place, clearStateM, startPartyM, startPartiesM, fillRowsM, prepareM}
+use Rattle.two_color_steps.specs.Bounds.{Can-fill, Can-prepare}
 use Rattle.two_color.specs.Contract.{Can-color}
 use Rattle.two_color.proofs.Held.{newest, held-none, Rows}
 use Rattle.two_color.proofs.Showing.{within-refl, Shows}

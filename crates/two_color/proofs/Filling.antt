@@ -16,9 +16,9 @@ use Rattle.words.specs.Frames.{Keeps}
 use Rattle.words.proofs.Frames.{keeps-trans}
 use Rattle.appointments.specs.Appointments.{Appt, appt}
 use Rattle.appointments.proofs.Loads.{Listed}
-use Rattle.two_color.specs.TwoColor.{far-ends}
-use Rattle.two_color.specs.Model.{Small, row-count, row-start, row-place, appendM, pushEndM, fillRowsM}
-use Rattle.two_color.specs.Bounds.{Can-push, Can-fill}
+use Rattle.bipartition.specs.TwoColor.{far-ends}
+use Rattle.two_color_steps.specs.Model.{Small, row-count, row-start, row-place, appendM, pushEndM, fillRowsM}
+use Rattle.two_color_steps.specs.Bounds.{Can-push, Can-fill}
 use Rattle.words.proofs.Regions.{Same}
 use Rattle.two_color.proofs.Held.{Held, held-same, held-more, Appended, append-does, Rows}
 use Rattle.two_color.proofs.Backwards.{backwards}

@@ -11,15 +11,15 @@ use Rattle.words.specs.Frames.{Keeps}
 use Rattle.words.proofs.Frames.{keeps-refl, keeps-trans}
 use Rattle.words.proofs.Sums.{all-map}
 use Rattle.appointments.specs.Appointments.{Appt, appts}
-use Rattle.two_color.specs.TwoColor.{Colouring, neighbours, Search, going, refused, search-below, side, sides, two-color}
+use Rattle.bipartition.specs.TwoColor.{Colouring, neighbours, Search, going, refused, search-below, side, sides, two-color}
 use Rattle.two_color.specs.Contract.{Can-color, Colored}
-use Rattle.two_color.specs.Model.{Small, right-place, refused-place, left-count, prepareM, stepsM}
-use Rattle.two_color.specs.Bounds.{Can-step-all}
+use Rattle.two_color_steps.specs.Model.{Small, right-place, refused-place, left-count, prepareM, stepsM}
+use Rattle.two_color_steps.specs.Bounds.{Can-step-all}
 use Rattle.two_color.specs.declared.TwoColoring.the-variants.{Sides, NotBipartite}
-use Rattle.two_color.proofs.Colouring.{sides-length, coloured-all}
-use Rattle.two_color.proofs.Search.{neighbours-below}
-use Rattle.two_color.proofs.Starts.{Ended, search-ends}
-use Rattle.two_color.proofs.Turns.{Stage, stage, turn, turns-whole}
+use Rattle.bipartition.proofs.Colouring.{sides-length, coloured-all}
+use Rattle.bipartition.proofs.Search.{neighbours-below}
+use Rattle.bipartition.proofs.Starts.{Ended, search-ends}
+use Rattle.bipartition.proofs.Turns.{Stage, stage, turn, turns-whole}
 use Rattle.two_color.proofs.Showing.{Shows, Shown, shown-within}
 use Rattle.two_color.proofs.Stepping.{steps-show, steps-fit}
 use Rattle.two_color.proofs.Beginning.{Begun, prepared-begun}

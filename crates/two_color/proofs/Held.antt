@@ -7,7 +7,7 @@ use native.Mathlib.Omega.{arith}
 use lib.ListN.{length, length-append}
 use Rattle.words.specs.Words.{word, put-word, region}
 use Rattle.words.proofs.Frames.{here, away, length-put}
-use Rattle.two_color.specs.Model.{row-count, row-start, row-place, appendM}
+use Rattle.two_color_steps.specs.Model.{row-count, row-start, row-place, appendM}
 use Rattle.words.proofs.Regions.{Same, region-same}
 
 -- ── the stack ──

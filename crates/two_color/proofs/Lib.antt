@@ -1,12 +1,3 @@
-pub mod Examples
-pub mod Walks
-pub mod NeighbourLaws
-pub mod Colouring
-pub mod Search
-pub mod Starts
-pub mod TwoColorLaws
-pub mod ModelLaws
-pub mod Turns
 pub mod Held
 pub mod Showing
 pub mod Stepping

@@ -10,11 +10,11 @@ use Rattle.words.specs.Basics.{All}
 use Rattle.words.specs.Words.{word, put-word}
 use Rattle.words.proofs.Frames.{here, away, length-put}
 use Rattle.words.proofs.Sums.{all-map}
-use Rattle.two_color.specs.TwoColor.{Coloured-party, Colouring, coloured, colour-of, Search, going, refused, side}
-use Rattle.two_color.specs.Model.{Small, right-place, stack-place, colour-place, refused-place, next-place, stack-count, left-count, right-count, appendM, stacked, colorPartyM}
-use Rattle.two_color.specs.Bounds.{Can-append, Can-color-party}
-use Rattle.two_color.proofs.ModelLaws.{color-left, color-right}
-use Rattle.two_color.proofs.Colouring.{colour-new, colour-other, still-coloured, Each-once, side-same, side-other, sides-length, coloured-le}
+use Rattle.bipartition.specs.TwoColor.{Coloured-party, Colouring, coloured, colour-of, Search, going, refused, side}
+use Rattle.two_color_steps.specs.Model.{Small, right-place, stack-place, colour-place, refused-place, next-place, stack-count, left-count, right-count, appendM, stacked, colorPartyM}
+use Rattle.two_color_steps.specs.Bounds.{Can-append, Can-color-party}
+use Rattle.two_color_steps.proofs.ModelLaws.{color-left, color-right}
+use Rattle.bipartition.proofs.Colouring.{colour-new, colour-other, still-coloured, Each-once, side-same, side-other, sides-length, coloured-le}
 use Rattle.words.proofs.Regions.{Same}
 use Rattle.two_color.proofs.Held.{newest, newest-same, Held, held-same, held-more, Appended, append-does}
 

@@ -12,15 +12,15 @@ use Rattle.words.specs.Words.{word, put-word, region}
 use Rattle.words.proofs.Frames.{here, away}
 use Rattle.words.proofs.Runs.{iterate-suc-out}
 use Rattle.appointments.specs.Appointments.{Appt}
-use Rattle.two_color.specs.TwoColor.{Colouring, colour-of, neighbours, Search, going, refused, touch, touch-all, pop, side}
-use Rattle.two_color.specs.Model.{Small, stack-place, colour-place, refused-place, next-place, stack-count, left-count, right-count, row-count, row-start, row-place, touchM, lookM, looksM, touchAllM, takeOffM, nextPartyM, stepM, stepsM}
-use Rattle.two_color.specs.Bounds.{Can-touch, Can-look, Can-look-all, Can-take-off, Can-go-on, Can-step, Can-step-all}
-use Rattle.two_color.proofs.ModelLaws.{touch-rests, touch-refuses, touch-colors, touch-passes, next-none, next-colors, next-passes, step-rests, step-next, step-off}
-use Rattle.two_color.proofs.Colouring.{colour-le, sides-length, coloured-le}
+use Rattle.bipartition.specs.TwoColor.{Colouring, colour-of, neighbours, Search, going, refused, touch, touch-all, pop, side}
+use Rattle.two_color_steps.specs.Model.{Small, stack-place, colour-place, refused-place, next-place, stack-count, left-count, right-count, row-count, row-start, row-place, touchM, lookM, looksM, touchAllM, takeOffM, nextPartyM, stepM, stepsM}
+use Rattle.two_color_steps.specs.Bounds.{Can-touch, Can-look, Can-look-all, Can-take-off, Can-go-on, Can-step, Can-step-all}
+use Rattle.two_color_steps.proofs.ModelLaws.{touch-rests, touch-refuses, touch-colors, touch-passes, next-none, next-colors, next-passes, step-rests, step-next, step-off}
+use Rattle.bipartition.proofs.Colouring.{colour-le, sides-length, coloured-le}
 use Rattle.words.proofs.Regions.{region-all}
 use Rattle.two_color.proofs.Held.{newest, newest-same, held-same, Rows}
 use Rattle.two_color.proofs.Showing.{Within, within-trans, within-put, Shows, Shown, shown-within, color-shows}
-use Rattle.two_color.proofs.Turns.{Stage, stage, begun, turn-from, turn}
+use Rattle.bipartition.proofs.Turns.{Stage, stage, begun, turn-from, turn}
 
 touch-all-snoc : (c : ℕ) (ws : List ℕ) (w : ℕ) (r : Search) → touch-all c (ws ++ (w ∷ [])) r ≡ touch c w (touch-all c ws r)
 unfolding touch-all

@@ -7,7 +7,7 @@ use Rattle.words.specs.Basics.{All}
 use Rattle.words.specs.Words.{region}
 use Rattle.words.specs.Frames.{Keeps}
 use Rattle.appointments.specs.Appointments.{appts, load}
-use Rattle.two_color.specs.TwoColor.{sides, not-bipartite, two-color}
+use Rattle.bipartition.specs.TwoColor.{sides, not-bipartite, two-color}
 use Rattle.two_color.specs.declared.TwoColoring.{TwoColoring}
 use Rattle.two_color.specs.declared.TwoColoring.the-variants.{Sides, NotBipartite}
 

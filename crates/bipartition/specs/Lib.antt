@@ -1,0 +1,3 @@
+pub mod TwoColor
+pub mod TwoSides
+pub mod Computing
