@@ -13,19 +13,20 @@ use Rattle.appointments.specs.Appointments.{appts}
 use Rattle.appointments.proofs.Flat.{load-count}
 use Rattle.multigraph.specs.Multigraph.{Graph}
 use Rattle.multigraph.specs.Places.{size}
-use Rattle.evening.specs.Evening.{Evening, evening, even-out-step, evened, even-out}
-use Rattle.evening.specs.Contract.{first-of, second-of, Evened-out}
-use Rattle.evening.specs.Adding.{plain-graph, Has-place}
-use Rattle.evening.specs.Rows.{rows-from, Rows-fit, Rows-filled}
+use Rattle.regular_graph.specs.Evening.{Evening, evening, even-out-step, evened, even-out}
+use Rattle.list_pairs.specs.Contract.{first-of, second-of}
+use Rattle.evening.specs.Contract.{Evened-out}
+use Rattle.list_pairs.specs.Adding.{plain-graph, Has-place}
+use Rattle.list_pairs.specs.Rows.{rows-from, Rows-fit, Rows-filled}
 use Rattle.evening.specs.Filling.{Step-taken, all-passed, left-full, none-right, right-full, both-short}
 use Rattle.words.proofs.Regions.{region-length}
-use Rattle.evening.proofs.EvenOut.{Evened, even-out-law}
+use Rattle.regular_graph.proofs.RegularLaws.{Evened, even-out-law}
 use Rattle.multigraph.proofs.TableLaws.{has-ends-new}
-use Rattle.evening.proofs.PlainLaws.{plain-is}
+use Rattle.list_pairs.proofs.PlainLaws.{plain-is}
 use Rattle.evening.proofs.StageWords.{start-sound, start-most, Stage, stage-none, known, stage-done, stage-left, stage-none-right, stage-right}
 use Rattle.evening.proofs.FillStage.{stage-fill}
-use Rattle.evening.proofs.Listed.{listed-half}
-use Rattle.evening.specs.declared.Bases.{Bases}
+use Rattle.list_pairs.proofs.Listed.{listed-half}
+use Rattle.list_pairs.specs.declared.Bases.{Bases}
 use Rattle.evening.specs.Filling.{Evens-at, Fill-small}
 
 -- ── one step ──

@@ -15,19 +15,19 @@ use Rattle.multigraph.specs.Multigraph.{Graph, add-edge}
 use Rattle.multigraph.specs.Regular.{degree}
 use Rattle.multigraph.specs.Places.{size, number, Has-ends}
 use Rattle.multigraph.proofs.Ends.{same-ends-sym, same-ends-trans}
-use Rattle.evening.specs.Evening.{Evening, evening, even-out-step}
-use Rattle.evening.specs.Contract.{first-of, second-of}
-use Rattle.evening.specs.Adding.{plain-graph, Its-number, Pair-fits, Pair-added}
-use Rattle.evening.specs.Rows.{rows-from, row, Rows-filled}
-use Rattle.evening.specs.Ends.{Joins}
+use Rattle.regular_graph.specs.Evening.{Evening, evening, even-out-step}
+use Rattle.list_pairs.specs.Contract.{first-of, second-of}
+use Rattle.list_pairs.specs.Adding.{plain-graph, Its-number, Pair-fits, Pair-added}
+use Rattle.list_pairs.specs.Rows.{rows-from, row, Rows-filled}
+use Rattle.list_pairs.specs.Ends.{Joins}
 use Rattle.evening.specs.Filling.{shortfall, Filled}
-use Rattle.evening.proofs.EvenSteps.{added-left, added-right, added-else, next-fill}
+use Rattle.regular_graph.proofs.StepLaws.{added-left, added-right, added-else, next-fill}
 use Rattle.multigraph.proofs.TableLaws.{Table-same, first-same, second-same, has-ends-new, has-ends-old}
-use Rattle.evening.proofs.PlainLaws.{newest, Graph-kept, graph-kept, plain-kept, graph-kept-by}
-use Rattle.evening.proofs.RepsLaws.{half-of}
+use Rattle.list_pairs.proofs.PlainLaws.{newest, Graph-kept, graph-kept, plain-kept, graph-kept-by}
+use Rattle.list_pairs.proofs.RepsLaws.{half-of}
 use Rattle.evening.proofs.FillingWords.{Raised, raised}
 use Rattle.evening.proofs.StageWords.{Stage, Known, known}
-use Rattle.evening.specs.declared.Bases.{Bases}
+use Rattle.list_pairs.specs.declared.Bases.{Bases}
 use Rattle.evening.specs.Filling.{Evens-at}
 
 module _ (list : List ℕ) (d n : ℕ) (at : Bases) (u : ℕ) (first : List ℕ) (h : Evens-at list d n at u first) (s₁ : List ℕ)

@@ -9,12 +9,12 @@ use native.Mathlib.Nat.{mul-le-mul}
 use lib.ListN.{length}
 use Rattle.words.specs.Words.{word, put-word}
 use Rattle.multigraph.specs.Places.{size}
-use Rattle.evening.specs.Adding.{Adds-pair}
-use Rattle.evening.specs.Ends.{Says, Joins}
+use Rattle.list_pairs.specs.Adding.{Adds-pair}
+use Rattle.list_pairs.specs.Ends.{Says, Joins}
 use Rattle.evening.specs.Filling.{Fill-small, Pair-found, shortfall, Filled}
-use Rattle.evening.specs.Rows.{row, counter}
-use Rattle.evening.specs.declared.Bases.{Bases}
-use Rattle.evening.specs.declared.rows.RowBases.{RowBases}
+use Rattle.list_pairs.specs.Rows.{row, counter}
+use Rattle.list_pairs.specs.declared.Bases.{Bases}
+use Rattle.list_pairs.specs.declared.rows.RowBases.{RowBases}
 use Rattle.words.proofs.Puts.{Put, put-is}
 
 -- what an answer 1 or 0 says

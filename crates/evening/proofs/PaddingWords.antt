@@ -5,7 +5,7 @@ use mathlib.Core.List.{List, [], _∷_, _++_, append-assoc, append-nil}
 use native.Mathlib.Omega.{arith}
 use Rattle.words.specs.Words.{put-word, region}
 use Rattle.words.proofs.Regions.{region-length, region-more, region-same}
-use Rattle.evening.specs.Evening.{new-parties, padded}
+use Rattle.regular_graph.specs.Evening.{new-parties, padded}
 use Rattle.evening.specs.Contract.{Can-pad, Sides-padded}
 use Rattle.evening.specs.Sides.{Can-pad-side, Padding}
 use Rattle.words.proofs.Puts.{Put, put-is}

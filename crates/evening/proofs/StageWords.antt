@@ -19,17 +19,17 @@ use Rattle.multigraph.specs.Places.{size, copies-of}
 use Rattle.multigraph.proofs.Matchings.{Sound}
 use Rattle.multigraph.proofs.Sizes.{pairs-le, copies-le}
 use Rattle.multigraph.proofs.Spans.{span-length, all-span}
-use Rattle.evening.specs.Evening.{Evening, evening, add-appointments, even-out-step}
-use Rattle.evening.specs.Contract.{Plain}
-use Rattle.evening.specs.Adding.{plain-pair, plain-graph}
-use Rattle.evening.specs.Rows.{rows-from, row, Rows-filled}
+use Rattle.regular_graph.specs.Evening.{Evening, evening, add-appointments, even-out-step}
+use Rattle.list_pairs.specs.Contract.{Plain}
+use Rattle.list_pairs.specs.Adding.{plain-pair, plain-graph}
+use Rattle.list_pairs.specs.Rows.{rows-from, row, Rows-filled}
 use Rattle.words.proofs.Regions.{region-length, region-rest}
-use Rattle.evening.proofs.Pairs.{degree-load, sound-list}
-use Rattle.evening.proofs.EvenSteps.{Evens, next-done, next-left, next-none, next-right}
-use Rattle.evening.proofs.EvenOut.{keep}
+use Rattle.regular_graph.proofs.Pairs.{degree-load, sound-list}
+use Rattle.regular_graph.proofs.StepLaws.{Evens, next-done, next-left, next-none, next-right}
+use Rattle.regular_graph.proofs.RegularLaws.{keep}
 use Rattle.multigraph.proofs.TableLaws.{Table-same}
-use Rattle.evening.proofs.PlainLaws.{plain-is, Graph-kept, graph-kept, plain-kept, graph-kept-by}
-use Rattle.evening.specs.declared.Bases.{Bases}
+use Rattle.list_pairs.proofs.PlainLaws.{plain-is, Graph-kept, graph-kept, plain-kept, graph-kept-by}
+use Rattle.list_pairs.specs.declared.Bases.{Bases}
 use Rattle.evening.specs.Filling.{Evens-at}
 
 module _ (list : List ℕ) (d n : ℕ) (at : Bases) (u : ℕ) (first : List ℕ) (h : Evens-at list d n at u first) where

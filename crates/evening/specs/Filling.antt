@@ -6,11 +6,11 @@ use mathlib.Core.Logic.{_⊎_}
 use Rattle.words.specs.Words.{word, put-word}
 use Rattle.multigraph.specs.Places.{size, number}
 use Rattle.evening.specs.Contract.{Can-even}
-use Rattle.evening.specs.Adding.{Adds-pair}
-use Rattle.evening.specs.Ends.{Joins}
-use Rattle.evening.specs.Rows.{row, counter}
-use Rattle.evening.specs.declared.Bases.{Bases}
-use Rattle.evening.specs.declared.rows.RowBases.{RowBases}
+use Rattle.list_pairs.specs.Adding.{Adds-pair}
+use Rattle.list_pairs.specs.Ends.{Joins}
+use Rattle.list_pairs.specs.Rows.{row, counter}
+use Rattle.list_pairs.specs.declared.Bases.{Bases}
+use Rattle.list_pairs.specs.declared.rows.RowBases.{RowBases}
 
 -- every place is a small number
 pub record Fill-small (at : Bases) (rs : RowBases) : Type 0 where

@@ -1,12 +1,3 @@
-pub mod Evening
 pub mod Contract
 pub mod Sides
-pub mod Adding
-pub mod Rows
-pub mod Ends
-pub mod Representatives
-pub mod FromList
 pub mod Filling
-pub mod DiagonalPlaces
-pub mod Computing
-pub mod Examples

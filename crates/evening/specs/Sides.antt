@@ -4,7 +4,7 @@ use mathlib.Core.Path.{_≡_}
 use mathlib.Core.List.{List, _++_}
 use lib.ListN.{length}
 use Rattle.words.specs.Words.{word, region}
-use Rattle.evening.specs.Evening.{new-parties}
+use Rattle.regular_graph.specs.Evening.{new-parties}
 
 -- k parties stand at `at`, which has room for n
 pub record Can-pad-side (at k n p : ℕ) (s : List ℕ) : Type 0 where

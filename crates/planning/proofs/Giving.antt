@@ -18,8 +18,8 @@ use Rattle.multigraph.specs.Places.{size}
 use Rattle.multigraph.proofs.Kept.{Ends-kept, alike-back}
 use Rattle.edge_color.specs.EdgeColor.{rbmg-edge-color}
 use Rattle.edge_color.specs.Room.{Color-fits, Colored}
-use Rattle.evening.specs.Evening.{add-appointments, padded, even-out}
-use Rattle.evening.proofs.Listed.{appt-at}
+use Rattle.regular_graph.specs.Evening.{add-appointments, padded, even-out}
+use Rattle.list_pairs.proofs.Listed.{appt-at}
 use Rattle.slots.specs.Slots.{give-slots}
 use Rattle.slots.specs.Stored.{Slots-fit, Gives-slots}
 use Rattle.planning.specs.GivenPartition.{bipartite-edge-color-given-partition}

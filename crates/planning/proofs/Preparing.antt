@@ -20,11 +20,13 @@ use Rattle.multigraph.proofs.Ends.{same-ends-sym}
 use Rattle.matching.specs.declared.Table.{Table}
 use Rattle.matching.specs.Searched.{column, lefts, rights, Tabled}
 use Rattle.edge_color.specs.Room.{Colorable, Color-fits}
-use Rattle.evening.specs.Evening.{add-appointments, padded, even-out}
-use Rattle.evening.specs.Contract.{Can-pad, Sides-padded, Can-pair, Pairs-made, Can-even, Evened-out, Can-diagonal, Diagonal-set}
-use Rattle.evening.proofs.Pairs.{Crosses, sound-list, degree-load}
-use Rattle.evening.proofs.Padding.{padded-side, padded-partition, padded-crosses, padded-loads}
-use Rattle.evening.proofs.EvenOut.{Evened, even-out-law}
+use Rattle.regular_graph.specs.Evening.{add-appointments, padded, even-out}
+use Rattle.list_pairs.specs.Contract.{Can-pair, Pairs-made}
+use Rattle.evening.specs.Contract.{Can-pad, Sides-padded, Can-even, Evened-out}
+use Rattle.diagonal.specs.Contract.{Can-diagonal, Diagonal-set}
+use Rattle.regular_graph.proofs.Pairs.{Crosses, sound-list, degree-load}
+use Rattle.regular_graph.proofs.Padding.{padded-side, padded-partition, padded-crosses, padded-loads}
+use Rattle.regular_graph.proofs.RegularLaws.{Evened, even-out-law}
 use Rattle.planning.specs.Steps.{table, Sided, Prepared}
 use Rattle.planning.proofs.Sizes.{Sizes, sizes, Side-sizes, side-sizes, le-product}
 

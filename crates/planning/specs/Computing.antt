@@ -2,7 +2,7 @@
 -- Assumes nothing.
 use Rattle.bipartition.specs.Computing as TwoColor
 use Rattle.edge_color.specs.Computing as EdgeColor
-use Rattle.evening.specs.Computing as Evening
+use Rattle.regular_graph.specs.Computing as Evening
 use Rattle.slots.specs.Computing as Slots
 use Rattle.planning.specs.GivenPartition.{bipartite-edge-color-given-partition}
 use Rattle.planning.specs.Planning.{bipartite-edge-color, plan-answer, plan-slots, plan-scratch}

@@ -5,7 +5,7 @@ use lib.ListN.{length}
 use Rattle.words.specs.Basics.{Run, and-then}
 use Rattle.appointments.specs.Appointments.{Appt, largest-load}
 use Rattle.edge_color.specs.EdgeColor.{rbmg-edge-color}
-use Rattle.evening.specs.Evening.{add-appointments, padded, even-out}
+use Rattle.regular_graph.specs.Evening.{add-appointments, padded, even-out}
 use Rattle.slots.specs.Slots.{give-slots}
 
 -- The slots of a list whose parties below P stand on two sides.

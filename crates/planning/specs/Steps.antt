@@ -15,8 +15,8 @@ use Rattle.multigraph.specs.Places.{size, Has-ends}
 use Rattle.matching.specs.Searched.{lefts, rights}
 use Rattle.matching.specs.declared.Table.{Table}
 use Rattle.edge_color.specs.Room.{Color-fits}
-use Rattle.evening.specs.Evening.{add-appointments, padded, even-out}
-use Rattle.evening.specs.Contract.{first-of, second-of}
+use Rattle.regular_graph.specs.Evening.{add-appointments, padded, even-out}
+use Rattle.list_pairs.specs.Contract.{first-of, second-of}
 use Rattle.planning.specs.Planning.{plan, bipartite-edge-color, answer-for, slots-for}
 use Rattle.planning.specs.Planning as Planning
 

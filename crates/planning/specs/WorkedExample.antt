@@ -8,7 +8,7 @@ use Rattle.bipartition.specs.TwoColor.{sides, two-color}
 use Rattle.multigraph.specs.Multigraph.{Graph, pair}
 use Rattle.euler.specs.Split.{rbmg-split-into-two}
 use Rattle.edge_color.specs.EdgeColor.{rbmg-edge-color}
-use Rattle.evening.specs.Evening.{add-appointments, padded, even-out}
+use Rattle.regular_graph.specs.Evening.{add-appointments, padded, even-out}
 use Rattle.slots.specs.Slots.{give-slots}
 use Rattle.planning.specs.Computing.{computing}
 

@@ -15,7 +15,7 @@ ghost use Rattle.planning.specs.Demand3.{«Demand-3»};
 ghost use Rattle.planning.specs.Told.{«answer-of»};
 ghost use Rattle.planning.specs.Steps.{Ready, Sided, Prepared, «Slots-planned», «Worked-out»};
 use appointments::Answered;
-use evening::Bases;
+use list_pairs::Bases;
 use mark::Mark;
 use matching::Table;
 use two_color::TwoColoring;
@@ -44,9 +44,9 @@ fn prepare(s: &mut [u32], list: &[u16], p: usize, d: usize, q: usize, left: usiz
         g: 11 * q,
     };
     let n = evening::pad_sides(s, p, 0, left, p, p - left);
-    evening::pairs_from_list(s, &mut m, list, p, d, at);
+    list_pairs::pairs_from_list(s, &mut m, list, p, d, at);
     evening::even_out(s, &mut m, list, d, n, at);
-    evening::diagonal(s, &mut m, n, at, 2 * p);
+    diagonal::diagonal(s, &mut m, n, at, 2 * p);
     n
 }
 

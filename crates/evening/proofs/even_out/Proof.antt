@@ -41,9 +41,9 @@ use Rattle.mark.specs.Taking.{taken-more, given-back}
 use Rattle.mark.proofs.Lending.{Lent, mark-own, scratch-own, mark-val, scratch-val, calls-scratch}
 use Rattle.mark.proofs.Marking.{Take, GiveBack, takes, gives-back, shown}
 use Rattle.mark.proofs.Walking.{lent-of, leaves, meets, Post, at-entry}
-use Rattle.evening.specs.declared.Bases.{Bases}
-use Rattle.evening.proofs.Bases as Bases-T
-use Rattle.evening.proofs.Bases.Laws as Bases-T′
+use Rattle.list_pairs.specs.declared.Bases.{Bases}
+use Rattle.list_pairs.proofs.Bases as Bases-T
+use Rattle.list_pairs.proofs.Bases.Laws as Bases-T′
 use Rattle.mark.proofs.take.Symbol as take-def
 use Rattle.mark.proofs.take.Symbol.{name as #mark·take}
 use Rattle.mark.proofs.take.Met as take-thm

@@ -36,7 +36,9 @@ use denote.Triple.Spec.{tripleOf}
 use denote.Triple.Statement.{Contract, Triple}
 use denote.Triple.Table.{entered, cited}
 use denote.Triple.Walked.{needs}
-use Rattle.evening.specs.Contract.{Sides-padded, Pairs-made, Evened-out, Diagonal-set}
+use Rattle.list_pairs.specs.Contract.{Pairs-made}
+use Rattle.evening.specs.Contract.{Sides-padded, Evened-out}
+use Rattle.diagonal.specs.Contract.{Diagonal-set}
 use Rattle.planning.specs.Steps.{Sided}
 use Rattle.planning.proofs.Sizes.{Sizes, sizes}
 use Rattle.planning.proofs.Preparing.{can-pad, can-pair, can-even, can-diagonal, prepared, prepared-length}
@@ -44,25 +46,25 @@ use Rattle.mark.specs.declared.Mark.{Mark}
 use Rattle.mark.proofs.Lending.{Lent, scratch-own, mark-val, scratch-val, calls-scratch-plain, calls-both, calls-both-plain, scratch-ref, mark-ref}
 use Rattle.mark.proofs.Marking.{shown}
 use Rattle.mark.proofs.Holding.{held-of, mark-made, mark-unmade, leaves, meets, Post, at-entry}
-use Rattle.evening.specs.declared.Bases.{Bases}
-use Rattle.evening.proofs.Bases as Bases-T
-use Rattle.evening.proofs.Bases.Laws as Bases-T′
+use Rattle.list_pairs.specs.declared.Bases.{Bases}
+use Rattle.list_pairs.proofs.Bases as Bases-T
+use Rattle.list_pairs.proofs.Bases.Laws as Bases-T′
 use Rattle.evening.proofs.pad_sides as pad-sides
 use Rattle.evening.proofs.pad_sides.Symbol as pad-sides-def
 use Rattle.evening.proofs.pad_sides.Symbol.{name as #evening·pad-sides}
 use Rattle.evening.proofs.pad_sides.Met as pad-sides-thm
-use Rattle.evening.proofs.pairs_from_list as pairs-from-list
-use Rattle.evening.proofs.pairs_from_list.Symbol as pairs-from-list-def
-use Rattle.evening.proofs.pairs_from_list.Symbol.{name as #evening·pairs-from-list}
-use Rattle.evening.proofs.pairs_from_list.Met as pairs-from-list-thm
+use Rattle.list_pairs.proofs.pairs_from_list as pairs-from-list
+use Rattle.list_pairs.proofs.pairs_from_list.Symbol as pairs-from-list-def
+use Rattle.list_pairs.proofs.pairs_from_list.Symbol.{name as #list-pairs·pairs-from-list}
+use Rattle.list_pairs.proofs.pairs_from_list.Met as pairs-from-list-thm
 use Rattle.evening.proofs.even_out as even-out
 use Rattle.evening.proofs.even_out.Symbol as even-out-def
 use Rattle.evening.proofs.even_out.Symbol.{name as #evening·even-out}
 use Rattle.evening.proofs.even_out.Met as even-out-thm
-use Rattle.evening.proofs.diagonal as diagonal
-use Rattle.evening.proofs.diagonal.Symbol as diagonal-def
-use Rattle.evening.proofs.diagonal.Symbol.{name as #evening·diagonal}
-use Rattle.evening.proofs.diagonal.Met as diagonal-thm
+use Rattle.diagonal.proofs.diagonal as diagonal
+use Rattle.diagonal.proofs.diagonal.Symbol as diagonal-def
+use Rattle.diagonal.proofs.diagonal.Symbol.{name as #diagonal·diagonal}
+use Rattle.diagonal.proofs.diagonal.Met as diagonal-thm
 use Rattle.planning.proofs.prepare.Key.{name as #planning·prepare}
 use Rattle.planning.proofs.prepare as prepare
 use Rattle.planning.proofs.prepare.Statement as stated
@@ -112,7 +114,7 @@ module _ {M : Type 1} (𝓤 : URA M) (H : Heap 𝓤) (A : Atoms 𝓤) (W : Given
   abbrev qₗ : Share
   qₗ = qs .1 .0
 
-  module _ (C : Calls 𝓤 H) (Λ : Loops 𝓤 H) (fm : FmC 𝓤 H (W .laws) C) (known-pad-sides : Triple 𝓤 (C #evening·pad-sides) (PadSidesC 𝓤 H A mem run)) (known-pairs-from-list : Triple 𝓤 (C #evening·pairs-from-list) (PairsFromListC 𝓤 H A mem run)) (known-even-out : Triple 𝓤 (C #evening·even-out) (EvenOutC 𝓤 H A mem run)) (known-diagonal : Triple 𝓤 (C #evening·diagonal) (DiagonalC 𝓤 H A mem run)) where
+  module _ (C : Calls 𝓤 H) (Λ : Loops 𝓤 H) (fm : FmC 𝓤 H (W .laws) C) (known-pad-sides : Triple 𝓤 (C #evening·pad-sides) (PadSidesC 𝓤 H A mem run)) (known-pairs-from-list : Triple 𝓤 (C #list-pairs·pairs-from-list) (PairsFromListC 𝓤 H A mem run)) (known-even-out : Triple 𝓤 (C #evening·even-out) (EvenOutC 𝓤 H A mem run)) (known-diagonal : Triple 𝓤 (C #diagonal·diagonal) (DiagonalC 𝓤 H A mem run)) where
     walk : ent 𝓤 (⋆ 𝓤 H A (‵ (scratch-own l (s .now)) ∷ ‵ (flft (κs .0) (qs .0)) ∷ raw (toks 𝓤 A 1 (κs .1) (qs .1)) ∷ ‵ (owns (ShrSlice (named 1) κₗ u16 ∷ usize ∷ usize ∷ usize ∷ usize ∷ []) (list, (p, (d, (q, (left, tt))))) (slice-vals list, (vint w64 p ∷ [], (vint w64 d ∷ [], (vint w64 q ∷ [], (vint w64 left ∷ [], tt)))))) ∷ []))
         (WpFn 𝓤 H C Λ code.function (scratch-val l ∷ sliceVal (list .ptr) (length (list .now)) ∷ vint w64 p ∷ vint w64 d ∷ vint w64 q ∷ vint w64 left ∷ []) (Post 𝓤 H A W 1 usize ps (yes, (yes, (yes, (yes, (yes, tt))))) (prepare.clauses 𝓤 H A mem run) (at-entry 𝓤 H A W 1 usize ps (yes, (yes, (yes, (yes, (yes, tt))))) (prepare.clauses 𝓤 H A mem run) κs qs s (list, (p, (d, (q, (left, tt))))) (slice-vals list, (vint w64 p ∷ [], (vint w64 d ∷ [], (vint w64 q ∷ [], (vint w64 left ∷ [], tt))))) tt)))
     walk =
@@ -187,7 +189,7 @@ module _ {M : Type 1} (𝓤 : URA M) (H : Heap 𝓤) (A : Atoms 𝓤) (W : Given
         move ! (3 ∷ []) $ drop ! $ by ! (leaves 𝓤 H A W 1 usize ps (yes, (yes, (yes, (yes, (yes, tt))))) (prepare.clauses 𝓤 H A mem run) κs qs s (list, (p, (d, (q, (left, tt))))) (slice-vals list, (vint w64 p ∷ [], (vint w64 d ∷ [], (vint w64 q ∷ [], (vint w64 left ∷ [], tt))))) tt (vint w64 r1) r1 ys4 (tt, (tt, (tt, (tt, (tt, tt))))) le4 (uint-makes 𝓤 H A W w64 r1 _ (refl, is1 .1)) (shown 𝓤 (prepared ok p1 (p2 .0) (p3 .0) (p4 .0), prepared-length ok p1 (p2 .0) (p3 .0) (p4 .0))))))))))))))))))))))))))))))))))
 
 prepare-meets : {M : Type 1} (𝓤 : URA M) (H : Heap 𝓤) (A : Atoms 𝓤) → Given 𝓤 H A → (mem : Memory → SProp 𝓤) (run : Routine → Fun 𝓤) (𝓣 : Tables 𝓤 H)
-    → Triple 𝓤 (𝓣 .C #evening·pad-sides) (PadSidesC 𝓤 H A mem run) → Triple 𝓤 (𝓣 .C #evening·pairs-from-list) (PairsFromListC 𝓤 H A mem run) → Triple 𝓤 (𝓣 .C #evening·even-out) (EvenOutC 𝓤 H A mem run) → Triple 𝓤 (𝓣 .C #evening·diagonal) (DiagonalC 𝓤 H A mem run)
+    → Triple 𝓤 (𝓣 .C #evening·pad-sides) (PadSidesC 𝓤 H A mem run) → Triple 𝓤 (𝓣 .C #list-pairs·pairs-from-list) (PairsFromListC 𝓤 H A mem run) → Triple 𝓤 (𝓣 .C #evening·even-out) (EvenOutC 𝓤 H A mem run) → Triple 𝓤 (𝓣 .C #diagonal·diagonal) (DiagonalC 𝓤 H A mem run)
     → Triple 𝓤 (WpFn 𝓤 H (𝓣 .C) (𝓣 .Λ) code.function) (tripleOf 𝓤 H A prepare.signature (prepare.spec 𝓤 H A mem run))
 prepare-meets 𝓤 H A W mem run 𝓣 known-pad-sides known-pairs-from-list known-even-out known-diagonal =
     meets 𝓤 H A W 1 usize ps (yes, (yes, (yes, (yes, (yes, tt))))) (prepare.clauses 𝓤 H A mem run) (λ κs. (slice-vals, (uint-vals w64, (uint-vals w64, (uint-vals w64, (uint-vals w64, tt)))))) (λ κs. (shr-slice-tells (named 1) (κs .1 .0) u16, (uint-tells w64, (uint-tells w64, (uint-tells w64, (uint-tells w64, tt)))))) ((λ κs x f. refl), ((λ κs x f. refl), ((λ κs x f. refl), ((λ κs x f. refl), ((λ κs x f. refl), tt))))) 𝓣 code.function
@@ -200,6 +202,6 @@ prepare-spec 𝓤 H 𝓜 𝓖 𝓡 =
     (tables 𝓤 H 𝓜 𝓡 code.env .C) (tables 𝓤 H 𝓜 𝓡 code.env .Λ) #planning·prepare code.function (code.unfolded 𝓤 H 𝓜 𝓡)
     (prepare-meets 𝓤 H (𝓖 .A) (givenOf 𝓤 H 𝓜 𝓖) (𝓜 .mem) (𝓡 .run) (tablesOf 𝓤 H 𝓜 (tables 𝓤 H 𝓜 𝓡 code.env))
     (cited 𝓤 H (PadSidesC 𝓤 H (𝓖 .A) (𝓜 .mem) (𝓡 .run)) 𝓜 𝓡 code.env #evening·pad-sides pad-sides-def.routine code.calls-evening·pad-sides (pad-sides-thm.met 𝓤 H 𝓜 𝓖 𝓡))
-    (cited 𝓤 H (PairsFromListC 𝓤 H (𝓖 .A) (𝓜 .mem) (𝓡 .run)) 𝓜 𝓡 code.env #evening·pairs-from-list pairs-from-list-def.routine code.calls-evening·pairs-from-list (pairs-from-list-thm.met 𝓤 H 𝓜 𝓖 𝓡))
+    (cited 𝓤 H (PairsFromListC 𝓤 H (𝓖 .A) (𝓜 .mem) (𝓡 .run)) 𝓜 𝓡 code.env #list-pairs·pairs-from-list pairs-from-list-def.routine code.calls-list-pairs·pairs-from-list (pairs-from-list-thm.met 𝓤 H 𝓜 𝓖 𝓡))
     (cited 𝓤 H (EvenOutC 𝓤 H (𝓖 .A) (𝓜 .mem) (𝓡 .run)) 𝓜 𝓡 code.env #evening·even-out even-out-def.routine code.calls-evening·even-out (even-out-thm.met 𝓤 H 𝓜 𝓖 𝓡))
-    (cited 𝓤 H (DiagonalC 𝓤 H (𝓖 .A) (𝓜 .mem) (𝓡 .run)) 𝓜 𝓡 code.env #evening·diagonal diagonal-def.routine code.calls-evening·diagonal (diagonal-thm.met 𝓤 H 𝓜 𝓖 𝓡)))
+    (cited 𝓤 H (DiagonalC 𝓤 H (𝓖 .A) (𝓜 .mem) (𝓡 .run)) 𝓜 𝓡 code.env #diagonal·diagonal diagonal-def.routine code.calls-diagonal·diagonal (diagonal-thm.met 𝓤 H 𝓜 𝓖 𝓡)))

@@ -5,9 +5,9 @@ use Prim.Native.Nat.{ℕ, _+_, _*_, _-_, _≤_}
 use native.Mathlib.Omega.{arith}
 use lib.ListN.{length}
 use mathlib.Core.List.{List}
-use Rattle.evening.specs.Rows.{rows-from, Rows-filled}
+use Rattle.list_pairs.specs.Rows.{rows-from, Rows-filled}
 use Rattle.evening.specs.Filling.{Evens-at}
-use Rattle.evening.proofs.RowsLaws.{fit-cleared, filled-cleared}
+use Rattle.list_pairs.proofs.RowsLaws.{fit-cleared, filled-cleared}
 use Rattle.evening.proofs.EveningWords.{rows-fit-even, fill-small, At, at-none, at-place, at-more, evened-out}
 use borrow.Author.Needs.{needs}
 use Rattle.evening.proofs.filling.even_at.Statement.{statement}

@@ -1,7 +1,7 @@
 -- `evening::even_step` meets its contract: by what is passed and what is full. Assumes nothing.
 use mathlib.Core.Path.{_≡_, refl, sym, _∙_}
 use native.Mathlib.Omega.{arith}
-use Rattle.evening.specs.Rows.{counter}
+use Rattle.list_pairs.specs.Rows.{counter}
 use Rattle.evening.specs.Filling.{next-left, next-right, all-passed, left-full, none-right, right-full, both-short}
 use borrow.Author.Needs.{needs}
 use Rattle.evening.proofs.filling.even_step.Statement.{statement}

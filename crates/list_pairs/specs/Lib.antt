@@ -1,0 +1,6 @@
+pub mod Contract
+pub mod Adding
+pub mod Rows
+pub mod Ends
+pub mod Representatives
+pub mod FromList

@@ -1,0 +1,2 @@
+pub mod Evening
+pub mod Computing
