@@ -26,7 +26,8 @@ pub first-later : (k : ℕ) (test : Appt → Bool) (x : Appt) (xs : List Appt) �
 unfolding first-from
 first-later k test x xs h = rw h
 
-at-nowhere {ℓ} : {X : Type ℓ} (f : First) (i : ℕ) → f ≡ at i → f ≡ nowhere → X
+-- it can't be both somewhere and nowhere
+pub at-nowhere {ℓ} : {X : Type ℓ} (f : First) (i : ℕ) → f ≡ at i → f ≡ nowhere → X
 at-nowhere f i p q = let z : _≡_ {A = ℕ} 0 1 = cc in absurd (omega arith)
 
 -- ── nowhere ──

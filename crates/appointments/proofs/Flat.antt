@@ -26,7 +26,8 @@ appts-count [] = refl
 appts-count (a ∷ []) = omega arith
 appts-count (a ∷ b ∷ rest) = omega (arith, appts-count rest)
 
-word-two : (a b : ℕ) (rest : List ℕ) (k j : ℕ) → j ≡ suc (suc k) → word (a ∷ b ∷ rest) j ≡ word rest k
+-- the numbers behind the first two
+pub word-two : (a b : ℕ) (rest : List ℕ) (k j : ℕ) → j ≡ suc (suc k) → word (a ∷ b ∷ rest) j ≡ word rest k
 word-two a b rest k j e = rw e
 
 drop-one : (x : Appt) (xs : List Appt) (k j : ℕ) → j ≡ suc k → drop j (x ∷ xs) ≡ drop k xs

@@ -7,7 +7,7 @@ use native.Mathlib.Omega.{arith}
 use native.Mathlib.Decide.{ℕ-discrete, decLe}
 use lib.ListN.{length}
 use Rattle.words.specs.Basics.{is, total, All, sum-below}
-use Rattle.words.proofs.Sums.{total-append, total-reverse, total-cong-all, total-const, sum-below-add, sum-below-is, sum-below-total, is-le, all-map}
+use Rattle.words.proofs.Sums.{total-append, total-reverse, total-cong-all, total-const, sum-below-add, sum-below-is, sum-below-total, all-map}
 use Rattle.appointments.specs.Appointments.{Appt, appts, names, load, largest-load}
 use Rattle.appointments.specs.Plans.{Busiest}
 
@@ -50,10 +50,6 @@ some-busiest (suc (suc P)) xs h = go (some-busiest (suc P) xs (omega arith)) (de
     go old (no less) = (old .0, record { party = omega arith; busiest = omega arith })
 
 -- ── one load ──
-
-pub names-le : (v : ℕ) (x : Appt) → names v x ≤ 2
-unfolding names
-names-le v x = omega (arith, is-le v (x .first), is-le v (x .second))
 
 pub load-append : (v : ℕ) (xs ys : List Appt) → load v (xs ++ ys) ≡ load v xs + load v ys
 unfolding load

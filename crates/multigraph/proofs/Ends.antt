@@ -1,5 +1,5 @@
 -- What `joins`, `between` and `Same-ends` say of a pair's ends. Assumes nothing.
-use Prim.Native.Nat.{ℕ, _+_, _≤_, _<_}
+use Prim.Native.Nat.{ℕ, _+_}
 use mathlib.Core.Path.{_≡_, refl, sym, _∙_}
 use mathlib.Core.Bool.{Bool, true, false, _&&_, or-comm, and-comm}
 use mathlib.Core.Logic.{_⊎_, inl, inr, ⊎-elim}
@@ -59,17 +59,11 @@ between-cases u v a b = go (joins u v p) refl
     go true e = inl (joins-true u v p e, refl)
     go false e = inr (λ h. never-true (sym e ∙ true-joins u v p h), refl)
 
-pub between-le : (u v a b : ℕ) → between u v a b ≤ 1
-between-le u v a b = ⊎-elim (λ h. omega arith) (λ h. omega arith) (between-cases u v a b)
-
 pub between-self : (a b : ℕ) → between a b a b ≡ 1
 between-self a b = ⊎-elim (λ h. h .1) (λ h. absurd (h .0 (inl (refl, refl)))) (between-cases a b a b)
 
 pub between-same : (u v a b : ℕ) → Same-ends u v a b → between u v a b ≡ 1
 between-same u v a b s = ⊎-elim (λ h. h .1) (λ h. absurd (h .0 s)) (between-cases u v a b)
-
-pub between-pos : (u v a b : ℕ) → 0 < between u v a b → Same-ends u v a b
-between-pos u v a b h = ⊎-elim (λ k. k .0) (λ k. absurd (let e = k .1 in omega arith)) (between-cases u v a b)
 
 -- asked with the same ends, either way round, it answers the same
 pub between-ends : (u v c d a b : ℕ) → Same-ends u v c d → between c d a b ≡ between u v a b

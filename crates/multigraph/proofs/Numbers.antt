@@ -10,22 +10,11 @@ use Rattle.words.specs.Words.{word}
 use Rattle.multigraph.specs.Multigraph.{Pair}
 use Rattle.multigraph.specs.Regular.{Same-ends, pairs-between, copies-between, Apart}
 use Rattle.multigraph.specs.Stored.{entry, graph-at, matching-at}
-use Rattle.multigraph.specs.Places.{size, number, Alike, Distinct-ends}
+use Rattle.multigraph.specs.Places.{size, number, Distinct-ends}
 use Rattle.multigraph.specs.Steps.{span}
 use Rattle.multigraph.proofs.Ends.{between-cases, between-self}
 use Rattle.multigraph.proofs.Weights.{pairs-between-none, pairs-between-cons, no-pairs-no-copies}
 use Rattle.multigraph.proofs.Spans.{graph-span, matching-span, matched, apart-span}
-
--- Within one graph two entries have the same ends exactly if they have the same number.
-pub record Same-number (ends g i j : ℕ) (s : List ℕ) : Type 0 where
-  pub to-number : Alike s ends (number s g i) (number s g j) → number s g i ≡ number s g j
-  pub to-ends : number s g i ≡ number s g j → Alike s ends (number s g i) (number s g j)
-
-pub same-number :
-    (ends pairs g i j : ℕ) (s : List ℕ) → Distinct-ends ends pairs s → number s g i < pairs → number s g j < pairs →
-    Same-number ends g i j s
-same-number ends pairs g i j s d a b =
-    record { to-number = λ x. d .distinct _ _ a b x; to-ends = λ e. rw e (inl (refl, refl)) }
 
 -- ── different numbers ──
 

@@ -87,16 +87,6 @@ pub parts-at :
     weigh-ends (names v) h ≤ weigh-ends (names v) g
 parts-at v h g apart pos le = joined-le (names v) (names-symmetric v) h g apart (parts-joined h g pos le)
 
-pub parts-length :
-    (h g : Graph) → Apart h → Positive h → ((u v : ℕ) → copies-between u v h ≤ copies-between u v g) → length h ≤ length g
-parts-length h g apart pos le =
-    omega (
-      arith,
-      joined-le (λ a b. 1) (λ a b. refl) h g apart (parts-joined h g pos le),
-      total-const {A = Pair} 1 h,
-      total-const {A = Pair} 1 g,
-    )
-
 -- with at most `width` pairs at any party, n parties a side have at most n·width pairs
 pub pairs-by-width :
     (n width : ℕ) (side : ℕ → ℕ) (g : Graph) → All (Across (n + n) side) g →

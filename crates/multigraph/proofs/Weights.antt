@@ -1,14 +1,14 @@
 -- Weights of a graph, copies and pairs between two parties. Assumes nothing.
 use Prim.Native.Nat.{ℕ, _+_, _*_, _≤_, _<_}
-use mathlib.Core.Path.{_≡_, refl, sym}
+use mathlib.Core.Path.{_≡_, refl}
 use mathlib.Core.List.{List, [], _∷_}
 use mathlib.Core.Logic.{⊎-elim}
 use native.Mathlib.Omega.{arith}
-use native.Mathlib.Nat.{mul-le-mul-left, mul-le-mul-right, mul-one, one-mul, mul-zero}
+use native.Mathlib.Nat.{mul-le-mul-left, mul-one, mul-zero}
 use Rattle.words.specs.Basics.{is, total, count, All}
-use Rattle.words.proofs.Sums.{is-cases, total-is, total-mul, total-add, total-cong, all-map}
+use Rattle.words.proofs.Sums.{total-is, total-mul, total-add, total-cong, all-map}
 use Rattle.multigraph.specs.Multigraph.{Pair, Graph}
-use Rattle.multigraph.specs.Regular.{weigh, names, degree, between, copies-between, pairs-between, Apart, Positive, Symmetric}
+use Rattle.multigraph.specs.Regular.{weigh, names, between, copies-between, pairs-between, Apart, Positive, Symmetric}
 use Rattle.multigraph.proofs.Ends.{Same-ends, same-weight, between-cases, between-self, between-ends}
 
 pub weigh-none : (w : ℕ → ℕ → ℕ) → weigh w [] ≡ 0
@@ -59,19 +59,6 @@ no-pairs-no-copies u v (p ∷ g) h =
     let ih = no-pairs-no-copies u v g (omega (arith, pairs-between-cons u v p g)) in
     rw (weigh-cons (between u v) p g, b0, ih, mul-zero) (omega arith)
 
--- where every pair has a copy, there are at least as many copies as pairs
-pub pairs-le-copies : (u v : ℕ) (g : Graph) → Positive g → pairs-between u v g ≤ copies-between u v g
-pairs-le-copies u v [] h = omega (arith, pairs-between-none u v, weigh-none (between u v))
-pairs-le-copies u v (p ∷ g) h =
-    omega (
-      arith,
-      pairs-between-cons u v p g,
-      weigh-cons (between u v) p g,
-      pairs-le-copies u v g (h .1),
-      mul-le-mul-right (between u v (p .first) (p .second)) (h .0),
-      one-mul (between u v (p .first) (p .second)),
-    )
-
 -- no two pairs with the same ends: at most one joins two parties
 pub apart-le : (u v : ℕ) (g : Graph) → Apart g → pairs-between u v g ≤ 1
 apart-le u v [] h = omega (arith, pairs-between-none u v)
@@ -79,19 +66,6 @@ apart-le u v (p ∷ g) h =
     ⊎-elim
     (λ k. omega (arith, pairs-between-cons u v p g, k .1, h .0, pairs-between-ends u v (p .first) (p .second) (k .0) g))
     (λ k. omega (arith, pairs-between-cons u v p g, k .1, apart-le u v g (h .1))) (between-cases u v (p .first) (p .second))
-
--- a copy between u and v is one of u's
-pub between-le-names : (u v a b : ℕ) → between u v a b ≤ names u a b
-between-le-names u v a b =
-    ⊎-elim
-    (λ k.
-    ⊎-elim
-    (λ e. ⊎-elim (λ i. omega (arith, k .1, i .1)) (λ i. absurd (i .0 (sym (e .0)))) (is-cases u a))
-    (λ e. ⊎-elim (λ i. omega (arith, k .1, i .1)) (λ i. absurd (i .0 (sym (e .1)))) (is-cases u b)) (k .0))
-    (λ k. omega (arith, k .1)) (between-cases u v a b)
-
-pub copies-le-degree : (u v : ℕ) (g : Graph) → copies-between u v g ≤ degree u g
-copies-le-degree u v g = weigh-le (between u v) (names u) (between-le-names u v) g
 
 -- each pair of a graph in which every pair has a copy is joined in it
 pub own-copies : (g : Graph) → Positive g → All (λ (p : Pair). 0 < copies-between (p .first) (p .second) g) g

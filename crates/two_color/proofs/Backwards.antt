@@ -9,15 +9,13 @@ use lib.ListN.{length}
 use Rattle.words.specs.Basics.{pick, is, total}
 use Rattle.words.specs.Words.{word}
 use Rattle.appointments.specs.Appointments.{Appt, appt, appts, names, load}
+use Rattle.appointments.proofs.Flat.{word-two}
 use Rattle.bipartition.specs.TwoColor.{far-ends, second-ends, first-ends}
 
 -- the first n appointments, the last of them first
 unfoldable pub backwards : List ℕ → ℕ → List Appt
 backwards list zero = []
 backwards list (suc i) = appt (word list (2 * i)) (word list (2 * i + 1)) ∷ backwards list i
-
-word-two : (a b : ℕ) (rest : List ℕ) (k j : ℕ) → j ≡ suc (suc k) → word (a ∷ b ∷ rest) j ≡ word rest k
-word-two a b rest k j e = rw e
 
 backwards-two : (a b : ℕ) (rest : List ℕ) (n : ℕ) → backwards (a ∷ b ∷ rest) (suc n) ≡ backwards rest n ++ (appt a b ∷ [])
 unfolding backwards

@@ -12,6 +12,7 @@ use Rattle.words.specs.Words.{word, put-word}
 use Rattle.words.specs.Frames.{Keeps}
 use Rattle.words.proofs.Frames.{here, away, length-put, keeps-refl}
 use Rattle.words.proofs.Sums.{all-reverse}
+use Rattle.words.proofs.Below.{row-end}
 use Rattle.appointments.specs.Appointments.{Appt, appts, load}
 use Rattle.appointments.proofs.Loads.{Listed, load-reverse}
 use Rattle.bipartition.specs.TwoColor.{colour-of, second-ends, first-ends, neighbours, side}
@@ -21,7 +22,7 @@ use Rattle.two_color.specs.Contract.{Can-color}
 use Rattle.two_color.proofs.Held.{newest, held-none, Rows}
 use Rattle.two_color.proofs.Showing.{within-refl, Shows}
 use Rattle.two_color.proofs.Backwards.{backwards, reverse-appts, ends-load}
-use Rattle.two_color.proofs.Filling.{Ends, Filled, filled-as, row-end, fill-filled}
+use Rattle.two_color.proofs.Filling.{Ends, Filled, filled-as, fill-filled}
 
 -- ── the state ──
 

@@ -5,7 +5,6 @@ use mathlib.Core.Path.{_≡_, refl, sym, _∙_, ap}
 use mathlib.Core.Bool.{Bool, true, false}
 use mathlib.Core.List.{List, [], _∷_, _++_, append-nil, append-assoc}
 use native.Mathlib.Omega.{arith}
-use native.Mathlib.Nat.{mul-suc, mul-le-mul-left}
 use native.Mathlib.Decide.{ℕ-discrete, decLt}
 use borrow.Author.Tests.{eq-eqb, ne-eqb}
 use lib.Dec.{eqb}
@@ -14,6 +13,7 @@ use Rattle.words.specs.Basics.{pick, All}
 use Rattle.words.specs.Words.{word}
 use Rattle.words.specs.Frames.{Keeps}
 use Rattle.words.proofs.Frames.{keeps-trans}
+use Rattle.words.proofs.Below.{row-end}
 use Rattle.appointments.specs.Appointments.{Appt, appt}
 use Rattle.appointments.proofs.Loads.{Listed}
 use Rattle.bipartition.specs.TwoColor.{far-ends}
@@ -22,10 +22,6 @@ use Rattle.two_color_steps.specs.Bounds.{Can-push, Can-fill}
 use Rattle.words.proofs.Regions.{Same}
 use Rattle.two_color.proofs.Held.{Held, held-same, held-more, Appended, append-does, Rows}
 use Rattle.two_color.proofs.Backwards.{backwards}
-
--- a row of d words ends before the next begins
-pub row-end : (d v n : ℕ) → v < n → d * v + d ≤ d * n
-row-end d v n h = omega (arith, mul-suc d v, mul-le-mul-left d h)
 
 -- w at the end of the row of v
 abbrev pushed : ℕ → ℕ → ℕ → ℕ → ℕ → List ℕ → List ℕ

@@ -9,6 +9,7 @@ use lib.ListN.{length, drop, length-drop, drop-of-length-le}
 use lib.Seq.{drop-drop}
 use Rattle.appointments.specs.Appointments.{Appt, appts}
 use Rattle.appointments.specs.Checks.{First, at, nowhere, first-from}
+use Rattle.appointments.proofs.FirstFrom.{at-nowhere}
 use Rattle.viewing.specs.Viewer.{named, seen, found, end, view-step, view-next, view-steps, view-from, view, Stays}
 use Rattle.viewing.proofs.ViewerLaws.{from-named, from-other}
 
@@ -19,9 +20,6 @@ module _ (party : ℕ) (slots : List ℕ) where
     position : i ≡ k + place
     inside : place < length xs
     shown : view-from party slots k xs ≡ seen slots i ∷ view-from party slots (i + 1) (drop (suc place) xs)
-
-  at-nowhere {ℓ} : {X : Type ℓ} (f : First) (i : ℕ) → f ≡ at i → f ≡ nowhere → X
-  at-nowhere f i p q = let z : _≡_ {A = ℕ} 0 1 = cc in absurd (omega arith)
 
   first-found : (k : ℕ) (xs : List Appt) (i : ℕ) → first-from k (named party) xs ≡ at i → Found-first k xs i
   unfolding first-from

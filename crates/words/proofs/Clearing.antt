@@ -1,10 +1,10 @@
 -- Clearing from the front, one word at a time. Assumes nothing.
-use Prim.Native.Nat.{ℕ, zero, suc, _+_, _<_, _≤_}
+use Prim.Native.Nat.{ℕ, zero, suc, _+_, _<_}
 use mathlib.Core.Path.{_≡_, refl, sym, _∙_, ap}
-use mathlib.Core.List.{List, [], _∷_, _++_}
+use mathlib.Core.List.{List, _∷_, _++_}
 use native.Mathlib.Omega.{arith}
 use native.Mathlib.Numerals.{add-one}
-use lib.ListN.{length, getD, set, drop, replicate, length-replicate, length-append, length-drop}
+use lib.ListN.{length, getD, set, drop, replicate, length-replicate}
 use lib.Seq.{drop-cons, set-at}
 
 -- the first i words 0, the others as they were
@@ -21,6 +21,3 @@ cleared-more i s h =
     ∙ set-at (replicate i 0) (getD s i 0) (drop (suc i) s) 0 i (length-replicate i 0)
     ∙ shift i (drop (suc i) s)
     ∙ ap (λ n. replicate n 0 ++ drop n s) (sym (add-one i))
-
-pub length-cleared : (i : ℕ) (s : List ℕ) → i ≤ length s → length (cleared i s) ≡ length s
-length-cleared i s h = simp (length-append, length-replicate, length-drop) (omega arith)

@@ -52,9 +52,6 @@ keeps-put mark s i x h = record { len = length-put s i x; same = λ j k. away s 
 pub keeps-then-put : {mark : ℕ} {s t : List ℕ} (i x : ℕ) → mark ≤ i → Keeps mark s t → Keeps mark s (put-word t i x)
 keeps-then-put {mark} {s} {t} i x h a = keeps-trans a (keeps-put mark t i x h)
 
-pub stays-refl : (mark o w : ℕ) (s : List ℕ) → Stays mark o w s s
-stays-refl mark o w s = record { len = refl; under = λ i h k. refl; over = λ i h k. refl }
-
 pub stays-trans : {mark o w : ℕ} {s t u : List ℕ} → Stays mark o w s t → Stays mark o w t u → Stays mark o w s u
 stays-trans a b =
     record {

@@ -134,9 +134,6 @@ unfolding count
 count-append v [] ys = omega arith
 count-append v (x ∷ xs) ys = omega (arith, count-append v xs ys)
 
-pub count-reverse : (v : ℕ) (xs : List ℕ) → count v (reverse xs) ≡ count v xs
-count-reverse v xs = count-total v (reverse xs) ∙ total-reverse (is v) xs ∙ sym (count-total v xs)
-
 pub count-le : (v : ℕ) (xs : List ℕ) → count v xs ≤ length xs
 unfolding count
 count-le v [] = omega arith
@@ -302,9 +299,6 @@ sum-below-is a (suc n) h =
       | yes q ↦ omega (arith, sum-below-off a n (omega arith), is-eq (sym q))
       | no q ↦ omega (arith, sum-below-is a n (omega arith), is-ne {u = n} {v = a} (λ e. q (sym e)))
     ]
-
-pub sum-below-is' : (a n : ℕ) → a < n → sum-below (λ v. is a v) n ≡ 1
-sum-below-is' a n h = sum-below-cong n (λ v k. is-sym a v) ∙ sum-below-is a n h
 
 -- the order of two sums
 pub sum-below-total {ℓ} : {A : Type ℓ} (f : ℕ → A → ℕ) (n : ℕ) (xs : List A) → sum-below (λ v. total (f v) xs) n ≡ total (λ x. sum-below (λ v. f v x) n) xs
