@@ -34,7 +34,7 @@ pub fn rbmg_edge_color_when_power_of_two(
     let h = d / 2;
     let second = u + 2 * (n * (d + 1));
     let behind = out + n * h;
-    euler::rbmg_split_into_two(s, m, ends, g, n, d);
+    splitting::rbmg_split_into_two(s, m, ends, g, n, d);
     rbmg_edge_color_when_power_of_two(s, m, ends, u, n, h, out);
     rbmg_edge_color_when_power_of_two(s, m, ends, second, n, h, behind);
     mark::give_back(m, u);
@@ -119,7 +119,7 @@ pub fn rbmg_edge_color(
     let rest = set_aside(s, m, t, g, n, d, out);
     let first = mark::take(m, 0);
     let second = first + 2 * (n * (d + 1));
-    euler::rbmg_split_into_two(s, m, t.ends, rest, n, d);
+    splitting::rbmg_split_into_two(s, m, t.ends, rest, n, d);
     rbmg_edge_color(s, m, t, first, n, h, from);
     let r = move_earliest(s, t.places, second, from, n, h);
     rbmg_edge_color_when_power_of_two(s, m, t.ends, second, n, r, out);

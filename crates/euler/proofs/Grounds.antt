@@ -22,7 +22,7 @@ use Rattle.euler.proofs.Taken.{ends}
 use Rattle.euler.proofs.Trail.{aslant}
 use Rattle.euler.proofs.EulerLaws.{beyond, none-aslant}
 use Rattle.euler.proofs.Places.{keep, descend, Falling}
-use Rattle.euler.proofs.Nodes.{Ends-fit, odds, odds-below, odds-falling, odd-places}
+use Rattle.euler.proofs.Odds.{Ends-fit, odds, odds-below, odds-falling, odd-places}
 use Rattle.euler.proofs.HalfLaws.{not-joined, Apart-at, upto}
 use Rattle.euler.proofs.StoredGraphs.{entries-snoc}
 use Rattle.euler.proofs.SplitLaws.{rest-even}

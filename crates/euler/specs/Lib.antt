@@ -4,11 +4,7 @@ pub mod Split
 pub mod Halved
 pub mod Computing
 pub mod Examples
--- what the public call asks and gives
+-- what the public call of `splitting` asks and gives
 pub mod Room
--- the code on lists of words: what each function does, and which places it asks for
-pub mod Model
-pub mod Bounds
--- the same of the split of a graph of degree 2
-pub mod CircuitModel
-pub mod CircuitBounds
+-- how a half is written
+pub mod Entries

@@ -212,7 +212,7 @@ fn halve_once(
 {
     // takes nothing: gives where the mark stands
     let u = mark::take(m, 0);
-    euler::rbmg_split_into_two(s, m, t.ends, h, n, width);
+    splitting::rbmg_split_into_two(s, m, t.ends, h, n, width);
     go_on(s, u, 2 * (n * (width + 1)), t.pairs, h, by_copies);
     mark::give_back(m, u);
 }

@@ -57,7 +57,7 @@ fn halves(s: &mut [u32], used: usize, ends: usize, g: usize, n: usize, width: us
         taken: used,
         there: s.len(),
     };
-    euler::rbmg_split_into_two(s, &mut m, ends, g, n, width);
+    splitting::rbmg_split_into_two(s, &mut m, ends, g, n, width);
 }
 
 // One split of a graph in words, whose ends stand in a table at `ends`: the halves stand at the mark `used` and 2·n·(width + 1)

@@ -48,10 +48,10 @@ use Rattle.matching.proofs.read_matching.Met as read-matching-thm
 use Rattle.mark.proofs.take.Symbol as take-def
 use Rattle.mark.proofs.take.Symbol.{name as #mark·take}
 use Rattle.mark.proofs.take.Met as take-thm
-use Rattle.euler.proofs.rbmg_split_into_two as rbmg-split-into-two
-use Rattle.euler.proofs.rbmg_split_into_two.Symbol as rbmg-split-into-two-def
-use Rattle.euler.proofs.rbmg_split_into_two.Symbol.{name as #euler·rbmg-split-into-two}
-use Rattle.euler.proofs.rbmg_split_into_two.Met as rbmg-split-into-two-thm
+use Rattle.splitting.proofs.rbmg_split_into_two as rbmg-split-into-two
+use Rattle.splitting.proofs.rbmg_split_into_two.Symbol as rbmg-split-into-two-def
+use Rattle.splitting.proofs.rbmg_split_into_two.Symbol.{name as #splitting·rbmg-split-into-two}
+use Rattle.splitting.proofs.rbmg_split_into_two.Met as rbmg-split-into-two-thm
 use Rattle.mark.proofs.give_back.Symbol as give-back-def
 use Rattle.mark.proofs.give_back.Symbol.{name as #mark·give-back}
 use Rattle.mark.proofs.give_back.Met as give-back-thm
@@ -92,7 +92,7 @@ module _ {M : Type 1} (𝓤 : URA M) (H : Heap 𝓤) (A : Atoms 𝓤) (W : Given
   abbrev l : Lent
   l = lent-of 0 κs qs s m
 
-  module _ (C : Calls 𝓤 H) (Λ : Loops 𝓤 H) (fm : FmC 𝓤 H (W .laws) C) (known-read-matching : Triple 𝓤 (C #matching·read-matching) (ReadMatchingC 𝓤 H A mem run)) (known-take : Triple 𝓤 (C #mark·take) (Take 𝓤 H A mem run)) (known-rbmg-split-into-two : Triple 𝓤 (C #euler·rbmg-split-into-two) (RbmgSplitIntoTwoC 𝓤 H A mem run)) (known-give-back : Triple 𝓤 (C #mark·give-back) (GiveBack 𝓤 H A mem run)) (below : (τ : ℕ) → τ < Measure ends g n d out → (y : promise 𝓤 H A (both-callee 0 unit ps (yes, (yes, (yes, (yes, (yes, tt)))))) (rbmg-edge-color-when-power-of-two.clauses 𝓤 H A mem run) .Ghost) → Measure (y .0 .3 .1 .1 .0) (y .0 .3 .1 .1 .1 .0) (y .0 .3 .1 .1 .1 .1 .0) (y .0 .3 .1 .1 .1 .1 .1 .0) (y .0 .3 .1 .1 .1 .1 .1 .1 .0) ≡ τ → MeetsAt 𝓤 H A (both-callee 0 unit ps (yes, (yes, (yes, (yes, (yes, tt)))))) (rbmg-edge-color-when-power-of-two.clauses 𝓤 H A mem run) (C #edge-color·rbmg-edge-color-when-power-of-two) y) where
+  module _ (C : Calls 𝓤 H) (Λ : Loops 𝓤 H) (fm : FmC 𝓤 H (W .laws) C) (known-read-matching : Triple 𝓤 (C #matching·read-matching) (ReadMatchingC 𝓤 H A mem run)) (known-take : Triple 𝓤 (C #mark·take) (Take 𝓤 H A mem run)) (known-rbmg-split-into-two : Triple 𝓤 (C #splitting·rbmg-split-into-two) (RbmgSplitIntoTwoC 𝓤 H A mem run)) (known-give-back : Triple 𝓤 (C #mark·give-back) (GiveBack 𝓤 H A mem run)) (below : (τ : ℕ) → τ < Measure ends g n d out → (y : promise 𝓤 H A (both-callee 0 unit ps (yes, (yes, (yes, (yes, (yes, tt)))))) (rbmg-edge-color-when-power-of-two.clauses 𝓤 H A mem run) .Ghost) → Measure (y .0 .3 .1 .1 .0) (y .0 .3 .1 .1 .1 .0) (y .0 .3 .1 .1 .1 .1 .0) (y .0 .3 .1 .1 .1 .1 .1 .0) (y .0 .3 .1 .1 .1 .1 .1 .1 .0) ≡ τ → MeetsAt 𝓤 H A (both-callee 0 unit ps (yes, (yes, (yes, (yes, (yes, tt)))))) (rbmg-edge-color-when-power-of-two.clauses 𝓤 H A mem run) (C #edge-color·rbmg-edge-color-when-power-of-two) y) where
     walk : ent 𝓤 (⋆ 𝓤 H A (‵ (mark-own l (m .now)) ∷ ‵ (flft (κs .1 .0) (qs .1 .0)) ∷ ‵ (scratch-own l (s .now)) ∷ ‵ (flft (κs .0) (qs .0)) ∷ raw (toks 𝓤 A 0 (κs .1 .1) (qs .1 .1)) ∷ ‵ (owns (usize ∷ usize ∷ usize ∷ usize ∷ usize ∷ []) (ends, (g, (n, (d, (out, tt))))) (vint w64 ends ∷ [], (vint w64 g ∷ [], (vint w64 n ∷ [], (vint w64 d ∷ [], (vint w64 out ∷ [], tt)))))) ∷ []))
         (WpFn 𝓤 H C Λ code.rbmg-edge-color-when-power-of-two-function (scratch-val l ∷ mark-val l ∷ vint w64 ends ∷ vint w64 g ∷ vint w64 n ∷ vint w64 d ∷ vint w64 out ∷ []) (Post 𝓤 H A W 0 unit ps (yes, (yes, (yes, (yes, (yes, tt))))) (rbmg-edge-color-when-power-of-two.clauses 𝓤 H A mem run) (at-entry 𝓤 H A W 0 unit ps (yes, (yes, (yes, (yes, (yes, tt))))) (rbmg-edge-color-when-power-of-two.clauses 𝓤 H A mem run) κs qs s m (ends, (g, (n, (d, (out, tt))))) (vint w64 ends ∷ [], (vint w64 g ∷ [], (vint w64 n ∷ [], (vint w64 d ∷ [], (vint w64 out ∷ [], tt))))) tt)))
     walk =
@@ -170,7 +170,7 @@ unfolding code.rbmg-edge-color-when-power-of-two-routine tablesOf
     let 𝓣 : Tables 𝓤 H = tablesOf 𝓤 H 𝓜 (tables 𝓤 H 𝓜 𝓡 code.env) in
     let known-read-matching : Triple 𝓤 (𝓣 .C #matching·read-matching) (ReadMatchingC 𝓤 H A (𝓜 .mem) (𝓡 .run)) = cited 𝓤 H (ReadMatchingC 𝓤 H A (𝓜 .mem) (𝓡 .run)) 𝓜 𝓡 code.env #matching·read-matching read-matching-def.routine code.calls-matching·read-matching (read-matching-thm.met 𝓤 H 𝓜 𝓖 𝓡) in
     let known-take : Triple 𝓤 (𝓣 .C #mark·take) (Take 𝓤 H A (𝓜 .mem) (𝓡 .run)) = cited 𝓤 H (Take 𝓤 H A (𝓜 .mem) (𝓡 .run)) 𝓜 𝓡 code.env #mark·take take-def.routine code.calls-mark·take (take-thm.met 𝓤 H 𝓜 𝓖 𝓡) in
-    let known-rbmg-split-into-two : Triple 𝓤 (𝓣 .C #euler·rbmg-split-into-two) (RbmgSplitIntoTwoC 𝓤 H A (𝓜 .mem) (𝓡 .run)) = cited 𝓤 H (RbmgSplitIntoTwoC 𝓤 H A (𝓜 .mem) (𝓡 .run)) 𝓜 𝓡 code.env #euler·rbmg-split-into-two rbmg-split-into-two-def.routine code.calls-euler·rbmg-split-into-two (rbmg-split-into-two-thm.met 𝓤 H 𝓜 𝓖 𝓡) in
+    let known-rbmg-split-into-two : Triple 𝓤 (𝓣 .C #splitting·rbmg-split-into-two) (RbmgSplitIntoTwoC 𝓤 H A (𝓜 .mem) (𝓡 .run)) = cited 𝓤 H (RbmgSplitIntoTwoC 𝓤 H A (𝓜 .mem) (𝓡 .run)) 𝓜 𝓡 code.env #splitting·rbmg-split-into-two rbmg-split-into-two-def.routine code.calls-splitting·rbmg-split-into-two (rbmg-split-into-two-thm.met 𝓤 H 𝓜 𝓖 𝓡) in
     let known-give-back : Triple 𝓤 (𝓣 .C #mark·give-back) (GiveBack 𝓤 H A (𝓜 .mem) (𝓡 .run)) = cited 𝓤 H (GiveBack 𝓤 H A (𝓜 .mem) (𝓡 .run)) 𝓜 𝓡 code.env #mark·give-back give-back-def.routine code.calls-mark·give-back (give-back-thm.met 𝓤 H 𝓜 𝓖 𝓡) in
     mutual-elim 𝓤 H A (cycle.functions 𝓤 H A (𝓜 .mem) (𝓡 .run)) _<_ (Nat·lt-wfRel .wf)
     (measured 𝓤 H A (record { signature = rbmg-edge-color-when-power-of-two.signature; run = 𝓣 .C #edge-color·rbmg-edge-color-when-power-of-two; spec = rbmg-edge-color-when-power-of-two.spec 𝓤 H A (𝓜 .mem) (𝓡 .run) }) (λ y. Measure (y .0 .3 .1 .1 .0) (y .0 .3 .1 .1 .1 .0) (y .0 .3 .1 .1 .1 .1 .0) (y .0 .3 .1 .1 .1 .1 .1 .0) (y .0 .3 .1 .1 .1 .1 .1 .1 .0)))

@@ -47,10 +47,10 @@ use Rattle.matching.proofs.Table.Laws as Table-T′
 use Rattle.mark.proofs.take.Symbol as take-def
 use Rattle.mark.proofs.take.Symbol.{name as #mark·take}
 use Rattle.mark.proofs.take.Met as take-thm
-use Rattle.euler.proofs.rbmg_split_into_two as rbmg-split-into-two
-use Rattle.euler.proofs.rbmg_split_into_two.Symbol as rbmg-split-into-two-def
-use Rattle.euler.proofs.rbmg_split_into_two.Symbol.{name as #euler·rbmg-split-into-two}
-use Rattle.euler.proofs.rbmg_split_into_two.Met as rbmg-split-into-two-thm
+use Rattle.splitting.proofs.rbmg_split_into_two as rbmg-split-into-two
+use Rattle.splitting.proofs.rbmg_split_into_two.Symbol as rbmg-split-into-two-def
+use Rattle.splitting.proofs.rbmg_split_into_two.Symbol.{name as #splitting·rbmg-split-into-two}
+use Rattle.splitting.proofs.rbmg_split_into_two.Met as rbmg-split-into-two-thm
 use Rattle.matching.proofs.go_on as go-on
 use Rattle.matching.proofs.go_on.Symbol as go-on-def
 use Rattle.matching.proofs.go_on.Symbol.{name as #matching·go-on}
@@ -87,7 +87,7 @@ module _ {M : Type 1} (𝓤 : URA M) (H : Heap 𝓤) (A : Atoms 𝓤) (W : Given
   abbrev l : Lent
   l = lent-of 0 κs qs s m
 
-  module _ (C : Calls 𝓤 H) (Λ : Loops 𝓤 H) (fm : FmC 𝓤 H (W .laws) C) (known-take : Triple 𝓤 (C #mark·take) (Take 𝓤 H A mem run)) (known-rbmg-split-into-two : Triple 𝓤 (C #euler·rbmg-split-into-two) (RbmgSplitIntoTwoC 𝓤 H A mem run)) (known-go-on : Triple 𝓤 (C #matching·go-on) (GoOnC 𝓤 H A mem run)) (known-give-back : Triple 𝓤 (C #mark·give-back) (GiveBack 𝓤 H A mem run)) where
+  module _ (C : Calls 𝓤 H) (Λ : Loops 𝓤 H) (fm : FmC 𝓤 H (W .laws) C) (known-take : Triple 𝓤 (C #mark·take) (Take 𝓤 H A mem run)) (known-rbmg-split-into-two : Triple 𝓤 (C #splitting·rbmg-split-into-two) (RbmgSplitIntoTwoC 𝓤 H A mem run)) (known-go-on : Triple 𝓤 (C #matching·go-on) (GoOnC 𝓤 H A mem run)) (known-give-back : Triple 𝓤 (C #mark·give-back) (GiveBack 𝓤 H A mem run)) where
     walk : ent 𝓤 (⋆ 𝓤 H A (‵ (mark-own l (m .now)) ∷ ‵ (flft (κs .1 .0) (qs .1 .0)) ∷ ‵ (scratch-own l (s .now)) ∷ ‵ (flft (κs .0) (qs .0)) ∷ raw (toks 𝓤 A 0 (κs .1 .1) (qs .1 .1)) ∷ ‵ (owns (Table-T.the-row ∷ usize ∷ usize ∷ usize ∷ Boolean ∷ []) (t, (h, (n, (width, (by-copies, tt))))) (Table-T′.lowered t ∷ [], (vint w64 h ∷ [], (vint w64 n ∷ [], (vint w64 width ∷ [], (vbool by-copies ∷ [], tt)))))) ∷ []))
         (WpFn 𝓤 H C Λ code.function (scratch-val l ∷ mark-val l ∷ Table-T′.lowered t ∷ vint w64 h ∷ vint w64 n ∷ vint w64 width ∷ vbool by-copies ∷ []) (Post 𝓤 H A W 0 unit ps (yes, (yes, (yes, (yes, (yes, tt))))) (halve-once.clauses 𝓤 H A mem run) (at-entry 𝓤 H A W 0 unit ps (yes, (yes, (yes, (yes, (yes, tt))))) (halve-once.clauses 𝓤 H A mem run) κs qs s m (t, (h, (n, (width, (by-copies, tt))))) (Table-T′.lowered t ∷ [], (vint w64 h ∷ [], (vint w64 n ∷ [], (vint w64 width ∷ [], (vbool by-copies ∷ [], tt))))) tt)))
     walk =
@@ -130,7 +130,7 @@ module _ {M : Type 1} (𝓤 : URA M) (H : Heap 𝓤) (A : Atoms 𝓤) (W : Given
         by ! (leaves 𝓤 H A W 0 unit ps (yes, (yes, (yes, (yes, (yes, tt))))) (halve-once.clauses 𝓤 H A mem run) κs qs s m (t, (h, (n, (width, (by-copies, tt))))) (Table-T′.lowered t ∷ [], (vint w64 h ∷ [], (vint w64 n ∷ [], (vint w64 width ∷ [], (vbool by-copies ∷ [], tt))))) tt vunit tt ys3 (given-back (m .now .taken) n2) (tt, (tt, (tt, (tt, (tt, tt))))) le3 (nothing-makes 𝓤 H A W tt _ refl) (shown 𝓤 (halved t h n width (m .now .taken) (s .now) (ok .0) by-copies ys2 ys3 (n2 .taken) (p3 .from) (m .now .taken) (p2 .0) (p3 .chosen) (p3 .copied) refl, ap (given-back (m .now .taken)) (p2 .1)))))))))))))))))))))))))))
 
 halve-once-meets : {M : Type 1} (𝓤 : URA M) (H : Heap 𝓤) (A : Atoms 𝓤) → Given 𝓤 H A → (mem : Memory → SProp 𝓤) (run : Routine → Fun 𝓤) (𝓣 : Tables 𝓤 H)
-    → Triple 𝓤 (𝓣 .C #mark·take) (Take 𝓤 H A mem run) → Triple 𝓤 (𝓣 .C #euler·rbmg-split-into-two) (RbmgSplitIntoTwoC 𝓤 H A mem run) → Triple 𝓤 (𝓣 .C #matching·go-on) (GoOnC 𝓤 H A mem run) → Triple 𝓤 (𝓣 .C #mark·give-back) (GiveBack 𝓤 H A mem run)
+    → Triple 𝓤 (𝓣 .C #mark·take) (Take 𝓤 H A mem run) → Triple 𝓤 (𝓣 .C #splitting·rbmg-split-into-two) (RbmgSplitIntoTwoC 𝓤 H A mem run) → Triple 𝓤 (𝓣 .C #matching·go-on) (GoOnC 𝓤 H A mem run) → Triple 𝓤 (𝓣 .C #mark·give-back) (GiveBack 𝓤 H A mem run)
     → Triple 𝓤 (WpFn 𝓤 H (𝓣 .C) (𝓣 .Λ) code.function) (tripleOf 𝓤 H A halve-once.signature (halve-once.spec 𝓤 H A mem run))
 halve-once-meets 𝓤 H A W mem run 𝓣 known-take known-rbmg-split-into-two known-go-on known-give-back =
     meets 𝓤 H A W 0 unit ps (yes, (yes, (yes, (yes, (yes, tt))))) (halve-once.clauses 𝓤 H A mem run) (λ κs. (LL.vals Table-T.the-type Table-T′.the-laws, (uint-vals w64, (uint-vals w64, (uint-vals w64, (bool-vals, tt)))))) (λ κs. (LL.tells Table-T.the-type Table-T′.the-laws, (uint-tells w64, (uint-tells w64, (uint-tells w64, (bool-tells, tt)))))) ((λ κs x f. refl), ((λ κs x f. refl), ((λ κs x f. refl), ((λ κs x f. refl), ((λ κs x f. refl), tt))))) 𝓣 code.function
@@ -143,6 +143,6 @@ halve-once-spec 𝓤 H 𝓜 𝓖 𝓡 =
     (tables 𝓤 H 𝓜 𝓡 code.env .C) (tables 𝓤 H 𝓜 𝓡 code.env .Λ) #matching·halve-once code.function (code.unfolded 𝓤 H 𝓜 𝓡)
     (halve-once-meets 𝓤 H (𝓖 .A) (givenOf 𝓤 H 𝓜 𝓖) (𝓜 .mem) (𝓡 .run) (tablesOf 𝓤 H 𝓜 (tables 𝓤 H 𝓜 𝓡 code.env))
     (cited 𝓤 H (Take 𝓤 H (𝓖 .A) (𝓜 .mem) (𝓡 .run)) 𝓜 𝓡 code.env #mark·take take-def.routine code.calls-mark·take (take-thm.met 𝓤 H 𝓜 𝓖 𝓡))
-    (cited 𝓤 H (RbmgSplitIntoTwoC 𝓤 H (𝓖 .A) (𝓜 .mem) (𝓡 .run)) 𝓜 𝓡 code.env #euler·rbmg-split-into-two rbmg-split-into-two-def.routine code.calls-euler·rbmg-split-into-two (rbmg-split-into-two-thm.met 𝓤 H 𝓜 𝓖 𝓡))
+    (cited 𝓤 H (RbmgSplitIntoTwoC 𝓤 H (𝓖 .A) (𝓜 .mem) (𝓡 .run)) 𝓜 𝓡 code.env #splitting·rbmg-split-into-two rbmg-split-into-two-def.routine code.calls-splitting·rbmg-split-into-two (rbmg-split-into-two-thm.met 𝓤 H 𝓜 𝓖 𝓡))
     (cited 𝓤 H (GoOnC 𝓤 H (𝓖 .A) (𝓜 .mem) (𝓡 .run)) 𝓜 𝓡 code.env #matching·go-on go-on-def.routine code.calls-matching·go-on (go-on-thm.met 𝓤 H 𝓜 𝓖 𝓡))
     (cited 𝓤 H (GiveBack 𝓤 H (𝓖 .A) (𝓜 .mem) (𝓡 .run)) 𝓜 𝓡 code.env #mark·give-back give-back-def.routine code.calls-mark·give-back (give-back-thm.met 𝓤 H 𝓜 𝓖 𝓡)))

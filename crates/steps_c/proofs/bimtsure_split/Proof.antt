@@ -1,6 +1,6 @@
 -- `steps_c::bimtsure_split` meets its contract: the split, and the mark behind the halves. Assumes nothing.
 use native.Mathlib.Omega.{arith}
-use Rattle.euler.proofs.SplitWords.{width-small}
+use Rattle.splitting.proofs.SplitWords.{width-small}
 use borrow.Author.Needs.{needs}
 use Rattle.steps_c.proofs.bimtsure_split.Statement.{statement}
 use Rattle.steps_c.proofs.bimtsure_split.Tie as tie

@@ -38,10 +38,10 @@ use Rattle.mark.specs.Taking.{taken-more}
 use Rattle.mark.proofs.Lending.{Lent, scratch-own, mark-val, scratch-val, calls-both-plain, scratch-ref, mark-ref}
 use Rattle.mark.proofs.Marking.{shown}
 use Rattle.mark.proofs.Holding.{held-of, mark-made, mark-unmade, leaves, meets, Post, at-entry}
-use Rattle.euler.proofs.rbmg_split_into_two as rbmg-split-into-two
-use Rattle.euler.proofs.rbmg_split_into_two.Symbol as rbmg-split-into-two-def
-use Rattle.euler.proofs.rbmg_split_into_two.Symbol.{name as #euler·rbmg-split-into-two}
-use Rattle.euler.proofs.rbmg_split_into_two.Met as rbmg-split-into-two-thm
+use Rattle.splitting.proofs.rbmg_split_into_two as rbmg-split-into-two
+use Rattle.splitting.proofs.rbmg_split_into_two.Symbol as rbmg-split-into-two-def
+use Rattle.splitting.proofs.rbmg_split_into_two.Symbol.{name as #splitting·rbmg-split-into-two}
+use Rattle.splitting.proofs.rbmg_split_into_two.Met as rbmg-split-into-two-thm
 use Rattle.euler.specs.Room.{Splits, Halves-stored}
 use Rattle.steps_c.proofs.halves.Key.{name as #steps-c·halves}
 use Rattle.steps_c.proofs.halves as halves
@@ -67,7 +67,7 @@ module _ {M : Type 1} (𝓤 : URA M) (H : Heap 𝓤) (A : Atoms 𝓤) (W : Given
   abbrev m₀ : Mark
   m₀ = record { taken = used; there = length (s .now) }
 
-  module _ (C : Calls 𝓤 H) (Λ : Loops 𝓤 H) (fm : FmC 𝓤 H (W .laws) C) (known-rbmg-split-into-two : Triple 𝓤 (C #euler·rbmg-split-into-two) (RbmgSplitIntoTwoC 𝓤 H A mem run)) where
+  module _ (C : Calls 𝓤 H) (Λ : Loops 𝓤 H) (fm : FmC 𝓤 H (W .laws) C) (known-rbmg-split-into-two : Triple 𝓤 (C #splitting·rbmg-split-into-two) (RbmgSplitIntoTwoC 𝓤 H A mem run)) where
     walk : ent 𝓤 (⋆ 𝓤 H A (‵ (scratch-own l (s .now)) ∷ ‵ (flft (κs .0) (qs .0)) ∷ raw (toks 𝓤 A 0 (κs .1) (qs .1)) ∷ ‵ (owns (usize ∷ usize ∷ usize ∷ usize ∷ usize ∷ []) (used, (ends, (g, (n, (width, tt))))) (vint w64 used ∷ [], (vint w64 ends ∷ [], (vint w64 g ∷ [], (vint w64 n ∷ [], (vint w64 width ∷ [], tt)))))) ∷ []))
         (WpFn 𝓤 H C Λ code.function (scratch-val l ∷ vint w64 used ∷ vint w64 ends ∷ vint w64 g ∷ vint w64 n ∷ vint w64 width ∷ []) (Post 𝓤 H A W 0 unit ps (yes, (yes, (yes, (yes, (yes, tt))))) (halves.clauses 𝓤 H A mem run) (at-entry 𝓤 H A W 0 unit ps (yes, (yes, (yes, (yes, (yes, tt))))) (halves.clauses 𝓤 H A mem run) κs qs s (used, (ends, (g, (n, (width, tt))))) (vint w64 used ∷ [], (vint w64 ends ∷ [], (vint w64 g ∷ [], (vint w64 n ∷ [], (vint w64 width ∷ [], tt))))) tt)))
     walk =
@@ -99,7 +99,7 @@ module _ {M : Type 1} (𝓤 : URA M) (H : Heap 𝓤) (A : Atoms 𝓤) (W : Given
         by ! (leaves 𝓤 H A W 0 unit ps (yes, (yes, (yes, (yes, (yes, tt))))) (halves.clauses 𝓤 H A mem run) κs qs s (used, (ends, (g, (n, (width, tt))))) (vint w64 used ∷ [], (vint w64 ends ∷ [], (vint w64 g ∷ [], (vint w64 n ∷ [], (vint w64 width ∷ [], tt))))) tt vunit tt ys1 (tt, (tt, (tt, (tt, (tt, tt))))) le1 (nothing-makes 𝓤 H A W tt _ refl) (shown 𝓤 (subst (λ (u : ℕ). Halves-stored (s .now) ys1 used u ends g n width) (ap (λ (x : Mark). x .taken) (p1 .1)) (p1 .0)))))))))))))))))))
 
 halves-meets : {M : Type 1} (𝓤 : URA M) (H : Heap 𝓤) (A : Atoms 𝓤) → Given 𝓤 H A → (mem : Memory → SProp 𝓤) (run : Routine → Fun 𝓤) (𝓣 : Tables 𝓤 H)
-    → Triple 𝓤 (𝓣 .C #euler·rbmg-split-into-two) (RbmgSplitIntoTwoC 𝓤 H A mem run)
+    → Triple 𝓤 (𝓣 .C #splitting·rbmg-split-into-two) (RbmgSplitIntoTwoC 𝓤 H A mem run)
     → Triple 𝓤 (WpFn 𝓤 H (𝓣 .C) (𝓣 .Λ) code.function) (tripleOf 𝓤 H A halves.signature (halves.spec 𝓤 H A mem run))
 halves-meets 𝓤 H A W mem run 𝓣 known-rbmg-split-into-two =
     meets 𝓤 H A W 0 unit ps (yes, (yes, (yes, (yes, (yes, tt))))) (halves.clauses 𝓤 H A mem run) (λ κs. (uint-vals w64, (uint-vals w64, (uint-vals w64, (uint-vals w64, (uint-vals w64, tt)))))) (λ κs. (uint-tells w64, (uint-tells w64, (uint-tells w64, (uint-tells w64, (uint-tells w64, tt)))))) ((λ κs x f. refl), ((λ κs x f. refl), ((λ κs x f. refl), ((λ κs x f. refl), ((λ κs x f. refl), tt))))) 𝓣 code.function
@@ -111,4 +111,4 @@ halves-spec 𝓤 H 𝓜 𝓖 𝓡 =
     entered 𝓤 H (tripleOf 𝓤 H (𝓖 .A) halves.signature (halves.spec 𝓤 H (𝓖 .A) (𝓜 .mem) (𝓡 .run)))
     (tables 𝓤 H 𝓜 𝓡 code.env .C) (tables 𝓤 H 𝓜 𝓡 code.env .Λ) #steps-c·halves code.function (code.unfolded 𝓤 H 𝓜 𝓡)
     (halves-meets 𝓤 H (𝓖 .A) (givenOf 𝓤 H 𝓜 𝓖) (𝓜 .mem) (𝓡 .run) (tablesOf 𝓤 H 𝓜 (tables 𝓤 H 𝓜 𝓡 code.env))
-    (cited 𝓤 H (RbmgSplitIntoTwoC 𝓤 H (𝓖 .A) (𝓜 .mem) (𝓡 .run)) 𝓜 𝓡 code.env #euler·rbmg-split-into-two rbmg-split-into-two-def.routine code.calls-euler·rbmg-split-into-two (rbmg-split-into-two-thm.met 𝓤 H 𝓜 𝓖 𝓡)))
+    (cited 𝓤 H (RbmgSplitIntoTwoC 𝓤 H (𝓖 .A) (𝓜 .mem) (𝓡 .run)) 𝓜 𝓡 code.env #splitting·rbmg-split-into-two rbmg-split-into-two-def.routine code.calls-splitting·rbmg-split-into-two (rbmg-split-into-two-thm.met 𝓤 H 𝓜 𝓖 𝓡)))
