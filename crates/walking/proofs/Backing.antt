@@ -15,7 +15,7 @@ use Rattle.multigraph.specs.Multigraph.{Pair}
 use Rattle.rings.specs.declared.Rings.{Rings}
 use Rattle.walking.specs.declared.Walk.{Walk}
 use Rattle.euler.specs.Euler.{none, first-pair, walk-step}
-use Rattle.walking.specs.Model.{backM}
+use Rattle.walking.specs.Model.{party, backM}
 use Rattle.euler.proofs.Taken.{ends}
 use Rattle.euler.proofs.Trail.{aslant}
 use Rattle.euler.proofs.Straight.{straight, straight-ended, rests-same, ended-rests}
@@ -94,23 +94,23 @@ module _ {l : Rings} {N m k : ℕ} {s₀ : List ℕ} (g : Laid l N m k s₀) (fl
       column-more l false (wrote s w i) (w .written) ∙ rw (top, under)
 
   live-wrote :
-      (s : List ℕ) (w : Walk) (x : ℕ) (xs ws is : List ℕ) → Live g flag r s w (x ∷ xs) ws is → w .next < N → 0 < w .height →
-      column l true s (w .height - 1) ≡ xs → word s (l .b + 2 * (l .top + w .at)) ≡ l .top + w .at →
+      (s : List ℕ) (w : Walk) (x : ℕ) (xs ws is : List ℕ) → Live g flag r s w (x ∷ xs) ws is → w .next .0 < N → 0 < w .height →
+      column l true s (w .height - 1) ≡ xs → word s (l .b + 2 * (l .top + w .at .0)) ≡ l .top + w .at .0 →
       Moved g flag r (record { words = s; walk = w })
       (record {
         words = wrote s w (x / 2048);
-        walk = record { next = w .next; at = x % 2048; height = w .height - 1; written = w .written + 1 };
+        walk = record { next = w .next; at = party (x % 2048); height = w .height - 1; written = w .written + 1 };
       })
   unfolding measure
   live-wrote s w x xs ws is h b pos' under q =
       let i : ℕ = x / 2048 in
       let len : length s ≡ length s₀ = h .rings .rung .keeps .len in
-      let vb : w .at < N = h .sound b .0 in
+      let vb : w .at .0 < N = h .sound b .0 in
       let im : i < m = h .sound b .1 in
       let wb : w .written < k = omega (arith, h .size, few-places g flag r) in
       let lw : length ws ≡ w .written = ap length (sym (h .written)) ∙ column-length l false s (w .written) in
-      let off : walk-step (w .next) (walking g flag (w .at) (x ∷ xs) is ws) ≡ walking g flag (x % 2048) xs is (i ∷ ws) =
-      step-off g flag (w .next) (w .at) x xs is ws (h .falling) (stuck-row g flag r s w (x ∷ xs) ws is h vb q) in
+      let off : walk-step (w .next .0) (walking g flag (w .at .0) (x ∷ xs) is ws) ≡ walking g flag (x % 2048) xs is (i ∷ ws) =
+      step-off g flag (w .next .0) (w .at .0) x xs is ws (h .falling) (stuck-row g flag r s w (x ∷ xs) ws is h vb q) in
       record {
         xs = xs;
         ws = i ∷ ws;
@@ -132,8 +132,8 @@ module _ {l : Rings} {N m k : ℕ} {s₀ : List ℕ} (g : Laid l N m k s₀) (fl
               inside = h .inside;
               reached = (
                 suc (h .reached .0),
-                sym off ∙ ap (walk-step (w .next)) (h .reached .1)
-                    ∙ sym (iterate-suc-out (h .reached .0) (walk-step (w .next)) (straight (w .next) r)),
+                sym off ∙ ap (walk-step (w .next .0)) (h .reached .1)
+                    ∙ sym (iterate-suc-out (h .reached .0) (walk-step (w .next .0)) (straight (w .next .0) r)),
               );
               done = λ e. absurd (omega arith);
             };
@@ -142,8 +142,8 @@ module _ {l : Rings} {N m k : ℕ} {s₀ : List ℕ} (g : Laid l N m k s₀) (fl
 
   -- a step back keeps what holds
   pub live-back :
-      (s : List ℕ) (w : Walk) (xs ws is : List ℕ) → Live g flag r s w xs ws is → w .next < N → 0 < w .height →
-      word s (l .b + 2 * (l .top + w .at)) ≡ l .top + w .at →
+      (s : List ℕ) (w : Walk) (xs ws is : List ℕ) → Live g flag r s w xs ws is → w .next .0 < N → 0 < w .height →
+      word s (l .b + 2 * (l .top + w .at .0)) ≡ l .top + w .at .0 →
       Moved g flag r (record { words = s; walk = w }) (backM l s w)
   unfolding backM
   live-back s w xs ws is h b pos' q =
@@ -156,31 +156,31 @@ module _ {l : Rings} {N m k : ℕ} {s₀ : List ℕ} (g : Laid l N m k s₀) (fl
   module _ (side : ℕ → ℕ) (slant : total (aslant side) r ≡ 0) (evens : (v : ℕ) → total (ends v) r % 2 ≡ 0) where
     -- going on from the next party keeps what holds
     pub live-next :
-        (s : List ℕ) (w : Walk) (xs ws is : List ℕ) → Live g flag r s w xs ws is → w .next < N → w .height ≤ 0 →
-        word s (l .b + 2 * (l .top + w .at)) ≡ l .top + w .at →
+        (s : List ℕ) (w : Walk) (xs ws is : List ℕ) → Live g flag r s w xs ws is → w .next .0 < N → w .height ≤ 0 →
+        word s (l .b + 2 * (l .top + w .at .0)) ≡ l .top + w .at .0 →
         Moved g flag r (record { words = s; walk = w })
-        (record { words = s; walk = record { next = w .next + 1; at = w .next + 1; height = 0; written = w .written } })
+        (record { words = s; walk = record { next = party (w .next .0 + 1); at = party (w .next .0 + 1); height = 0; written = w .written } })
     unfolding measure column steps
     live-next s w xs ws is h b z q =
         let flat : w .height ≡ 0 = omega arith in
         let bare : xs ≡ [] = sym (h .stack) ∙ ap (column l true s) flat in
-        let home : w .at ≡ w .next = ap (bottom (w .at)) (sym bare) ∙ h .rooted in
-        let vb : w .at < N = omega arith in
-        let empty : first-pair (w .next) (map Q is) ≡ none =
-        rw home at (first-none Q (w .at) is (h .falling) (stuck-row g flag r s w xs ws is h vb q)) in
-        let here' : walking g flag (w .at) xs is ws ≡ record { stack = []; left = map Q is; written = map Q ws } =
-        ap (λ (z : List ℕ). walking g flag (w .at) z is ws) bare in
-        let rest₁ : walk-step (w .next) (record { stack = []; left = map Q is; written = map Q ws }) ≡ record { stack = []; left = map Q is; written = map Q ws } =
-        ended-rests (w .next) (record { stack = []; left = map Q is; written = map Q ws }) refl empty in
-        let e : (straight (suc (w .next)) r .stack ≡ []) × (first-pair (w .next) (straight (suc (w .next)) r .left) ≡ none) =
-        straight-ended side r slant evens (w .next) in
-        let rest₂ : walk-step (w .next) (straight (suc (w .next)) r) ≡ straight (suc (w .next)) r =
-        ended-rests (w .next) (straight (suc (w .next)) r) (e .0) (e .1) in
-        let on : record { stack = []; left = map Q is; written = map Q ws } ≡ straight (w .next + 1) r =
-        rests-same (walk-step (w .next)) (straight (w .next) r) (record { stack = []; left = map Q is; written = map Q ws })
-        (straight (suc (w .next)) r) (h .reached .0) (2 * length (straight (w .next) r .left)) (sym here' ∙ h .reached .1) (straight-more-is (w .next) r)
+        let home : w .at .0 ≡ w .next .0 = ap (bottom (w .at .0)) (sym bare) ∙ h .rooted in
+        let vb : w .at .0 < N = omega arith in
+        let empty : first-pair (w .next .0) (map Q is) ≡ none =
+        rw home at (first-none Q (w .at .0) is (h .falling) (stuck-row g flag r s w xs ws is h vb q)) in
+        let here' : walking g flag (w .at .0) xs is ws ≡ record { stack = []; left = map Q is; written = map Q ws } =
+        ap (λ (z : List ℕ). walking g flag (w .at .0) z is ws) bare in
+        let rest₁ : walk-step (w .next .0) (record { stack = []; left = map Q is; written = map Q ws }) ≡ record { stack = []; left = map Q is; written = map Q ws } =
+        ended-rests (w .next .0) (record { stack = []; left = map Q is; written = map Q ws }) refl empty in
+        let e : (straight (suc (w .next .0)) r .stack ≡ []) × (first-pair (w .next .0) (straight (suc (w .next .0)) r .left) ≡ none) =
+        straight-ended side r slant evens (w .next .0) in
+        let rest₂ : walk-step (w .next .0) (straight (suc (w .next .0)) r) ≡ straight (suc (w .next .0)) r =
+        ended-rests (w .next .0) (straight (suc (w .next .0)) r) (e .0) (e .1) in
+        let on : record { stack = []; left = map Q is; written = map Q ws } ≡ straight (w .next .0 + 1) r =
+        rests-same (walk-step (w .next .0)) (straight (w .next .0) r) (record { stack = []; left = map Q is; written = map Q ws })
+        (straight (suc (w .next .0)) r) (h .reached .0) (2 * length (straight (w .next .0) r .left)) (sym here' ∙ h .reached .1) (straight-more-is (w .next .0) r)
         rest₁ rest₂
-        ∙ ap (λ (v : ℕ). straight v r) (sym (add-one (w .next))) in
+        ∙ ap (λ (v : ℕ). straight v r) (sym (add-one (w .next .0))) in
         record {
           xs = [];
           ws = ws;
@@ -197,7 +197,7 @@ module _ {l : Rings} {N m k : ℕ} {s₀ : List ℕ} (g : Laid l N m k s₀) (fl
                 sound = λ v. v;
                 places = h .places;
                 inside = omega arith;
-                reached = (0, on ∙ sym (iterate-zero (walk-step (w .next + 1)) (straight (w .next + 1) r)));
+                reached = (0, on ∙ sym (iterate-zero (walk-step (w .next .0 + 1)) (straight (w .next .0 + 1) r)));
                 done = λ v. on;
               };
           less = omega arith;

@@ -59,19 +59,19 @@ module _ {l : Rings} {N m k : ℕ} {s₀ : List ℕ} (g : Laid l N m k s₀) (fl
     pub marks : (i : ℕ) → i < m → word s (l .b + 8 * i + 2) ≡ mark-of i ws
     pub falling : Falling is
     pub size : length is + w .height + w .written ≡ length (odd-places m C)
-    pub rooted : bottom (w .at) xs ≡ w .next
-    pub sound : w .next < N → Sound N m (w .at) xs
+    pub rooted : bottom (w .at .0) xs ≡ w .next .0
+    pub sound : w .next .0 < N → Sound N m (w .at .0) xs
     pub places : All (λ (i : ℕ). i < m) ws
-    pub inside : w .next ≤ N
-    pub reached : (j : ℕ) × (walking g flag (w .at) xs is ws ≡ iterate j (walk-step (w .next)) (straight (w .next) r))
-    pub done : N ≤ w .next → walking g flag (w .at) xs is ws ≡ straight (w .next) r
+    pub inside : w .next .0 ≤ N
+    pub reached : (j : ℕ) × (walking g flag (w .at .0) xs is ws ≡ iterate j (walk-step (w .next .0)) (straight (w .next .0) r))
+    pub done : N ≤ w .next .0 → walking g flag (w .at .0) xs is ws ≡ straight (w .next .0) r
 
   -- places not taken, places not written, parties to come
   unfoldable pub measure : Stage → ℕ
   measure t =
       (length (odd-places m C) - (t .walk .height + t .walk .written))
       + (length (odd-places m C) - t .walk .written)
-      + (N - t .walk .next)
+      + (N - t .walk .next .0)
 
   -- what a step comes to
   pub record Moved (t u : Stage) : Type 0 where
@@ -82,18 +82,18 @@ module _ {l : Rings} {N m k : ℕ} {s₀ : List ℕ} (g : Laid l N m k s₀) (fl
     pub less : measure u < measure t
 
   -- the ring of the party at which the walk stands
-  pub ring-here : (s : List ℕ) (w : Walk) (xs ws is : List ℕ) → Live s w xs ws is → w .at < N → (ys : List ℕ) → nodes Q (w .at) is ≡ ys → Chain (l .b) s (l .top + w .at) ys (l .top + w .at)
+  pub ring-here : (s : List ℕ) (w : Walk) (xs ws is : List ℕ) → Live s w xs ws is → w .at .0 < N → (ys : List ℕ) → nodes Q (w .at .0) is ≡ ys → Chain (l .b) s (l .top + w .at .0) ys (l .top + w .at .0)
   ring-here s w xs ws is h vb ys e =
-      subst (λ (zs : List ℕ). Chain (l .b) s (l .top + w .at) zs (l .top + w .at)) e (h .rings .rung .rings (w .at) vb)
+      subst (λ (zs : List ℕ). Chain (l .b) s (l .top + w .at .0) zs (l .top + w .at .0)) e (h .rings .rung .rings (w .at .0) vb)
 
   -- a party's own node comes after itself only where no place remains
   pub stuck-row :
-      (s : List ℕ) (w : Walk) (xs ws is : List ℕ) → Live s w xs ws is → w .at < N →
-      word s (l .b + 2 * (l .top + w .at)) ≡ l .top + w .at → row Q (w .at) is ≡ []
+      (s : List ℕ) (w : Walk) (xs ws is : List ℕ) → Live s w xs ws is → w .at .0 < N →
+      word s (l .b + 2 * (l .top + w .at .0)) ≡ l .top + w .at .0 → row Q (w .at .0) is ≡ []
   stuck-row s w xs ws is h vb q =
       ⊎-elim (λ e. e .0)
       (λ f.
       let o : Odd m C (f .entry) = has-odd g flag s is (f .entry) (h .rings) (f .has) in
       let low = edge-is g (f .side) (f .entry) (o .below) in
       absurd (omega (arith, low .0, ring-here s w xs ws is h vb (edge (f .side) (f .entry) ∷ f .nodes-left) (f .nodes-is) .0)))
-      (first-node Q (w .at) is)
+      (first-node Q (w .at .0) is)

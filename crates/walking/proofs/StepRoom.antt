@@ -28,10 +28,10 @@ module _ {l : Rings} {N m k : ℕ} {s₀ : List ℕ} (g : Laid l N m k s₀) (fl
   low-node y b = omega (arith, g .place, g .parties, g .room)
 
   live-takes :
-      (s : List ℕ) (w : Walk) (xs ws is : List ℕ) → Live g flag r s w xs ws is → w .next < N → (f : First Q (w .at) is) →
+      (s : List ℕ) (w : Walk) (xs ws is : List ℕ) → Live g flag r s w xs ws is → w .next .0 < N → (f : First Q (w .at .0) is) →
       Takes l s w (edge (f .side) (f .entry))
   live-takes s w xs ws is h b f =
-      let v : ℕ = w .at in
+      let v : ℕ = w .at .0 in
       let vb : v < N = sound-here N m v xs (h .sound b) in
       let d : Bool = f .side in
       let i : ℕ = f .entry in
@@ -64,11 +64,11 @@ module _ {l : Rings} {N m k : ℕ} {s₀ : List ℕ} (g : Laid l N m k s₀) (fl
         stack = omega (arith, len, h .size, few-places g flag r, g .entries, g .column, g .room);
       }
 
-  live-backs : (s : List ℕ) (w : Walk) (xs ws is : List ℕ) → Live g flag r s w xs ws is → w .next < N → 0 < w .height → Backs l s w
+  live-backs : (s : List ℕ) (w : Walk) (xs ws is : List ℕ) → Live g flag r s w xs ws is → w .next .0 < N → 0 < w .height → Backs l s w
   live-backs s w xs ws is h b p =
       let x : ℕ = word s (l .col + 2 * (w .height - 1)) in
       let e : xs ≡ x ∷ column l true s (w .height - 1) = sym (h .stack) ∙ column-first l true s (w .height) p in
-      let im : x / 2048 < m = subst (Sound N m (w .at)) e (h .sound b) .1 in
+      let im : x / 2048 < m = subst (Sound N m (w .at .0)) e (h .sound b) .1 in
       let len : length s ≡ length s₀ = h .rings .rung .keeps .len in
       record {
         stack = omega (arith, len, h .size, few-places g flag r, g .entries, g .column, g .room);
@@ -77,17 +77,17 @@ module _ {l : Rings} {N m k : ℕ} {s₀ : List ℕ} (g : Laid l N m k s₀) (fl
       }
 
   -- a step, whichever
-  pub live-steps : (s : List ℕ) (w : Walk) (xs ws is : List ℕ) → Live g flag r s w xs ws is → w .next < N → Steps l s w
+  pub live-steps : (s : List ℕ) (w : Walk) (xs ws is : List ℕ) → Live g flag r s w xs ws is → w .next .0 < N → Steps l s w
   live-steps s w xs ws is h b =
-      let vb : w .at < N = sound-here N m (w .at) xs (h .sound b) in
+      let vb : w .at .0 < N = sound-here N m (w .at .0) xs (h .sound b) in
       record {
-        here = omega (arith, h .rings .rung .keeps .len, low-node (l .top + w .at) (omega arith));
+        here = omega (arith, h .rings .rung .keeps .len, low-node (l .top + w .at .0) (omega arith));
         takes = λ n.
             ⊎-elim (λ e. absurd (n (ring-here g flag r s w xs ws is h vb [] (e .1) .0)))
             (λ f.
             subst (Takes l s w)
             (sym (ring-here g flag r s w xs ws is h vb (edge (f .side) (f .entry) ∷ f .nodes-left) (f .nodes-is) .0))
             (live-takes s w xs ws is h b f))
-            (first-node Q (w .at) is);
+            (first-node Q (w .at .0) is);
         backs = live-backs s w xs ws is h b;
       }

@@ -16,7 +16,7 @@ use Rattle.rings.specs.declared.Rings.{Rings}
 use Rattle.walking.specs.declared.Walk.{Walk}
 use Rattle.euler.specs.Euler.{Walking, walk-step}
 use Rattle.rings.specs.Model.{copiesM}
-use Rattle.walking.specs.Model.{Stage, stepM, walkM, begun}
+use Rattle.walking.specs.Model.{Stage, party, stepM, walkM, begun}
 use Rattle.walking.specs.Bounds.{Walks}
 use Rattle.euler.proofs.Taken.{ends}
 use Rattle.euler.proofs.Trail.{aslant}
@@ -50,13 +50,13 @@ module _ {l : Rings} {N m k : ℕ} {s₀ : List ℕ} (g : Laid l N m k s₀) (fl
     pub live : Live g flag r (t .words) (t .walk) xs ws is
 
   live-step :
-      (s : List ℕ) (w : Walk) (xs ws is : List ℕ) → Live g flag r s w xs ws is → w .next < N →
+      (s : List ℕ) (w : Walk) (xs ws is : List ℕ) → Live g flag r s w xs ws is → w .next .0 < N →
       Moved g flag r (record { words = s; walk = w }) (stepM l N (record { words = s; walk = w }))
   live-step s w xs ws is h b =
       let t : Stage = record { words = s; walk = w } in
-      let vb : w .at < N = sound-here N m (w .at) xs (h .sound b) in
-      let x : ℕ = word s (l .b + 2 * (l .top + w .at)) in
-      elim (ℕ-discrete x (l .top + w .at)) [
+      let vb : w .at .0 < N = sound-here N m (w .at .0) xs (h .sound b) in
+      let x : ℕ = word s (l .b + 2 * (l .top + w .at .0)) in
+      elim (ℕ-discrete x (l .top + w .at .0)) [
         | yes e ↦
             subst (Moved g flag r t) (sym (step-stuck l N s w b e))
             (elim (decLt 0 (w .height)) [
@@ -74,12 +74,12 @@ module _ {l : Rings} {N m k : ℕ} {s₀ : List ℕ} (g : Laid l N m k s₀) (fl
             subst (Moved g flag r t)
             (sym (step-takes l N s w b n ∙ take-form g flag r s w (f .side) (f .entry) x first (h .rings .leads (f .side) (f .entry) o)))
             (live-take g flag r s w xs ws is h b f))
-            (first-node Q (w .at) is)
+            (first-node Q (w .at .0) is)
       ]
 
-  alive-step : (t : Stage) → Alive t → (N ≤ t .walk .next) ⊎ Moved g flag r t (stepM l N t)
+  alive-step : (t : Stage) → Alive t → (N ≤ t .walk .next .0) ⊎ Moved g flag r t (stepM l N t)
   alive-step t a =
-      elim (decLt (t .walk .next) N) [
+      elim (decLt (t .walk .next .0) N) [
         | yes b ↦ inr (live-step (t .words) (t .walk) (a .xs) (a .ws) (a .is) (a .live) b)
         | no n ↦ inl (omega arith)
       ]
@@ -92,12 +92,12 @@ module _ {l : Rings} {N m k : ℕ} {s₀ : List ℕ} (g : Laid l N m k s₀) (fl
 
   -- Enough steps bring the walk past the last party.
   pub walk-ends :
-      (t : Stage) (n : ℕ) → Alive t → measure g flag r t ≤ n → Alive (walkM l N n t) × (N ≤ walkM l N n t .walk .next)
+      (t : Stage) (n : ℕ) → Alive t → measure g flag r t ≤ n → Alive (walkM l N n t) × (N ≤ walkM l N n t .walk .next .0)
   walk-ends t n a b = (
     iterate-keeps {Inv = Alive} (stepM l N) alive-keeps n t a,
-    iterate-ends {Inv = Alive} {Done = λ u. N ≤ u .walk .next} (stepM l N) (measure g flag r) alive-keeps
+    iterate-ends {Inv = Alive} {Done = λ u. N ≤ u .walk .next .0} (stepM l N) (measure g flag r) alive-keeps
         (λ u i. ⊎-elim (λ d. inl d) (λ e. inr (e .less)) (alive-step u i))
-        (λ u i d. subst (λ (z : Stage). N ≤ z .walk .next) (sym (step-idle l N u d)) d) n t b a,
+        (λ u i d. subst (λ (z : Stage). N ≤ z .walk .next .0) (sym (step-idle l N u d)) d) n t b a,
   )
 
   -- ── the start ──
@@ -114,7 +114,7 @@ module _ {l : Rings} {N m k : ℕ} {s₀ : List ℕ} (g : Laid l N m k s₀) (fl
 
   start-live :
       (s : List ℕ) → Filled g flag s → reverse r ≡ map Q (odd-places m C) →
-      Live g flag r s (record { next = 0; at = 0; height = 0; written = 0 }) [] [] (odd-places m C)
+      Live g flag r s (record { next = party 0; at = party 0; height = 0; written = 0 }) [] [] (odd-places m C)
   unfolding column mark-of steps straight odd-places
   start-live s f e =
       let on : walking g flag 0 [] (odd-places m C) [] ≡ straight 0 r =
@@ -134,7 +134,7 @@ module _ {l : Rings} {N m k : ℕ} {s₀ : List ℕ} (g : Laid l N m k s₀) (fl
         done = λ b. on;
       }
 
-  start-measure : (s : List ℕ) → measure g flag r (record { words = s; walk = record { next = 0; at = 0; height = 0; written = 0 } }) ≤ 2 * m + N
+  start-measure : (s : List ℕ) → measure g flag r (record { words = s; walk = record { next = party 0; at = party 0; height = 0; written = 0 } }) ≤ 2 * m + N
   unfolding measure
   start-measure s = omega (arith, few-places g flag r)
 
@@ -150,15 +150,15 @@ module _ {l : Rings} {N m k : ℕ} {s₀ : List ℕ} (g : Laid l N m k s₀) (fl
 
   pub walked-all :
       (s : List ℕ) → Filled g flag s → reverse r ≡ map Q (odd-places m C) →
-      Walked-all (walkM l N (2 * m + N) (record { words = s; walk = record { next = 0; at = 0; height = 0; written = 0 } }))
+      Walked-all (walkM l N (2 * m + N) (record { words = s; walk = record { next = party 0; at = party 0; height = 0; written = 0 } }))
   walked-all s f e =
-      let t₀ : Stage = record { words = s; walk = record { next = 0; at = 0; height = 0; written = 0 } } in
+      let t₀ : Stage = record { words = s; walk = record { next = party 0; at = party 0; height = 0; written = 0 } } in
       let a₀ : Alive t₀ = record { xs = []; ws = []; is = odd-places m C; live = start-live s f e } in
-      let p : Alive (walkM l N (2 * m + N) t₀) × (N ≤ walkM l N (2 * m + N) t₀ .walk .next) =
+      let p : Alive (walkM l N (2 * m + N) t₀) × (N ≤ walkM l N (2 * m + N) t₀ .walk .next .0) =
       walk-ends t₀ (2 * m + N) a₀ (start-measure s) in
       let a : Alive (walkM l N (2 * m + N) t₀) = p .0 in
       let h = a .live in
-      let last : walkM l N (2 * m + N) t₀ .walk .next ≡ N = omega (arith, h .inside, p .1) in
+      let last : walkM l N (2 * m + N) t₀ .walk .next .0 ≡ N = omega (arith, h .inside, p .1) in
       record {
         ws = a .ws;
         keeps = h .rings .rung .keeps;

@@ -14,7 +14,7 @@ use Rattle.multigraph.specs.Multigraph.{Pair}
 use Rattle.rings.specs.declared.Rings.{Rings}
 use Rattle.walking.specs.declared.Walk.{Walk}
 use Rattle.euler.specs.Euler.{other-node, walk-step}
-use Rattle.walking.specs.Model.{popM, unlinkM, takeM}
+use Rattle.walking.specs.Model.{party, popM, unlinkM, takeM}
 use Rattle.euler.proofs.Straight.{straight}
 use Rattle.euler.proofs.Places.{without, keep-falling, without-shorter}
 use Rattle.rings.proofs.Nodes.{edge, end, First}
@@ -40,7 +40,7 @@ module _ {l : Rings} {N m k : ℕ} {s₀ : List ℕ} (g : Laid l N m k s₀) (fl
 
   -- the words after taking
   abbrev pub took : List ℕ → Walk → Bool → ℕ → List ℕ
-  took s w d i = put-word (out s (w .at) d i) (l .col + 2 * w .height) (i * 2048 + w .at)
+  took s w d i = put-word (out s (w .at .0) d i) (l .col + 2 * w .height) (i * 2048 + w .at .0)
 
   -- the model takes it so
   pub take-form :
@@ -48,38 +48,38 @@ module _ {l : Rings} {N m k : ℕ} {s₀ : List ℕ} (g : Laid l N m k s₀) (fl
       takeM l s w x
       ≡ record {
         words = took s w d i;
-        walk = record { next = w .next; at = far g flag d i; height = w .height + 1; written = w .written };
+        walk = record { next = w .next; at = party (far g flag d i); height = w .height + 1; written = w .written };
       }
   unfolding takeM
   take-form s w d i x e f = rw (e, f, mate-is d i, entry-is d i)
 
   -- the stack after taking
   took-stack :
-      (s : List ℕ) (w : Walk) (d : Bool) (i : ℕ) → length (out s (w .at) d i) ≡ length s₀ → w .at < N → w .height < k → i < m →
-      Aside g s (out s (w .at) d i) →
-      column l true (took s w d i) (w .height + 1) ≡ (i * 2048 + w .at) ∷ column l true s (w .height)
+      (s : List ℕ) (w : Walk) (d : Bool) (i : ℕ) → length (out s (w .at .0) d i) ≡ length s₀ → w .at .0 < N → w .height < k → i < m →
+      Aside g s (out s (w .at .0) d i) →
+      column l true (took s w d i) (w .height + 1) ≡ (i * 2048 + w .at .0) ∷ column l true s (w .height)
   took-stack s w d i len vb hb ib a =
-      let u : List ℕ = out s (w .at) d i in
-      let top : word (took s w d i) (l .col + 2 * w .height) ≡ i * 2048 + w .at =
-      here u (l .col + 2 * w .height) (i * 2048 + w .at) (omega (arith, g .column, g .room)) (omega (arith, g .short, g .few)) in
+      let u : List ℕ = out s (w .at .0) d i in
+      let top : word (took s w d i) (l .col + 2 * w .height) ≡ i * 2048 + w .at .0 =
+      here u (l .col + 2 * w .height) (i * 2048 + w .at .0) (omega (arith, g .column, g .room)) (omega (arith, g .short, g .few)) in
       let under : column l true (took s w d i) (w .height) ≡ column l true s (w .height) =
       column-same l true s (took s w d i) (w .height)
       (λ j e.
-      away u (l .col + 2 * w .height) (l .col + 2 * j) (i * 2048 + w .at) (λ q. omega arith)
+      away u (l .col + 2 * w .height) (l .col + 2 * j) (i * 2048 + w .at .0) (λ q. omega arith)
       ∙ a .high (l .col + 2 * j) (omega (arith, g .column))) in
       column-more l true (took s w d i) (w .height) ∙ rw (top, under)
 
   -- taking a half-edge keeps what holds
   pub live-take :
-      (s : List ℕ) (w : Walk) (xs ws is : List ℕ) → Live g flag r s w xs ws is → w .next < N → (f : First Q (w .at) is) →
+      (s : List ℕ) (w : Walk) (xs ws is : List ℕ) → Live g flag r s w xs ws is → w .next .0 < N → (f : First Q (w .at .0) is) →
       Moved g flag r (record { words = s; walk = w })
       (record {
         words = took s w (f .side) (f .entry);
-        walk = record { next = w .next; at = far g flag (f .side) (f .entry); height = w .height + 1; written = w .written };
+        walk = record { next = w .next; at = party (far g flag (f .side) (f .entry)); height = w .height + 1; written = w .written };
       })
   unfolding measure
   live-take s w xs ws is h b f =
-      let v : ℕ = w .at in
+      let v : ℕ = w .at .0 in
       let vb : v < N = sound-here N m v xs (h .sound b) in
       let d : Bool = f .side in
       let i : ℕ = f .entry in
@@ -91,8 +91,8 @@ module _ {l : Rings} {N m k : ℕ} {s₀ : List ℕ} (g : Laid l N m k s₀) (fl
       let x : ℕ = i * 2048 + v in
       let shorter : length is ≡ suc (length (without i is)) = without-shorter Q v i is (f .row-left) (h .falling) (f .row-is) in
       let hb : w .height < k = omega (arith, h .size, few-places g flag r, g .entries) in
-      let on : walk-step (w .next) (walking g flag v xs is ws) ≡ walking g flag (far g flag d i) (x ∷ xs) (without i is) ws =
-      step-on g flag (w .next) v i (far g flag d i) xs is (f .row-left) ws (h .rooted) (h .falling) (f .row-is)
+      let on : walk-step (w .next .0) (walking g flag v xs is ws) ≡ walking g flag (far g flag d i) (x ∷ xs) (without i is) ws =
+      step-on g flag (w .next .0) v i (far g flag d i) xs is (f .row-left) ws (h .rooted) (h .falling) (f .row-is)
       (omega (arith, g .few)) (omega (arith, g .few)) (other-party d i v ib (f .own)) in
       let q₁ : x / 2048 ≡ i = omega (arith, g .few) in
       let q₂ : x % 2048 ≡ v = omega (arith, g .few) in
@@ -125,8 +125,8 @@ module _ {l : Rings} {N m k : ℕ} {s₀ : List ℕ} (g : Laid l N m k s₀) (fl
               inside = h .inside;
               reached = (
                 suc (h .reached .0),
-                sym on ∙ ap (walk-step (w .next)) (h .reached .1)
-                    ∙ sym (iterate-suc-out (h .reached .0) (walk-step (w .next)) (straight (w .next) r)),
+                sym on ∙ ap (walk-step (w .next .0)) (h .reached .1)
+                    ∙ sym (iterate-suc-out (h .reached .0) (walk-step (w .next .0)) (straight (w .next .0) r)),
               );
               done = λ e. absurd (omega arith);
             };

@@ -24,8 +24,8 @@ pub record Unlinks (l : Rings) (s : List ℕ) (x : ℕ) : Type 0 where
 -- the half-edge x can be taken and followed
 pub record Takes (l : Rings) (s : List ℕ) (w : Walk) (x : ℕ) : Type 0 where
   pub leads : l .b + 2 * x + 3 < length s
-  pub pops : Pops l s (l .top + w .at) x
-  pub unlinks : Unlinks l (popM l s (l .top + w .at) x) (mateM x)
+  pub pops : Pops l s (l .top + w .at .0) x
+  pub unlinks : Unlinks l (popM l s (l .top + w .at .0) x) (mateM x)
   pub stack : l .col + 2 * w .height < length s
 
 -- the walk can step back
@@ -36,13 +36,13 @@ pub record Backs (l : Rings) (s : List ℕ) (w : Walk) : Type 0 where
 
 -- the walk can go on
 pub record Steps (l : Rings) (s : List ℕ) (w : Walk) : Type 0 where
-  pub here : l .b + 2 * (l .top + w .at) < length s
+  pub here : l .b + 2 * (l .top + w .at .0) < length s
   pub takes :
-      (word s (l .b + 2 * (l .top + w .at)) ≡ l .top + w .at → ⊥) → Takes l s w (word s (l .b + 2 * (l .top + w .at)))
+      (word s (l .b + 2 * (l .top + w .at .0)) ≡ l .top + w .at .0 → ⊥) → Takes l s w (word s (l .b + 2 * (l .top + w .at .0)))
   pub backs : 0 < w .height → Backs l s w
 
 -- n steps can be made
 pub record Walks (l : Rings) (parties n : ℕ) (s : List ℕ) : Type 0 where
   pub steps :
-      (j : ℕ) → j < n → walkM l parties j (begun s) .walk .next < parties →
+      (j : ℕ) → j < n → walkM l parties j (begun s) .walk .next .0 < parties →
       Steps l (walkM l parties j (begun s) .words) (walkM l parties j (begun s) .walk)

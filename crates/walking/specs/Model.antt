@@ -4,13 +4,18 @@ use mathlib.Core.List.{List}
 use lib.Dec.{eqb, ltb, leb}
 use Rattle.words.specs.Basics.{pick, iterate}
 use Rattle.words.specs.Words.{word, put-word}
+use Rattle.words.specs.declared.NodeIndex.{NodeIndex}
 use Rattle.rings.specs.declared.Rings.{Rings}
 use Rattle.walking.specs.declared.Walk.{Walk}
 
+-- the party of a number
+abbrev pub party : ℕ → NodeIndex
+party v = record { 0 = v }
+
 -- the numbers of a walk are small
 pub record Small (k : ℕ) (w : Walk) : Type 0 where
-  pub next : w .next ≤ k
-  pub at : w .at ≤ k + 4294967296
+  pub next : w .next .0 ≤ k
+  pub at : w .at .0 ≤ k + 4294967296
   pub height : w .height ≤ k
   pub written : w .written ≤ k
 
@@ -39,11 +44,11 @@ unfoldable pub takeM : Rings → List ℕ → Walk → ℕ → Stage
 takeM l s w x =
     record {
       words =
-          put-word (unlinkM l (popM l s (l .top + w .at) x) (mateM x)) (l .col + 2 * w .height) (x / 4 * 2048 + w .at);
+          put-word (unlinkM l (popM l s (l .top + w .at .0) x) (mateM x)) (l .col + 2 * w .height) (x / 4 * 2048 + w .at .0);
       walk =
           record {
             next = w .next;
-            at = word s (l .b + 2 * x + 3);
+            at = party (word s (l .b + 2 * x + 3));
             height = w .height + 1;
             written = w .written;
           };
@@ -56,23 +61,23 @@ backM l s w =
     record {
       words =
           put-word (put-word s (l .b + 8 * (x / 2048) + 2) (2 + w .written % 2)) (l .col + 2 * w .written + 1) (x / 2048);
-      walk = record { next = w .next; at = x % 2048; height = w .height - 1; written = w .written + 1 };
+      walk = record { next = w .next; at = party (x % 2048); height = w .height - 1; written = w .written + 1 };
     }
 
 -- stuck: back, or on to the next party
 unfoldable pub stuckM : Rings → List ℕ → Walk → Stage
 stuckM l s w =
     pick (ltb 0 (w .height)) (backM l s w)
-    (record { words = s; walk = record { next = w .next + 1; at = w .next + 1; height = 0; written = w .written } })
+    (record { words = s; walk = record { next = party (w .next .0 + 1); at = party (w .next .0 + 1); height = 0; written = w .written } })
 
 -- one step; past the last party nothing happens
 unfoldable pub stepM : Rings → ℕ → Stage → Stage
 stepM l parties t =
     let s = t .words in
     let w = t .walk in
-    let z = l .top + w .at in
+    let z = l .top + w .at .0 in
     let x = word s (l .b + 2 * z) in
-    pick (leb parties (w .next)) t (pick (eqb x z) (stuckM l s w) (takeM l s w x))
+    pick (leb parties (w .next .0)) t (pick (eqb x z) (stuckM l s w) (takeM l s w x))
 
 -- k steps
 abbrev pub walkM : Rings → ℕ → ℕ → Stage → Stage
@@ -80,4 +85,4 @@ walkM l parties k t = iterate k (stepM l parties) t
 
 -- before the first step
 abbrev pub begun : List ℕ → Stage
-begun s = record { words = s; walk = record { next = 0; at = 0; height = 0; written = 0 } }
+begun s = record { words = s; walk = record { next = party 0; at = party 0; height = 0; written = 0 } }

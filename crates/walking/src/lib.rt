@@ -8,13 +8,14 @@ ghost use Rattle.rings.specs.Model.{Fits};
 ghost use Rattle.walking.specs.Model.{Stage, Small, popM, unlinkM, takeM, backM, stuckM, stepM, walkM, begun};
 ghost use Rattle.walking.specs.Bounds.{Pops, Unlinks, Takes, Backs, Steps, Walks};
 use rings::Rings;
+use words::NodeIndex;
 use words::set_word;
 use words::word_at;
 
 // A walk: the party of the outer loop, the party at which it stands, the height of the stack, the places written.
 pub struct Walk {
-    pub next: usize,
-    pub at: usize,
+    pub next: NodeIndex,
+    pub at: NodeIndex,
     pub height: usize,
     pub written: usize,
 }
@@ -45,13 +46,14 @@ fn take(s: &mut [u32], l: Rings, w: Walk, x: usize) -> Walk
     requires { ⌜ Fits l × Small 68719476736 w × (x < 4294967296) × Takes l (now s) w x ⌝ }
     ensures { λ r. ⌜ record { words = now (s .exit); walk = r } ≡ takeM l (now (s .entry)) w x ⌝ }
 {
+    let v = w.at.0 as usize;
     let to = word_at(s, l.b + 2 * x + 3);
-    pop(s, l, l.top + w.at, x);
+    pop(s, l, l.top + v, x);
     unlink(s, l, x / 4 * 4 + (x + 2) % 4);
-    set_word(s, l.col + 2 * w.height, x / 4 * 2048 + w.at);
+    set_word(s, l.col + 2 * w.height, x / 4 * 2048 + v);
     Walk {
-        next: w.next,
-        at: to,
+        next: NodeIndex(w.next.0),
+        at: NodeIndex(to as u32),
         height: w.height + 1,
         written: w.written,
     }
@@ -67,8 +69,8 @@ fn step_back(s: &mut [u32], l: Rings, w: Walk) -> Walk
     set_word(s, l.b + 8 * i + 2, 2 + w.written % 2);
     set_word(s, l.col + 2 * w.written + 1, i);
     Walk {
-        next: w.next,
-        at: x % 2048,
+        next: NodeIndex(w.next.0),
+        at: NodeIndex((x % 2048) as u32),
         height: w.height - 1,
         written: w.written + 1,
     }
@@ -76,15 +78,16 @@ fn step_back(s: &mut [u32], l: Rings, w: Walk) -> Walk
 
 // Stuck: back, or on to the next party.
 fn stuck(s: &mut [u32], l: Rings, w: Walk) -> Walk
-    requires { ⌜ Fits l × Small 68719476736 w × (0 < w .height → Backs l (now s) w) ⌝ }
+    requires { ⌜ Fits l × Small 68719476736 w × (w .next .0 + 1 < 4294967296) × (0 < w .height → Backs l (now s) w) ⌝ }
     ensures { λ r. ⌜ record { words = now (s .exit); walk = r } ≡ stuckM l (now (s .entry)) w ⌝ }
 {
     if 0 < w.height {
         return step_back(s, l, w);
     }
+    let v = w.next.0 as usize;
     Walk {
-        next: w.next + 1,
-        at: w.next + 1,
+        next: NodeIndex((v + 1) as u32),
+        at: NodeIndex((v + 1) as u32),
         height: 0,
         written: w.written,
     }
@@ -92,13 +95,15 @@ fn stuck(s: &mut [u32], l: Rings, w: Walk) -> Walk
 
 // One step of the walk; past the last party nothing happens.
 fn walk_step(s: &mut [u32], l: Rings, parties: usize, w: Walk) -> Walk
-    requires { ⌜ Fits l × Small 68719476736 w × (w .next < parties → Steps l (now s) w) ⌝ }
+    requires { ⌜ Fits l × Small 68719476736 w × (parties < 4294967296) × (w .next .0 < parties → Steps l (now s) w) ⌝ }
     ensures { λ r. ⌜ record { words = now (s .exit); walk = r } ≡ stepM l parties (record { words = now (s .entry); walk = w }) ⌝ }
 {
-    if parties <= w.next {
+    let next = w.next.0 as usize;
+    if parties <= next {
         return w;
     }
-    let z = l.top + w.at;
+    let v = w.at.0 as usize;
+    let z = l.top + v;
     let x = word_at(s, l.b + 2 * z);
     if x == z {
         return stuck(s, l, w);
@@ -115,14 +120,15 @@ pub fn euler_cycles(s: &mut [u32], l: Rings, m: usize, parties: usize) -> usize
 {
     let bound = 2 * m + parties;
     let mut w = Walk {
-        next: 0,
-        at: 0,
+        next: NodeIndex(0),
+        at: NodeIndex(0),
         height: 0,
         written: 0,
     };
     let mut k = 0;
     while k < bound {
-        if parties <= w.next {
+        let next = w.next.0 as usize;
+        if parties <= next {
             return w.written;
         }
         w = walk_step(s, l, parties, w);

@@ -66,8 +66,9 @@ walk-step-requires c κs =
     let a = start .args in (
       search needs,
       search needs,
+      start .pre .2,
       λ n.
-          subst (λ (t : Stage). t .walk .next < a .parties → Steps (a .l) (t .words) (t .walk)) (sym (inv .3))
+          subst (λ (t : Stage). t .walk .next .0 < a .parties → Steps (a .l) (t .words) (t .walk)) (sym (inv .3))
           (start .pre .3 .steps (at-loop .loop .k) (in-loop .loop-test .taken)) n,
     )
 
@@ -80,6 +81,7 @@ euler-cycles-spec =
     (λ c. search needs)
     (λ c. search needs)
     loop-holds
+    (λ c. search needs)
     (λ c. search needs)
     returns
     walk-step-requires

@@ -1,12 +1,17 @@
 -- `pop` meets its contract: two words. Assumes nothing.
-use Rattle.walking.specs.Model.{popM}
+use Rattle.walking.proofs.ModelLaws.{pop-so}
 use borrow.Author.Needs.{needs}
 use Rattle.walking.proofs.pop.Statement.{statement}
 use Rattle.walking.proofs.pop.Tie as tie
 
 returns : tie.Need-returns
-unfolding popM
-returns c = cc
+returns c =
+    let at-set-word2 = c .before .before in
+    let at-set-word = at-set-word2 .before .before .before .before .before in
+    let at-word-at = at-set-word .before .before .before in
+    let start = at-word-at .before .before .before .before in
+    let a = start .args in
+    pop-so (a .l) (a .s .now) (a .z) (a .x) (at-word-at .word-at .ensures .0) (at-set-word .set-word .ensures) (at-set-word2 .set-word2 .ensures)
 
 pub pop-spec : {M : Type 1} → statement M
 pop-spec =

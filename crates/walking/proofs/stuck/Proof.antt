@@ -10,7 +10,7 @@ step-back-requires : tie.Need-step-back-requires
 step-back-requires c κs =
     let branch = c .before in
     let start = branch .before .before .before in
-    (start .pre .0, start .pre .1, branch .if1 .taken, start .pre .2 (branch .if1 .taken))
+    (start .pre .0, start .pre .1, branch .if1 .taken, start .pre .3 (branch .if1 .taken))
 
 returns : tie.Need-returns
 returns c =
@@ -21,9 +21,20 @@ returns c =
 
 returns-2 : tie.Need-returns-2
 returns-2 c =
-    let branch = c .before .before in
+    let branch = c .before in
     let start = branch .before .before .before in
     sym (stuck-next (start .args .l) (start .args .s .now) (start .args .w) (omega (arith, branch .if1 .left)))
 
 pub stuck-spec : {M : Type 1} → statement M
-stuck-spec = tie.close (tie.spec step-back-requires (λ c. search needs) returns (λ c. search needs) (λ c. search needs) returns-2)
+stuck-spec =
+    tie.close
+    (tie.spec
+    step-back-requires
+    (λ c. search needs)
+    returns
+    (λ c. search needs)
+    (λ c. search needs)
+    (λ c. search needs)
+    (λ c. search needs)
+    (λ c. search needs)
+    returns-2)

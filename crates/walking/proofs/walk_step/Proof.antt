@@ -18,14 +18,14 @@ word-at-requires : tie.Need-word-at-requires
 word-at-requires c κs =
     let branch = c .before .before .before .before in
     let start = branch .before .before .before in
-    start .pre .2 (omega (arith, branch .if1 .left)) .here
+    start .pre .3 (omega (arith, branch .if1 .left)) .here
 
 stuck-requires : tie.Need-stuck-requires
 stuck-requires c κs =
     let branch = c .before .before .before .before .before .before .before in
     let start = branch .before .before .before in
     let pre = start .pre in
-    (pre .0, pre .1, pre .2 (omega (arith, branch .if1 .left)) .backs)
+    (pre .0, pre .1, omega (arith, pre .2, branch .if1 .left), pre .3 (omega (arith, branch .if1 .left)) .backs)
 
 returns-2 : tie.Need-returns-2
 returns-2 c =
@@ -36,7 +36,7 @@ returns-2 c =
     let start = branch .before .before .before in
     let a = start .args in
     let s = a .s .now in
-    let n : a .w .next < a .parties = omega (arith, branch .if1 .left) in
+    let n : a .w .next .0 < a .parties = omega (arith, branch .if1 .left) in
     at-stuck .stuck .ensures ∙ sym (step-stuck (a .l) (a .parties) s (a .w) n (sym (at-word-at .word-at .ensures .0) ∙ at-if2 .if2 .taken))
 
 take-requires : tie.Need-take-requires
@@ -51,7 +51,7 @@ take-requires c κs =
       pre .0,
       pre .1,
       at-word-at .word-at .ensures .1,
-      subst (Takes (a .l) (a .s .now) (a .w)) (sym e) (pre .2 (omega (arith, branch .if1 .left)) .takes (λ z. at-if2 .if2 .left (e ∙ z))),
+      subst (Takes (a .l) (a .s .now) (a .w)) (sym e) (pre .3 (omega (arith, branch .if1 .left)) .takes (λ z. at-if2 .if2 .left (e ∙ z))),
     )
 
 returns-3 : tie.Need-returns-3
@@ -63,14 +63,16 @@ returns-3 c =
     let start = branch .before .before .before in
     let a = start .args in
     let s = a .s .now in
-    let n : a .w .next < a .parties = omega (arith, branch .if1 .left) in
+    let n : a .w .next .0 < a .parties = omega (arith, branch .if1 .left) in
     at-take .take .ensures ∙ ap (takeM (a .l) s (a .w)) (at-word-at .word-at .ensures .0) ∙ sym (step-takes (a .l) (a .parties) s (a .w) n (λ z. at-if2 .if2 .left (at-word-at .word-at .ensures .0 ∙ z)))
 
 pub walk-step-spec : {M : Type 1} → statement M
 walk-step-spec =
     tie.close
     (tie.spec
+    (λ c. search needs)
     returns
+    (λ c. search needs)
     (λ c. search needs)
     (λ c. search needs)
     (λ c. search needs)
