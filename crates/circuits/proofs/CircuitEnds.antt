@@ -1,10 +1,10 @@
 -- At degree 2, half-edges by number: the half-edge 2·e stands at the first end of the pair number e, and 2·e + 1 at its
 -- second end. In a list of pairs in which every party has two ends or none, these form circuits. Assumes nothing.
-use Prim.Native.Nat.{ℕ, _+_, _*_, _-_, _/_, _%_, _≤_, _<_}
+use Prim.Native.Nat.{ℕ, _+_, _*_, _/_, _%_, _≤_, _<_}
 use mathlib.Core.Path.{_≡_, refl, sym, _∙_, ap}
 use mathlib.Core.Bool.{Bool, true, false}
 use mathlib.Core.List.{List, [], _∷_, _++_, map, reverse}
-use mathlib.Core.Logic.{_⊎_, inl, inr, ⊎-elim}
+use mathlib.Core.Logic.{inl, inr, ⊎-elim}
 use native.Mathlib.Omega.{arith}
 use native.Mathlib.Decide.{ℕ-discrete}
 use borrow.Author.Tests.{eq-eqb, ne-eqb}
@@ -42,10 +42,6 @@ as-two (x ∷ y ∷ z ∷ xs) e = absurd (omega arith)
 abbrev top : List Pair → List Pair
 top [] = []
 top (p ∷ ps) = p ∷ []
-
--- what all counted members are
-member : (xs : List ℕ) (x : ℕ) → count x xs ≡ 0 ⊎ (0 < count x xs)
-member xs x = elim (ℕ-discrete (count x xs) 0) [ yes e ↦ inl e | no n ↦ inr (omega arith) ]
 
 module _ (E flag : ℕ → ℕ) (es : List ℕ) where
   -- the pair number e of the rest

@@ -18,6 +18,7 @@ use Rattle.multigraph.specs.Regular.{between}
 use Rattle.multigraph.specs.Stored.{entry, entries}
 use Rattle.euler.proofs.Grounds.{entries-more, upto-entries, rest-places}
 use Rattle.multigraph.proofs.Ends.{between-same, between-self}
+use Rattle.multigraph.proofs.Spans.{not-joins}
 use Rattle.circuits.specs.declared.Two.{Two}
 use Rattle.euler.specs.Split.{add-halves, rest, add-pairs}
 use Rattle.circuits.proofs.CircuitEnds as Ends
@@ -25,7 +26,7 @@ use Rattle.circuits.proofs.CircuitFill as Fill
 use Rattle.circuits.proofs.CircuitHeld.{Held}
 use Rattle.circuits.proofs.CircuitFill.{Ground}
 use Rattle.euler.proofs.HalfLaws as Halves
-use Rattle.euler.proofs.HalfLaws.{not-joined, add-new, Apart-at, bigs, big-yes, big-no}
+use Rattle.euler.proofs.HalfLaws.{add-new, Apart-at, bigs, big-yes, big-no}
 use Rattle.euler.proofs.Places.{keep, descend}
 use Rattle.euler.proofs.Odds.{odds}
 
@@ -39,7 +40,7 @@ add-behind :
     (h : Graph) (a b n f : ℕ) → total (btw a b) h ≡ 0 → add-edge h a b n f ≡ h ++ (pair a b n f ∷ [])
 add-behind h a b n f z =
     add-new h a b n f
-    (all-map (λ p e. not-joined a b p (λ x. omega (arith, between-same a b (p .first) (p .second) x))) h (total-zero-all (btw a b) h z))
+    (all-map (λ p e. not-joins a b p (λ x. omega (arith, between-same a b (p .first) (p .second) x))) h (total-zero-all (btw a b) h z))
 
 -- where no two pairs have the same ends, all come behind
 pub add-pairs-behind :

@@ -1,20 +1,18 @@
 -- The laws of the models of the split of a graph of degree 2 that the functions' proofs cite. Assumes nothing.
 use Prim.Native.Nat.{ℕ, zero, suc, _+_, _*_, _-_, _/_, _%_, _≤_, _<_}
 use mathlib.Core.Path.{_≡_, sym, _∙_, ap, subst}
-use mathlib.Core.Bool.{Bool, true, false}
 use mathlib.Core.List.{List}
 use native.Mathlib.Omega.{arith}
 use native.Mathlib.Numerals.{add-one}
 use native.Mathlib.Decide.{decLt}
 use borrow.Author.Tests.{eq-eqb, ne-eqb, lt-ltb, le-ltb}
-use lib.Dec.{ltb}
 use lib.ListN.{length}
-use Rattle.words.specs.Basics.{pick}
 use Rattle.words.specs.Words.{word, put-word}
 use Rattle.words.proofs.Frames.{length-put}
 use Rattle.circuits.specs.declared.Two.{Two}
 use Rattle.circuits.specs.declared.Sifted.{Sifted}
 use Rattle.euler.specs.Entries.{manyM, headM}
+use Rattle.euler.proofs.EntryLaws.{many-le}
 use Rattle.circuits.specs.Model.{Told, Apart-so-far, pushOneM, twoStartM, twoSiftM, twoSiftAllM, twoNoteM, twoFillM, otherM, twoStepM, twoPairM, twoCircuitM, twoFromM, twoWalkM, twoFilledM, splitTwoM, copiesSumM, fewSumM}
 use Rattle.circuits.specs.Bounds.{Two-notes, Two-fills, Two-steps, Two-circuits, Two-froms, Two-walks, Two-splits}
 
@@ -45,11 +43,7 @@ two-sift-so l s n i ee ec et eu ew em = rw (em, ew, eu, et, ec, ee)
 -- each count grows by at most 1
 pub two-sift-even : (l : Two) (t : Apart-so-far) (i : ℕ) → twoSiftM l t i .sifted .even ≤ t .sifted .even + 1
 unfolding twoSiftM
-two-sift-even l t i = omega (arith, less (ltb (word (t .words) (l .g + 3 + 2 * i)) 2))
-  where
-    less : (b : Bool) → pick b 0 1 ≤ 1
-    less true = omega arith
-    less false = omega arith
+two-sift-even l t i = omega (arith, many-le (word (t .words) (l .g + 3 + 2 * i)))
 
 pub two-sift-odd : (l : Two) (t : Apart-so-far) (i : ℕ) → twoSiftM l t i .sifted .odd ≤ t .sifted .odd + 1
 unfolding twoSiftM

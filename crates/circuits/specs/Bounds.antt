@@ -1,4 +1,4 @@
--- What the functions of circuits.rt, the split of a graph of degree 2, ask of the words: that each place they touch is one.
+-- What the functions of circuits, the split of a graph of degree 2, ask of the words: that each place they touch is one.
 -- Assumes nothing.
 use Prim.Native.Nat.{ℕ, zero, suc, _+_, _*_, _-_, _/_, _<_, _≤_}
 use mathlib.Core.Path.{_≡_}

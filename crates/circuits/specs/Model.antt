@@ -1,5 +1,5 @@
--- The functions of circuits.rt, the split of a graph of degree 2, on the list of words, each with the same steps in the same
--- order. Assumes nothing.
+-- The functions of circuits, the split of a graph of degree 2, on the list of words, each with the same steps in the same order.
+-- Assumes nothing.
 use Prim.Native.Nat.{ℕ, zero, suc, _+_, _*_, _-_, _/_, _%_, _<_}
 use mathlib.Core.List.{List}
 use lib.Dec.{eqb, ltb}

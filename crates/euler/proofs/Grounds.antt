@@ -16,6 +16,7 @@ use Rattle.multigraph.specs.Multigraph.{Pair, pair, Graph, with-copies}
 use Rattle.multigraph.specs.Regular.{weigh, names, degree, between, pairs-between, Apart, Across, Regular, Same-ends}
 use Rattle.multigraph.specs.Stored.{entry, entries, graph-at}
 use Rattle.multigraph.proofs.Ends.{same-ends-sym, between-same, between-cases, between-self}
+use Rattle.multigraph.proofs.Spans.{not-joins}
 use Rattle.euler.specs.Split.{rest}
 use Rattle.euler.specs.Room.{Splits}
 use Rattle.euler.proofs.Taken.{ends}
@@ -23,7 +24,7 @@ use Rattle.euler.proofs.Trail.{aslant}
 use Rattle.euler.proofs.EulerLaws.{beyond, none-aslant}
 use Rattle.euler.proofs.Places.{keep, descend, Falling}
 use Rattle.euler.proofs.Odds.{Ends-fit, odds, odds-below, odds-falling, odd-places}
-use Rattle.euler.proofs.HalfLaws.{not-joined, Apart-at, upto}
+use Rattle.euler.proofs.HalfLaws.{Apart-at, upto}
 use Rattle.euler.proofs.StoredGraphs.{entries-snoc}
 use Rattle.euler.proofs.SplitLaws.{rest-even}
 use Rattle.euler.proofs.Dealing.{rest-append}
@@ -202,7 +203,7 @@ module _ {s : List ℕ} {u table graph n width : ℕ} (q : Splits s u table grap
       ]
 
   pub apart-at : (pairs : ℕ) → Apart-at (λ i. entry s table pairs graph i) m
-  apart-at pairs i j c b e n = not-joined (F i) (S i) (with-copies c (entry s table pairs graph j)) (not-same i j b e n)
+  apart-at pairs i j c b e n = not-joins (F i) (S i) (with-copies c (entry s table pairs graph j)) (not-same i j b e n)
 
   -- the ends of every entry are two parties
   pub ends-fit : Ends-fit N m F S

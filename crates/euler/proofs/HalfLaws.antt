@@ -14,21 +14,12 @@ use lib.ListN.{length, length-append}
 use Rattle.words.specs.Basics.{pick, is, count, All, sum-below}
 use Rattle.words.proofs.Sums.{is-eq, is-ne, count-append, all-append, sum-below-count, sum-below-le, sum-below-add, sum-below-const}
 use Rattle.multigraph.specs.Multigraph.{Pair, pair, Graph, joins, add-edge, with-copies}
-use Rattle.multigraph.specs.Regular.{Same-ends}
-use Rattle.multigraph.proofs.Ends.{joins-true, true-joins}
+use Rattle.multigraph.proofs.Ends.{true-joins}
 use Rattle.euler.specs.Split.{add-halves, add-pairs}
 use Rattle.euler.proofs.Places.{keep, keep-yes, keep-no, keep-append, keep-all}
 use Rattle.euler.proofs.Dealing.{halves-append}
 
 -- ── adding to a graph whose front doesn't have the pair ──
-
--- a pair with other ends is not joined
-pub not-joined : (a b : ℕ) (p : Pair) → (Same-ends a b (p .first) (p .second) → ⊥) → joins a b p ≡ false
-not-joined a b p n = go (joins a b p) refl
-  where
-    go : (t : Bool) → joins a b p ≡ t → t ≡ false
-    go false e = refl
-    go true e = absurd (n (joins-true a b p e))
 
 -- pairs in front that are not joined stay
 pub add-past :

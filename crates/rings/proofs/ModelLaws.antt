@@ -15,6 +15,14 @@ pub start-more : (l : Rings) (v : ℕ) (s : List ℕ) → startM l (v + 1) s ≡
 unfolding startM
 start-more l v s = rw add-one
 
+-- a half-edge appended, from what the calls give
+pub append-so :
+    (l : Rings) (s : List ℕ) (v x : ℕ) {p : ℕ} {t u w y : List ℕ} → p ≡ word s (l .b + 2 * (l .top + v) + 1) →
+    t ≡ put-word s (l .b + 2 * p) x → u ≡ put-word t (l .b + 2 * x + 1) p → w ≡ put-word u (l .b + 2 * x) (l .top + v) →
+    y ≡ put-word w (l .b + 2 * (l .top + v) + 1) x → y ≡ appendM l s v x
+unfolding appendM
+append-so l s v x ep et eu ew ey = rw (ey, ew, eu, et, ep)
+
 -- an entry sifted, from what the calls give
 pub sift-so :
     (l : Rings) (s : List ℕ) (i odd : ℕ) {c : ℕ} {t u : List ℕ} {r : ℕ} → c ≡ copiesM l s i → t ≡ put-word s (l .b + 8 * i + 2) 0 →

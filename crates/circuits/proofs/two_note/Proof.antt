@@ -9,7 +9,6 @@ use borrow.Author.Needs.{needs}
 use Rattle.circuits.proofs.two_note.Statement.{statement}
 use Rattle.circuits.proofs.two_note.Tie as tie
 
--- src/circuits.rt:87:9
 word-at-requires-2 : tie.Need-word-at-requires-2
 word-at-requires-2 c κs =
     let at-end-of = c .before .before .before in
@@ -18,7 +17,6 @@ word-at-requires-2 c κs =
     let a = start .args in
     two-note-party (at-word-at .word-at .ensures .0) (at-end-of .end-of .ensures) (start .pre .3)
 
--- src/circuits.rt:88:5
 set-word-requires : tie.Need-set-word-requires
 set-word-requires c κs =
     let at-end-of = c .before .before .before .before .before .before in
@@ -27,7 +25,6 @@ set-word-requires c κs =
     let a = start .args in
     omega (arith, two-note-party (at-word-at .word-at .ensures .0) (at-end-of .end-of .ensures) (start .pre .3))
 
--- src/circuits.rt:89:5
 set-word-requires-2 : tie.Need-set-word-requires-2
 set-word-requires-2 c κs =
     let at-set-word = c .before .before .before .before in
@@ -39,7 +36,6 @@ set-word-requires-2 c κs =
     ap length (at-set-word .set-word .ensures) ∙ length-put (a .s .now) (a .l .b + 2 * at-end-of .end-of .result .0) (2 * at-word-at .word-at .result + a .side + 1) in
     omega (arith, len, two-note-party (at-word-at .word-at .ensures .0) (at-end-of .end-of .ensures) (start .pre .3))
 
--- src/circuits.rt:79:1
 returns : tie.Need-returns
 returns c =
     let at-set-word2 = c .before .before in

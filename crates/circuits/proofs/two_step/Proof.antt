@@ -5,7 +5,6 @@ use borrow.Author.Needs.{needs}
 use Rattle.circuits.proofs.two_step.Statement.{statement}
 use Rattle.circuits.proofs.two_step.Tie as tie
 
--- src/circuits.rt:113:9
 word-at-requires : tie.Need-word-at-requires
 word-at-requires c κs =
     let at-end-of = c .before .before .before in
@@ -14,7 +13,6 @@ word-at-requires c κs =
     let a = start .args in
     two-step-party (at-push .push .ensures) (at-end-of .end-of .ensures) (start .pre .4)
 
--- src/circuits.rt:114:5
 set-word-requires : tie.Need-set-word-requires
 set-word-requires c κs =
     let at-end-of = c .before .before .before .before .before .before in
@@ -23,7 +21,6 @@ set-word-requires c κs =
     let a = start .args in
     omega (arith, two-step-party (at-push .push .ensures) (at-end-of .end-of .ensures) (start .pre .4))
 
--- src/circuits.rt:105:1
 returns : tie.Need-returns
 returns c =
     let at-set-word = c .before .before in

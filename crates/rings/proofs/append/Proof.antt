@@ -5,7 +5,7 @@ use mathlib.Core.Path.{_≡_, _∙_, ap}
 use lib.ListN.{length}
 use Rattle.words.proofs.Frames.{length-put}
 use native.Mathlib.Omega.{arith}
-use Rattle.rings.specs.Model.{appendM}
+use Rattle.rings.proofs.ModelLaws.{append-so}
 use borrow.Author.Needs.{needs}
 use Rattle.rings.proofs.append.Statement.{statement}
 use Rattle.rings.proofs.append.Tie as tie
@@ -44,8 +44,16 @@ set-word-requires-4 c κs =
     omega (arith, start .pre .2 .own, e₁, e₂, e₃)
 
 returns : tie.Need-returns
-unfolding appendM
-returns c = cc
+returns c =
+    let at-set-word4 = c .before .before in
+    let at-set-word3 = at-set-word4 .before .before .before .before .before in
+    let at-set-word2 = at-set-word3 .before .before .before .before .before in
+    let at-set-word = at-set-word2 .before .before .before .before .before in
+    let at-word-at = at-set-word .before .before .before in
+    let start = at-word-at .before .before .before .before .before .before in
+    let a = start .args in
+    append-so (a .l) (a .s .now) (a .w .0) (a .x) (at-word-at .word-at .ensures .0) (at-set-word .set-word .ensures)
+    (at-set-word2 .set-word2 .ensures) (at-set-word3 .set-word3 .ensures) (at-set-word4 .set-word4 .ensures)
 
 pub append-spec : {M : Type 1} → statement M
 append-spec =
