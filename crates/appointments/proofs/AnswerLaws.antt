@@ -8,6 +8,19 @@ use Rattle.appointments.specs.Checks.{Check}
 use Rattle.appointments.specs.Answers.{Answer, accepted, refused, answer, after}
 
 module _ {F : Type 0} where
+  -- no answer accepts and refuses; figures, number and place are those of the answer
+  pub accepted-refused {ℓ} : {X : Type ℓ} (f : F) (n i : ℕ) → accepted f ≡ refused n i → X
+  accepted-refused f n i e = let z : _≡_ {A = ℕ} 0 1 = cc in absurd (omega arith)
+
+  pub accepted-same : (f g : F) → accepted f ≡ accepted g → f ≡ g
+  accepted-same f g e = cc
+
+  pub refused-number : (n i k j : ℕ) → _≡_ {A = Answer F} (refused n i) (refused k j) → n ≡ k
+  refused-number n i k j e = cc
+
+  pub refused-place : (n i k j : ℕ) → _≡_ {A = Answer F} (refused n i) (refused k j) → i ≡ j
+  refused-place n i k j e = cc
+
   -- an accepted answer: the checks passed, and the figures are the call's
   pub accepted-passed : (c : Check) (f g : F) → answer c f ≡ accepted g → (c ≡ Check.passed) × (f ≡ g)
   accepted-passed Check.passed f g e = (refl, (cc))

@@ -15,7 +15,7 @@ use Rattle.words.specs.Basics.{count}
 use Rattle.words.specs.Words.{word}
 use Rattle.words.proofs.Sums.{count-le}
 use Rattle.appointments.specs.Appointments.{Appt, appt, appts, load, largest-load, scratch-words}
-use Rattle.appointments.specs.Checks.{First, at, nowhere, first-from, has-blank, has-unlisted, Check, passed, refused, bar, bar-at, check-slots, checks-1-to-5, checks-1-to-6, checks, check-ends}
+use Rattle.appointments.specs.Checks.{First, at, nowhere, first-from, has-blank, has-unlisted, Check, passed, refused, bar, bar-at, check-slots, checks-1-to-5, checks-1-to-6, checks-1-to-8, checks, check-ends}
 use Rattle.appointments.specs.Answers.{accepted}
 use Rattle.appointments.specs.Answers as answers
 use Rattle.appointments.specs.Needed.{needing, needs-answer, needed-of, scratch-enough}
@@ -177,11 +177,11 @@ module _ (P : ℕ) (list : List ℕ) (slots scratch : ℕ) where
   checks-7-and-8 = check-slots slots (length (appts list)) (bar (ltb scratch (scratch-words P (largest-load P (appts list)))) 8 passed)
 
   pub all-refused : (n i : ℕ) → checks-1-to-6 P list passed ≡ refused n i → checks P list slots scratch ≡ refused n i
-  unfolding checks
+  unfolding checks-1-to-8
   all-refused n i h = refused-sized P list checks-7-and-8 n i h
 
   pub all-go-on : checks-1-to-6 P list passed ≡ passed → checks P list slots scratch ≡ checks-7-and-8
-  unfolding checks
+  unfolding checks-1-to-8
   all-go-on h = let c = passed-sized P list passed h in sized-goes-on P list checks-7-and-8 (c .0) (c .1)
 
   module _ (D : ℕ) (e : D ≡ largest-load P (appts list)) (ok : checks-1-to-6 P list passed ≡ passed) where

@@ -11,7 +11,7 @@ use lib.ListN.{length}
 use Rattle.words.specs.Basics.{All}
 use Rattle.words.proofs.Sums.{all-map}
 use Rattle.appointments.specs.Appointments.{appts, largest-load, scratch-words}
-use Rattle.appointments.specs.Checks.{First, at, nowhere, first-from, has-blank, has-unlisted, Check, passed, refused, bar, bar-at, checks-1-to-5, checks-1-to-6, checks}
+use Rattle.appointments.specs.Checks.{First, at, nowhere, first-from, has-blank, has-unlisted, Check, passed, refused, bar, bar-at, checks-1-to-5, checks-1-to-6, checks-1-to-8, checks}
 use Rattle.appointments.proofs.Loads.{Listed}
 use Rattle.appointments.proofs.FirstFrom.{First-at, nowhere-all, all-nowhere, found-is-first, first-is-found}
 use Rattle.appointments.proofs.ChecksLaws.{Filled, Good-list, filled-test, test-filled, test-listed, even-test, test-even, good-goes-on, refused-passed}
@@ -30,21 +30,22 @@ pub data Cause (P : ℕ) (list : List ℕ) (slots scratch : ℕ) : ℕ → ℕ �
 -- ── from the cause to the refusal ──
 
 module _ (P : ℕ) (list : List ℕ) (slots scratch : ℕ) where
-  -- Each cause gives its number and place.
-  pub cause-refused : {n i : ℕ} → Cause P list slots scratch n i → checks P list slots scratch ≡ refused n i
-  unfolding checks checks-1-to-6 checks-1-to-5
-  cause-refused (many-parties h) = rw (lt-ltb 1024 P h)
-  cause-refused (odd-length p h) = rw (le-ltb 1024 P p, eq-eqb (length list % 2) 1 h)
-  cause-refused (many-appts p e h) =
+  -- Each cause gives its number and place, whatever comes after checks 1 to 8.
+  pub cause-refused :
+      {n i : ℕ} (next : Check) → Cause P list slots scratch n i → checks-1-to-8 P list slots scratch next ≡ refused n i
+  unfolding checks-1-to-8 checks-1-to-6 checks-1-to-5
+  cause-refused next (many-parties h) = rw (lt-ltb 1024 P h)
+  cause-refused next (odd-length p h) = rw (le-ltb 1024 P p, eq-eqb (length list % 2) 1 h)
+  cause-refused next (many-appts p e h) =
       rw (le-ltb 1024 P p, even-test (length list) e, lt-ltb 4096 (length (appts list)) h)
-  cause-refused (blank-end {i} p e a h) =
+  cause-refused next (blank-end {i} p e a h) =
       rw (
         le-ltb 1024 P p,
         even-test (length list) e,
         le-ltb 4096 (length (appts list)) a,
         first-is-found has-blank (appts list) i h,
       )
-  cause-refused (unlisted-end {i} p e a f h) =
+  cause-refused next (unlisted-end {i} p e a f h) =
       rw (
         le-ltb 1024 P p,
         even-test (length list) e,
@@ -52,11 +53,11 @@ module _ (P : ℕ) (list : List ℕ) (slots scratch : ℕ) where
         all-nowhere 0 has-blank (appts list) (all-map filled-test (appts list) f),
         first-is-found (has-unlisted P) (appts list) i h,
       )
-  cause-refused (large-product g h) = rw (lt-ltb 8192 (largest-load P (appts list) * P) h) (good-goes-on P list (refused 6 0) g)
-  cause-refused (few-slots g p h) =
+  cause-refused next (large-product g h) = rw (lt-ltb 8192 (largest-load P (appts list) * P) h) (good-goes-on P list (refused 6 0) g)
+  cause-refused next (few-slots g p h) =
       rw (le-ltb 8192 (largest-load P (appts list) * P) p, lt-ltb slots (length (appts list)) h)
       (good-goes-on P list (refused 7 0) g)
-  cause-refused (small-scratch g p r h) =
+  cause-refused next (small-scratch g p r h) =
       rw (
         le-ltb 8192 (largest-load P (appts list) * P) p,
         le-ltb slots (length (appts list)) r,
@@ -99,7 +100,7 @@ module _ (P : ℕ) (list : List ℕ) (slots scratch n i : ℕ) where
 
   -- A refusal has the cause that its number and place name.
   pub refused-cause : checks P list slots scratch ≡ refused n i → Cause P list slots scratch n i
-  unfolding checks checks-1-to-6 checks-1-to-5
+  unfolding checks-1-to-8 checks-1-to-6 checks-1-to-5
   refused-cause =
       let C : ℕ → ℕ → Type 0 = Cause P list slots scratch in
       let A : ℕ = length (appts list) in
@@ -116,6 +117,13 @@ module _ (P : ℕ) (list : List ℕ) (slots scratch n i : ℕ) where
       (λ j t. unlisted-end p e a f (found-is-first (has-unlisted P) (appts list) j t)) λ t₅.
       let l : All (Listed P) (appts list) = all-map (test-listed P) (appts list) (nowhere-all 0 (has-unlisted P) (appts list) t₅) in
       late-cause (record { parties = p; even = e; few = a; filled = f; listed = l })
+
+-- A refusal of checks 1 to 8 stays, whatever comes after them.
+pub refused-stays :
+    (P : ℕ) (list : List ℕ) (slots scratch : ℕ) (next : Check) (n i : ℕ) → checks P list slots scratch ≡ refused n i →
+    checks-1-to-8 P list slots scratch next ≡ refused n i
+refused-stays P list slots scratch next n i e =
+    cause-refused P list slots scratch next (refused-cause P list slots scratch n i e)
 
 -- Checks 1 to 8 refuse with their own numbers, and their places are 0 or lie in a list of at most 4,096 appointments.
 pub cause-number : {P : ℕ} {list : List ℕ} {slots scratch n i : ℕ} → Cause P list slots scratch n i → (0 < n) × (n ≤ 8) × (i ≤ 4096)

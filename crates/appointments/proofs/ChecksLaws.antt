@@ -11,7 +11,7 @@ use Rattle.words.specs.Basics.{All}
 use Rattle.words.proofs.Bools.{neither, both-false}
 use Rattle.words.proofs.Sums.{all-map}
 use Rattle.appointments.specs.Appointments.{Appt, appts, largest-load, scratch-words}
-use Rattle.appointments.specs.Checks.{blank, First, at, nowhere, first-from, has-blank, has-unlisted, Check, passed, refused, bar, bar-at, checks-1-to-5, checks-1-to-6, checks}
+use Rattle.appointments.specs.Checks.{blank, First, at, nowhere, first-from, has-blank, has-unlisted, Check, passed, refused, bar, bar-at, checks-1-to-5, checks-1-to-6, checks-1-to-8, checks}
 use Rattle.appointments.proofs.Loads.{Listed, appts-length}
 use Rattle.appointments.proofs.FirstFrom.{nowhere-all, all-nowhere}
 
@@ -84,15 +84,21 @@ pub sized-goes-on : (P : ℕ) (list : List ℕ) (next : Check) → Good-list P l
 unfolding checks-1-to-6
 sized-goes-on P list next g h = rw (le-ltb 8192 (largest-load P (appts list) * P) h) (good-goes-on P list next g)
 
--- Whoever has the eight properties passes.
-pub passes-passed : (P : ℕ) (list : List ℕ) (slots scratch : ℕ) → Passes P list slots scratch → checks P list slots scratch ≡ passed
-unfolding checks
-passes-passed P list slots scratch p =
+-- Whoever has the eight properties passes on to what comes next,
+pub passes-on :
+    (P : ℕ) (list : List ℕ) (slots scratch : ℕ) (next : Check) → Passes P list slots scratch →
+    checks-1-to-8 P list slots scratch next ≡ next
+unfolding checks-1-to-8
+passes-on P list slots scratch next p =
     rw (
       le-ltb slots (length (appts list)) (p .slot-room),
       le-ltb scratch (scratch-words P (largest-load P (appts list))) (p .scratch-room),
     )
-    (sized-goes-on P list passed (p .good) (p .product))
+    (sized-goes-on P list next (p .good) (p .product))
+
+-- and passes if nothing does.
+pub passes-passed : (P : ℕ) (list : List ℕ) (slots scratch : ℕ) → Passes P list slots scratch → checks P list slots scratch ≡ passed
+passes-passed P list slots scratch p = passes-on P list slots scratch passed p
 
 -- ── one check ──
 
@@ -137,17 +143,39 @@ passed-sized P list next e =
     let c₆ = bar-passed (ltb 8192 (D * P)) 6 next (c₅ .1) in
     (c₅ .0, ltb-false 8192 (D * P) (c₆ .0), c₆ .1)
 
--- Whoever passes has the eight properties.
-pub passed-passes : (P : ℕ) (list : List ℕ) (slots scratch : ℕ) → checks P list slots scratch ≡ passed → Passes P list slots scratch
-unfolding checks
-passed-passes P list slots scratch e =
+-- Whoever passes, with what comes next, has the eight properties, and what comes next passes too.
+pub passed-all :
+    (P : ℕ) (list : List ℕ) (slots scratch : ℕ) (next : Check) → checks-1-to-8 P list slots scratch next ≡ passed →
+    Passes P list slots scratch × (next ≡ passed)
+unfolding checks-1-to-8
+passed-all P list slots scratch next e =
     let D : ℕ = largest-load P (appts list) in
     let c₆ = passed-sized P list _ e in
     let c₇ = bar-passed (ltb slots (length (appts list))) 7 _ (c₆ .2) in
-    let c₈ = bar-passed (ltb scratch (scratch-words P D)) 8 passed (c₇ .1) in
-    record {
-      good = c₆ .0;
-      product = c₆ .1;
-      slot-room = ltb-false slots (length (appts list)) (c₇ .0);
-      scratch-room = ltb-false scratch (scratch-words P D) (c₈ .0);
-    }
+    let c₈ = bar-passed (ltb scratch (scratch-words P D)) 8 next (c₇ .1) in (
+      record {
+        good = c₆ .0;
+        product = c₆ .1;
+        slot-room = ltb-false slots (length (appts list)) (c₇ .0);
+        scratch-room = ltb-false scratch (scratch-words P D) (c₈ .0);
+      },
+      c₈ .1,
+    )
+
+pub passed-passes : (P : ℕ) (list : List ℕ) (slots scratch : ℕ) → checks P list slots scratch ≡ passed → Passes P list slots scratch
+passed-passes P list slots scratch e = passed-all P list slots scratch passed e .0
+
+-- ── checks that go on ──
+--
+-- For a call that asks more than checks 1 to 8. Where they refuse, `refused-stays` (Causes.antt) has it.
+
+module _ (P : ℕ) (list : List ℕ) (slots scratch : ℕ) (next : Check) where
+  -- where they pass, what comes next decides;
+  pub passed-goes-on : checks P list slots scratch ≡ passed → checks-1-to-8 P list slots scratch next ≡ next
+  passed-goes-on e = passes-on P list slots scratch next (passed-passes P list slots scratch e)
+
+  -- where all pass, they do and what comes next does.
+  pub passed-both : checks-1-to-8 P list slots scratch next ≡ passed → (checks P list slots scratch ≡ passed) × (next ≡ passed)
+  passed-both e =
+      let p = passed-all P list slots scratch next e in
+      (passes-passed P list slots scratch (p .0), p .1)

@@ -55,5 +55,5 @@ exact P list D W slots scratch e room =
     let c = passed-sized P list passed (k .0) in
     record {
       passes = λ h. passes-passed P list slots scratch (record { good = c .0; product = c .1; slot-room = room; scratch-room = rw (k .2) h });
-      refuses = λ h. cause-refused P list slots scratch (small-scratch (c .0) (c .1) room (rw (k .2) h));
+      refuses = λ h. cause-refused P list slots scratch passed (small-scratch (c .0) (c .1) room (rw (k .2) h));
     }

@@ -9,3 +9,4 @@ pub mod Enough
 pub mod Flat
 pub mod Answering
 pub mod AnswerLaws
+pub mod LentLaws

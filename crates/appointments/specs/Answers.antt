@@ -40,6 +40,11 @@ figure-of = figure (λ n. n)
 abbrev pub over : List ℕ → List ℕ → List ℕ
 over new buffer = new ++ drop (length new) buffer
 
+-- a lent buffer once checks are decided: if all pass, its first entries are the new ones and the others stay; else all stay
+abbrev pub once : Check → List ℕ → List ℕ → List ℕ
+once Check.passed new buffer = over new buffer
+once (Check.refused number place) new buffer = buffer
+
 -- A lent buffer after the call: if it accepted, its first entries are the new ones and the others stay; else all stay.
 abbrev pub after : {F : Type 0} → Answer F → List ℕ → List ℕ → List ℕ
 after (accepted figures) new buffer = over new buffer

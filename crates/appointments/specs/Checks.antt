@@ -79,10 +79,14 @@ checks-1-to-5 P list next =
 unfoldable pub checks-1-to-6 : ℕ → List ℕ → Check → Check
 checks-1-to-6 P list next = checks-1-to-5 P list (bar (ltb 8192 (largest-load P (appts list) * P)) 6 next)
 
--- Checks 1 to 8, of P, the list and the lengths of the slot buffer and of scratch.
-unfoldable pub checks : ℕ → List ℕ → ℕ → ℕ → Check
-checks P list slots scratch =
+-- Checks 1 to 8, of P, the list and the lengths of the slot buffer and of scratch. A call that asks more goes on with it.
+unfoldable pub checks-1-to-8 : ℕ → List ℕ → ℕ → ℕ → Check → Check
+checks-1-to-8 P list slots scratch next =
     checks-1-to-6 P list
     (check-slots slots (length (appts list))
     (bar (ltb scratch (scratch-words P (largest-load P (appts list)))) 8
-    passed))
+    next))
+
+-- Checks 1 to 8 and no others.
+abbrev pub checks : ℕ → List ℕ → ℕ → ℕ → Check
+checks P list slots scratch = checks-1-to-8 P list slots scratch passed

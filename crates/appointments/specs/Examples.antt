@@ -1,11 +1,12 @@
 -- Worked examples, each by computing: loads, D, W, the number of slots, meets, and the checks and how much scratch a list
 -- needs at their limits. Assumes nothing.
 use Prim.Native.Nat.{ℕ, zero, suc}
+use mathlib.Core.Bool.{true}
 use mathlib.Core.Path.{_≡_, refl}
 use mathlib.Core.List.{List, [], _∷_}
 use Rattle.appointments.specs.Appointments.{appts, load, largest-load, scratch-words}
 use Rattle.appointments.specs.Plans.{different, meets}
-use Rattle.appointments.specs.Checks.{passed, refused, checks}
+use Rattle.appointments.specs.Checks.{passed, refused, bar, checks-1-to-8, checks}
 use Rattle.appointments.specs.Answers.{Answer, accepted, number-of, place-of}
 use Rattle.appointments.specs.Answers as answers
 use Rattle.appointments.specs.Needed.{Needs, needing, needs-answer, d-of, words-of, scratch-enough}
@@ -111,6 +112,15 @@ scratch-384 = refl
 pub scratch-383 : checks 1 (0 ∷ 0 ∷ []) 1 383 ≡ refused 8 0
 unfolding computing
 scratch-383 = refl
+
+-- a later check is asked once these have passed, and a refusal of theirs stays
+pub goes-on-with-18 : checks-1-to-8 1 (0 ∷ 0 ∷ []) 1 384 (bar true 18 passed) ≡ refused 18 0
+unfolding computing
+goes-on-with-18 = refl
+
+pub stays-8 : checks-1-to-8 1 (0 ∷ 0 ∷ []) 1 383 (bar true 18 passed) ≡ refused 8 0
+unfolding computing
+stays-8 = refl
 
 -- ── how much scratch a list needs ──
 

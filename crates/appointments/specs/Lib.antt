@@ -4,6 +4,7 @@ pub mod TwoSides
 pub mod Plans
 pub mod Checks
 pub mod Answers
+pub mod Lent
 pub mod Needed
 pub mod Checked
 pub mod Computing
