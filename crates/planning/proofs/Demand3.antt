@@ -9,27 +9,15 @@ use mathlib.Core.List.{List, _++_}
 use native.Mathlib.Omega.{arith}
 use lib.ListN.{length, take, drop}
 use lib.Seq.{take-at}
-use Rattle.appointments.specs.Appointments.{appts, largest-load}
-use Rattle.appointments.specs.Checks.{passed, refused, checks}
+use Rattle.appointments.specs.Checks.{Check, passed}
+use Rattle.appointments.specs.Answers.{Answer, accepted, refused}
+use Rattle.appointments.specs.Lent.{Lent, lent-appts, lent-d, lent-checks}
 use Rattle.appointments.proofs.ChecksLaws.{refused-passed}
-use Rattle.appointments.proofs.Causes.{refused-cause, cause-number}
-use Rattle.planning.specs.Planning.{plan, planned, refusal, plan-answer, plan-slots}
+use Rattle.appointments.proofs.AnswerLaws.{accepted-refused, accepted-same, refused-number, refused-place}
+use Rattle.appointments.proofs.LentLaws.{lent-number}
+use Rattle.planning.specs.Planning.{plan-answer, plan-slots}
 use Rattle.planning.specs.Demand3.{Shortest-plan, Demand-3}
-use Rattle.planning.proofs.Outcomes.{shortest-plan, Found-plan, No-plan, Came, barred, found, odd, came}
-
--- ── answers ──
-
-pub planned-refusal {ℓ} : {X : Type ℓ} (D n i : ℕ) → planned D ≡ refusal n i → X
-planned-refusal D n i e = let z : _≡_ {A = ℕ} 0 1 = cc in absurd (omega arith)
-
-pub planned-same : (D E : ℕ) → planned D ≡ planned E → D ≡ E
-planned-same D E e = cc
-
-pub refusal-number : (n i k j : ℕ) → refusal n i ≡ refusal k j → n ≡ k
-refusal-number n i k j e = cc
-
-pub refusal-place : (n i k j : ℕ) → refusal n i ≡ refusal k j → i ≡ j
-refusal-place n i k j e = cc
+use Rattle.planning.proofs.Outcomes.{shortest-plan, Found-plan, No-plan, Came, barred, found, odd, came, barred-answer, found-answer, odd-answer, found-slots}
 
 -- A refusal's number is one of document 01's table, and its place is 0 or lies in a list of at most 4,096 appointments.
 pub record Small-refusal (n i : ℕ) : Type 0 where
@@ -37,93 +25,82 @@ pub record Small-refusal (n i : ℕ) : Type 0 where
   pub number : n ≤ 9
   pub place : i ≤ 4096
 
--- ── the three cases ──
+module _ (l : Lent) where
+  -- ── the three cases ──
 
-module _ (P : ℕ) (list : List ℕ) (slots scratch : ℕ) where
   -- a check refuses
-  refused-demand :
-      (n i : ℕ) → checks P list slots scratch ≡ refused n i → (after : List ℕ) →
-      Demand-3 P list slots scratch (refusal n i) after
-  refused-demand n i e after =
+  refused-demand : (n i : ℕ) → lent-checks l passed ≡ Check.refused n i → (slots : List ℕ) → Demand-3 l (refused n i) slots
+  refused-demand n i e slots =
       record {
-        nine = λ place q. absurd (omega (arith, cause-number (refused-cause P list slots scratch n i e) .1, refusal-number n i 9 place q));
+        nine = λ place q. absurd (omega (arith, lent-number l n i e .1, refused-number n i 9 place q));
         nine-only = λ q odd. refused-passed n i (sym e ∙ q);
-        accepted = λ q even. refused-passed n i (sym e ∙ q);
-        only-passed = λ D q. planned-refusal D n i (sym q);
-        plan = λ D q. planned-refusal D n i (sym q);
+        accepts = λ q even. refused-passed n i (sym e ∙ q);
+        only-passed = λ D q. accepted-refused D n i (sym q);
+        plan = λ D q. accepted-refused D n i (sym q);
       }
 
-  module _ (e : checks P list slots scratch ≡ passed) where
+  module _ (e : lent-checks l passed ≡ passed) where
     -- the list passes and is not bipartite
-    nine-demand : No-plan P (appts list) → (after : List ℕ) → Demand-3 P list slots scratch (refusal 9 0) after
-    nine-demand no-plan after =
+    nine-demand : No-plan (l .parties) (lent-appts l) → (slots : List ℕ) → Demand-3 l (refused 9 0) slots
+    nine-demand no-plan slots =
         record {
-          nine = λ place q. (sym (refusal-place 9 0 9 place q), e, no-plan .odd);
+          nine = λ place q. (sym (refused-place 9 0 9 place q), e, no-plan .odd);
           nine-only = λ q odd. refl;
-          accepted = λ q even. absurd (even (no-plan .odd));
+          accepts = λ q even. absurd (even (no-plan .odd));
           only-passed = λ D q. e;
-          plan = λ D q. planned-refusal D 9 0 (sym q);
+          plan = λ D q. accepted-refused D 9 0 (sym q);
         }
 
     -- the list passes and gets a plan
     plan-demand :
-        (f : Found-plan P (appts list)) (rest : List ℕ) →
-        Demand-3 P list slots scratch (planned (largest-load P (appts list))) (f .slots ++ rest)
+        (f : Found-plan (l .parties) (lent-appts l)) (rest : List ℕ) → Demand-3 l (accepted (lent-d l)) (f .slots ++ rest)
     plan-demand f rest =
         record {
-          nine = λ place q. planned-refusal (largest-load P (appts list)) 9 place q;
+          nine = λ place q. accepted-refused (lent-d l) 9 place q;
           nine-only = λ q odd. absurd (f .none-odd odd);
-          accepted = λ q even. refl;
+          accepts = λ q even. refl;
           only-passed = λ D q. e;
           plan = shortest;
         }
       where
-        first : take (length (appts list)) (f .slots ++ rest) ≡ f .slots
-        first = take-at (f .slots) rest (length (appts list)) (f .proper .plan-of)
+        first : take (length (lent-appts l)) (f .slots ++ rest) ≡ f .slots
+        first = take-at (f .slots) rest (length (lent-appts l)) (f .proper .plan-of)
 
         shortest :
-            (D : ℕ) → planned (largest-load P (appts list)) ≡ planned D →
-            Shortest-plan P (appts list) D (take (length (appts list)) (f .slots ++ rest))
+            (D : ℕ) → _≡_ {A = Answer ℕ} (accepted (lent-d l)) (accepted D) →
+            Shortest-plan (l .parties) (lent-appts l) D (take (length (lent-appts l)) (f .slots ++ rest))
         shortest D q =
-            rw (first, ← planned-same (largest-load P (appts list)) D q)
-            (shortest-plan P (appts list) (f .slots) (f .proper))
+            rw (first, ← accepted-same (lent-d l) D q) (shortest-plan (l .parties) (lent-appts l) (f .slots) (f .proper))
 
--- ── the planning call ──
+  -- ── the planning call ──
 
-module _ (P : ℕ) (list slots scratch : List ℕ) where
   -- Demand 3, for every list and for all buffers.
-  pub demand-3 :
-      Demand-3 P list (length slots) (length scratch) (plan-answer P list slots scratch) (plan-slots P list slots scratch)
-  unfolding plan-answer plan-slots
-  demand-3 = go (came P list (length slots) (length scratch))
+  pub demand-3 : Demand-3 l (plan-answer l) (plan-slots l)
+  demand-3 = go (came l)
     where
-      go :
-          Came P list (length slots) (length scratch) →
-          Demand-3 P list (length slots) (length scratch) (plan-answer P list slots scratch) (plan-slots P list slots scratch)
-      go (barred n i e) = rw e (refused-demand P list (length slots) (length scratch) n i e slots)
+      go : Came l → Demand-3 l (plan-answer l) (plan-slots l)
+      go (barred n i e) = rw (barred-answer l n i e) (refused-demand n i e (plan-slots l))
       go (found e f) =
-          rw (e, f .found) (plan-demand P list (length slots) (length scratch) e f (drop (length (f .slots)) slots))
-      go (odd e f) = rw (e, f .found) (nine-demand P list (length slots) (length scratch) e f slots)
+          rw (found-answer l e f, found-slots l e f) (plan-demand e f (drop (length (f .slots)) (l .slots)))
+      go (odd e f) = rw (odd-answer l e f) (nine-demand e f (plan-slots l))
 
   -- Every refusal is small.
-  pub refusal-small : (n i : ℕ) → plan-answer P list slots scratch ≡ refusal n i → Small-refusal n i
-  unfolding plan-answer
-  refusal-small n i = go (came P list (length slots) (length scratch))
+  pub refusal-small : (n i : ℕ) → plan-answer l ≡ refused n i → Small-refusal n i
+  refusal-small n i q = go (came l)
     where
-      go : Came P list (length slots) (length scratch) → plan-answer P list slots scratch ≡ refusal n i → Small-refusal n i
-      go (barred k j e) q =
-          let r : refusal k j ≡ refusal n i = rw e at q in
-          let number : k ≡ n = cc in
-          let place : j ≡ i = cc in
-          let small = cause-number (refused-cause P list (length slots) (length scratch) k j e) in
-          record { some = omega (arith, small .0); number = omega (arith, small .1); place = omega (arith, small .2) }
-      go (found e f) q = planned-refusal (largest-load P (appts list)) n i (rw (e, f .found) at q)
-      go (odd e f) q =
-          let r : refusal 9 0 ≡ refusal n i = rw (e, f .found) at q in
-          let number : 9 ≡ n = cc in
-          let place : 0 ≡ i = cc in
+      same : (k j : ℕ) → plan-answer l ≡ refused k j → (k ≡ n) × (j ≡ i)
+      same k j p = (refused-number k j n i (sym p ∙ q), refused-place k j n i (sym p ∙ q))
+
+      go : Came l → Small-refusal n i
+      go (barred k j e) =
+          let e' = same k j (barred-answer l k j e) in
+          let small = lent-number l k j e in
+          record { some = omega arith; number = omega arith; place = omega arith }
+      go (found e f) = accepted-refused (lent-d l) n i (sym (found-answer l e f) ∙ q)
+      go (odd e f) =
+          let e' = same 9 0 (odd-answer l e f) in
           record { some = omega arith; number = omega arith; place = omega arith }
 
   -- No planning fails: the number that no table has is never given.
-  pub never-failed : plan-answer P list slots scratch ≡ refusal 1000 0 → ⊥
+  pub never-failed : plan-answer l ≡ refused 1000 0 → ⊥
   never-failed e = omega (arith, refusal-small 1000 0 e .number)

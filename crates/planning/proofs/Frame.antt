@@ -8,12 +8,14 @@ use mathlib.Core.Logic.{_⊎_, inl, inr, ⊎-elim}
 use native.Mathlib.Omega.{arith}
 use lib.ListN.{length, take, drop, replicate, length-append, length-drop, length-replicate}
 use lib.Seq.{take-at, drop-at}
-use Rattle.appointments.specs.Appointments.{appts, largest-load, scratch-words}
-use Rattle.appointments.specs.Checks.{Check, passed, refused, checks}
-use Rattle.appointments.proofs.ChecksLaws.{passed-passes}
-use Rattle.planning.specs.Planning.{planned, refusal, plan-answer, plan-slots, plan-scratch}
-use Rattle.planning.proofs.Outcomes.{Found-plan, Came, barred, found, odd, came}
-use Rattle.planning.proofs.Demand3.{planned-refusal, refusal-number, demand-3}
+use Rattle.appointments.specs.Checks.{Check, passed}
+use Rattle.appointments.specs.Answers.{accepted, refused, over}
+use Rattle.appointments.specs.Lent.{Lent, lent, lent-appts, lent-d, lent-words, lent-checks}
+use Rattle.appointments.proofs.AnswerLaws.{accepted-refused, refused-number, after-refused}
+use Rattle.appointments.proofs.LentLaws.{lent-passes}
+use Rattle.planning.specs.Planning.{outcome-slots, lent-outcome, plan-answer, plan-slots, plan-scratch}
+use Rattle.planning.proofs.Outcomes.{Found-plan, Came, barred, found, odd, came, barred-answer, found-answer, odd-answer, found-slots}
+use Rattle.planning.proofs.Demand3.{demand-3}
 
 -- ── a list whose first n entries were written over, if any were ──
 
@@ -36,149 +38,128 @@ kept-past n before after =
 
 -- ── the buffers after a call ──
 
-module _ (P : ℕ) (list : List ℕ) where
+module _ (l : Lent) where
   abbrev A : ℕ
-  A = length (appts list)
+  A = length (lent-appts l)
 
   abbrev W : ℕ
-  W = scratch-words P (largest-load P (appts list))
+  W = lent-words l
 
-  module _ (slots scratch : List ℕ) where
-    abbrev Came-to : Type 0
-    Came-to = Came P list (length slots) (length scratch)
+  -- an accepted list's slots
+  module _ (e : lent-checks l passed ≡ passed) (f : Found-plan (l .parties) (lent-appts l)) where
+    pub accepted-slots : plan-slots l ≡ f .slots ++ drop A (l .slots)
+    accepted-slots = rw (found-slots l e f, f .proper .plan-of)
 
-    came-to : Came-to
-    came-to = came P list (length slots) (length scratch)
+    pub accepted-front : take A (plan-slots l) ≡ f .slots
+    accepted-front = rw accepted-slots (take-at (f .slots) (drop A (l .slots)) A (f .proper .plan-of))
 
-    -- an accepted list's slots
-    pub accepted-slots :
-        checks P list (length slots) (length scratch) ≡ passed → (f : Found-plan P (appts list)) →
-        plan-slots P list slots scratch ≡ f .slots ++ drop A slots
-    unfolding plan-slots
-    accepted-slots e f = rw (e, f .found, f .proper .plan-of)
+  -- the first W words of scratch are 0 and the others stay, where the checks pass
+  pub passed-clears : lent-checks l passed ≡ passed → plan-scratch l ≡ over (replicate W 0) (l .scratch)
+  unfolding plan-scratch
+  passed-clears e = rw e
 
-    pub accepted-front :
-        checks P list (length slots) (length scratch) ≡ passed → (f : Found-plan P (appts list)) →
-        take A (plan-slots P list slots scratch) ≡ f .slots
-    accepted-front e f = rw (accepted-slots e f) (take-at (f .slots) (drop A slots) A (f .proper .plan-of))
+  -- where they don't it stays
+  pub barred-scratch : (n i : ℕ) → lent-checks l passed ≡ Check.refused n i → plan-scratch l ≡ l .scratch
+  unfolding plan-scratch
+  barred-scratch n i e = rw e
 
-    -- the first W words of scratch are 0 and the others stay, where the checks pass
-    pub passed-clears :
-        checks P list (length slots) (length scratch) ≡ passed →
-        plan-scratch P list slots scratch ≡ replicate W 0 ++ drop W scratch
-    unfolding plan-scratch
-    passed-clears e = rw e
+  -- Every refusal leaves the slots as they were.
+  pub refusal-slots : (n i : ℕ) → plan-answer l ≡ refused n i → plan-slots l ≡ l .slots
+  unfolding plan-slots
+  refusal-slots n i e = after-refused (plan-answer l) n i (outcome-slots (lent-outcome l)) (l .slots) e
 
-    slots-written : Kept-past A slots (plan-slots P list slots scratch)
-    unfolding plan-slots
-    slots-written = go came-to
-      where
-        go : Came-to → Kept-past A slots (plan-slots P list slots scratch)
-        go (barred n i e) = inl (rw e)
-        go (odd e f) = inl (rw (e, f .found))
-        go (found e f) =
-            inr
-            (record {
-              front = f .slots;
-              size = f .proper .plan-of;
-              room = passed-passes P list (length slots) (length scratch) e .slot-room;
-              is = accepted-slots e f;
-            })
+  slots-written : Kept-past A (l .slots) (plan-slots l)
+  slots-written = go (came l)
+    where
+      go : Came l → Kept-past A (l .slots) (plan-slots l)
+      go (barred n i e) = inl (refusal-slots n i (barred-answer l n i e))
+      go (odd e f) = inl (refusal-slots 9 0 (odd-answer l e f))
+      go (found e f) =
+          inr
+          (record {
+            front = f .slots;
+            size = f .proper .plan-of;
+            room = lent-passes l e .slot-room;
+            is = accepted-slots e f;
+          })
 
-    scratch-written : Kept-past W scratch (plan-scratch P list slots scratch)
-    unfolding plan-scratch
-    scratch-written = go (checks P list (length slots) (length scratch)) refl
-      where
-        go :
-            (c : Check) → checks P list (length slots) (length scratch) ≡ c →
-            Kept-past W scratch (plan-scratch P list slots scratch)
-        go (refused n i) e = inl (rw e)
-        go passed e =
-            inr
-            (record {
-              front = replicate W 0;
-              size = length-replicate W 0;
-              room = passed-passes P list (length slots) (length scratch) e .scratch-room;
-              is = passed-clears e;
-            })
+  scratch-written : Kept-past W (l .scratch) (plan-scratch l)
+  scratch-written = go (lent-checks l passed) refl
+    where
+      go : (c : Check) → lent-checks l passed ≡ c → Kept-past W (l .scratch) (plan-scratch l)
+      go (Check.refused n i) e = inl (barred-scratch n i e)
+      go passed e =
+          inr
+          (record {
+            front = replicate W 0;
+            size = length-replicate W 0;
+            room = lent-passes l e .scratch-room;
+            is = passed-clears e ∙ rw (length-replicate {A = ℕ} W 0);
+          })
 
-    -- Both buffers keep their lengths.
-    pub slots-length : length (plan-slots P list slots scratch) ≡ length slots
-    slots-length = kept-length A slots (plan-slots P list slots scratch) slots-written
+  -- Both buffers keep their lengths.
+  pub slots-length : length (plan-slots l) ≡ length (l .slots)
+  slots-length = kept-length A (l .slots) (plan-slots l) slots-written
 
-    pub scratch-length : length (plan-scratch P list slots scratch) ≡ length scratch
-    scratch-length = kept-length W scratch (plan-scratch P list slots scratch) scratch-written
+  pub scratch-length : length (plan-scratch l) ≡ length (l .scratch)
+  scratch-length = kept-length W (l .scratch) (plan-scratch l) scratch-written
 
-    -- Slot entries past A stay, and scratch words past W.
-    pub slots-past : drop A (plan-slots P list slots scratch) ≡ drop A slots
-    slots-past = kept-past A slots (plan-slots P list slots scratch) slots-written
+  -- Slot entries past A stay, and scratch words past W.
+  pub slots-past : drop A (plan-slots l) ≡ drop A (l .slots)
+  slots-past = kept-past A (l .slots) (plan-slots l) slots-written
 
-    pub scratch-past : drop W (plan-scratch P list slots scratch) ≡ drop W scratch
-    scratch-past = kept-past W scratch (plan-scratch P list slots scratch) scratch-written
+  pub scratch-past : drop W (plan-scratch l) ≡ drop W (l .scratch)
+  scratch-past = kept-past W (l .scratch) (plan-scratch l) scratch-written
 
-    -- Every refusal leaves the slots as they were.
-    pub refusal-slots : (n i : ℕ) → plan-answer P list slots scratch ≡ refusal n i → plan-slots P list slots scratch ≡ slots
-    unfolding plan-answer plan-slots
-    refusal-slots n i = go came-to
-      where
-        go : Came-to → plan-answer P list slots scratch ≡ refusal n i → plan-slots P list slots scratch ≡ slots
-        go (barred k j e) q = rw e
-        go (odd e f) q = rw (e, f .found)
-        go (found e f) q = planned-refusal (largest-load P (appts list)) n i (rw (e, f .found) at q)
+  -- Every refusal but 9 leaves scratch as it was.
+  pub refusal-scratch : (n i : ℕ) → plan-answer l ≡ refused n i → (n ≡ 9 → ⊥) → plan-scratch l ≡ l .scratch
+  refusal-scratch n i q not-9 = go (came l)
+    where
+      go : Came l → plan-scratch l ≡ l .scratch
+      go (barred k j e) = barred-scratch k j e
+      go (odd e f) = absurd (not-9 (sym (refused-number 9 0 n i (sym (odd-answer l e f) ∙ q))))
+      go (found e f) = accepted-refused (lent-d l) n i (sym (found-answer l e f) ∙ q)
 
-    -- Every refusal but 9 leaves scratch as it was.
-    pub refusal-scratch :
-        (n i : ℕ) → plan-answer P list slots scratch ≡ refusal n i → (n ≡ 9 → ⊥) → plan-scratch P list slots scratch ≡ scratch
-    unfolding plan-answer plan-scratch
-    refusal-scratch n i = go came-to
-      where
-        go :
-            Came-to → plan-answer P list slots scratch ≡ refusal n i → (n ≡ 9 → ⊥) →
-            plan-scratch P list slots scratch ≡ scratch
-        go (barred k j e) q not-9 = rw e
-        go (odd e f) q not-9 = absurd (not-9 (sym (refusal-number 9 0 n i (rw (e, f .found) at q))))
-        go (found e f) q not-9 = planned-refusal (largest-load P (appts list)) n i (rw (e, f .found) at q)
+  -- After acceptance and after 9 the first W words of scratch are 0, the others stay.
+  pub accepted-clears : (D : ℕ) → plan-answer l ≡ accepted D → plan-scratch l ≡ over (replicate W 0) (l .scratch)
+  accepted-clears D q = passed-clears (demand-3 l .only-passed D q)
 
-    -- After acceptance and after 9 the first W words of scratch are 0, the others stay.
-    pub accepted-clears :
-        (D : ℕ) → plan-answer P list slots scratch ≡ planned D →
-        plan-scratch P list slots scratch ≡ replicate W 0 ++ drop W scratch
-    accepted-clears D q = passed-clears (demand-3 P list slots scratch .only-passed D q)
+  pub nine-clears : (place : ℕ) → plan-answer l ≡ refused 9 place → plan-scratch l ≡ over (replicate W 0) (l .scratch)
+  nine-clears place q = passed-clears (demand-3 l .nine place q .1)
 
-    pub nine-clears :
-        (place : ℕ) → plan-answer P list slots scratch ≡ refusal 9 place →
-        plan-scratch P list slots scratch ≡ replicate W 0 ++ drop W scratch
-    nine-clears place q = passed-clears (demand-3 P list slots scratch .nine place q .1)
+-- ── what the buffers held before ──
 
-  -- ── what the buffers held before ──
-
+module _ (P : ℕ) (list : List ℕ) where
   module _
       (slots slots' scratch scratch' : List ℕ) (same-slots : length slots ≡ length slots')
       (same-scratch : length scratch ≡ length scratch') where
+    abbrev l₁ : Lent
+    l₁ = lent P list slots scratch
+
+    abbrev l₂ : Lent
+    l₂ = lent P list slots' scratch'
+
     -- it doesn't affect the answer,
-    pub same-answer : plan-answer P list slots scratch ≡ plan-answer P list slots' scratch'
+    pub same-answer : plan-answer l₁ ≡ plan-answer l₂
     unfolding plan-answer
     same-answer = rw (same-slots, same-scratch)
 
     -- nor the plan,
     pub same-plan :
-        (D : ℕ) → plan-answer P list slots scratch ≡ planned D →
-        take A (plan-slots P list slots scratch) ≡ take A (plan-slots P list slots' scratch')
-    unfolding plan-answer
-    same-plan D = go (came-to slots scratch)
+        (D : ℕ) → plan-answer l₁ ≡ accepted D →
+        take (length (lent-appts l₁)) (plan-slots l₁) ≡ take (length (lent-appts l₂)) (plan-slots l₂)
+    same-plan D q = go (came l₁)
       where
-        go :
-            Came-to slots scratch → plan-answer P list slots scratch ≡ planned D →
-            take A (plan-slots P list slots scratch) ≡ take A (plan-slots P list slots' scratch')
-        go (barred n i e) q = planned-refusal D n i (sym (rw e at q))
-        go (odd e f) q = planned-refusal D 9 0 (sym (rw (e, f .found) at q))
-        go (found e f) q =
-            let e' : checks P list (length slots') (length scratch') ≡ passed = rw (same-slots, same-scratch) at e in
-            accepted-front slots scratch e f ∙ sym (accepted-front slots' scratch' e' f)
+        go : Came l₁ → take (length (lent-appts l₁)) (plan-slots l₁) ≡ take (length (lent-appts l₂)) (plan-slots l₂)
+        go (barred n i e) = accepted-refused D n i (sym q ∙ barred-answer l₁ n i e)
+        go (odd e f) = accepted-refused D 9 0 (sym q ∙ odd-answer l₁ e f)
+        go (found e f) =
+            let e' : lent-checks l₂ passed ≡ passed = rw (same-slots, same-scratch) at e in
+            accepted-front l₁ e f ∙ sym (accepted-front l₂ e' f)
 
   -- and what scratch held affects nothing.
   pub scratch-unread :
       (slots scratch scratch' : List ℕ) → length scratch ≡ length scratch' →
-      plan-slots P list slots scratch ≡ plan-slots P list slots scratch'
-  unfolding plan-slots
+      plan-slots (lent P list slots scratch) ≡ plan-slots (lent P list slots scratch')
+  unfolding plan-slots plan-answer
   scratch-unread slots scratch scratch' e = rw e

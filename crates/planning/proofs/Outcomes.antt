@@ -1,22 +1,25 @@
 -- What `bipartite_edge_color` comes to: a plan where no closed round is odd, `GraphNotBipartite` where one is, and never
--- neither; such a plan is a shortest one; and so a call comes to one of three ends. Assumes nothing.
+-- neither; such a plan is a shortest one; and so a call comes to one of three ends, each with its answer. Assumes nothing.
 use Prim.Native.Nat.{ℕ}
 use mathlib.Core.Path.{_≡_, refl, _∙_, ap}
 use mathlib.Core.List.{List}
 use mathlib.Core.Logic.{_⊎_, inl, inr, ⊎-elim}
 use Rattle.words.specs.Basics.{All, Run}
 use Rattle.words.proofs.Runs.{ran-is}
-use Rattle.appointments.specs.Appointments.{Appt, appts, largest-load}
+use Rattle.appointments.specs.Appointments.{Appt, largest-load}
 use Rattle.appointments.specs.Rounds.{Odd-round}
-use Rattle.appointments.specs.Checks.{Check, passed, refused, checks}
+use Rattle.appointments.specs.Checks.{Check, passed, refused}
+use Rattle.appointments.specs.Answers.{Answer, accepted, over}
+use Rattle.appointments.specs.Lent.{Lent, lent-appts, lent-d, lent-checks}
 use Rattle.appointments.proofs.Loads.{Listed}
 use Rattle.appointments.proofs.LowerBound.{lower-bound, different-is}
 use Rattle.appointments.proofs.Pigeonhole.{busiest-meets-once}
-use Rattle.appointments.proofs.ChecksLaws.{passed-passes}
-use Rattle.bipartition.specs.TwoSides.{Found-sides}
-use Rattle.bipartition.proofs.TwoColorLaws.{two-color-decides}
+use Rattle.appointments.proofs.AnswerLaws.{after-accepted}
+use Rattle.appointments.proofs.LentLaws.{lent-passes, lent-goes-on, lent-stays}
+use Rattle.two_color.specs.TwoSides.{Found-sides}
+use Rattle.two_color.proofs.TwoColorLaws.{two-color-decides}
 use Rattle.planning.specs.GivenPartition.{bipartite-edge-color-given-partition}
-use Rattle.planning.specs.Planning.{plan, graph-not-bipartite, outcome, given-sides, bipartite-edge-color}
+use Rattle.planning.specs.Planning.{plan, graph-not-bipartite, outcome, given-sides, bipartite-edge-color, check-outcome, outcome-slots, lent-outcome, plan-answer, plan-slots}
 use Rattle.planning.specs.Demand3.{Shortest-plan}
 use Rattle.planning.proofs.GivenPartitionLaws.{Proper-plan, given-partition-law}
 
@@ -67,16 +70,38 @@ outcome-decides P xs listed =
         })
 
 -- What a call comes to: a check refuses; or the list passes and gets a plan; or it passes and is not bipartite.
-pub data Came (P : ℕ) (list : List ℕ) (slots scratch : ℕ) : Type 0 where
-  barred : (n i : ℕ) → checks P list slots scratch ≡ refused n i → Came P list slots scratch
-  found : checks P list slots scratch ≡ passed → Found-plan P (appts list) → Came P list slots scratch
-  odd : checks P list slots scratch ≡ passed → No-plan P (appts list) → Came P list slots scratch
+pub data Came (l : Lent) : Type 0 where
+  barred : (n i : ℕ) → lent-checks l passed ≡ refused n i → Came l
+  found : lent-checks l passed ≡ passed → Found-plan (l .parties) (lent-appts l) → Came l
+  odd : lent-checks l passed ≡ passed → No-plan (l .parties) (lent-appts l) → Came l
 
-pub came : (P : ℕ) (list : List ℕ) (slots scratch : ℕ) → Came P list slots scratch
-came P list slots scratch = go (checks P list slots scratch) refl
-  where
-    go : (c : Check) → checks P list slots scratch ≡ c → Came P list slots scratch
-    go (refused n i) e = barred n i e
-    go passed e =
-        ⊎-elim (λ f. found e f) (λ f. odd e f)
-        (outcome-decides P (appts list) (passed-passes P list slots scratch e .good .listed))
+module _ (l : Lent) where
+  pub came : Came l
+  came = go (lent-checks l passed) refl
+    where
+      go : (c : Check) → lent-checks l passed ≡ c → Came l
+      go (refused n i) e = barred n i e
+      go passed e =
+          ⊎-elim (λ f. found e f) (λ f. odd e f)
+          (outcome-decides (l .parties) (lent-appts l) (lent-passes l e .good .listed))
+
+  -- the answer at each end
+  pub barred-answer : (n i : ℕ) → lent-checks l passed ≡ refused n i → plan-answer l ≡ Answer.refused n i
+  unfolding plan-answer
+  barred-answer n i e = rw (lent-stays l (check-outcome (lent-outcome l)) n i e)
+
+  pub odd-answer :
+      lent-checks l passed ≡ passed → No-plan (l .parties) (lent-appts l) → plan-answer l ≡ Answer.refused 9 0
+  unfolding plan-answer
+  odd-answer e f = rw (f .found, lent-goes-on l (refused 9 0) e)
+
+  module _ (e : lent-checks l passed ≡ passed) (f : Found-plan (l .parties) (lent-appts l)) where
+    pub found-answer : plan-answer l ≡ accepted (lent-d l)
+    unfolding plan-answer
+    found-answer = rw (f .found, e)
+
+    -- and the slots where there is a plan
+    pub found-slots : plan-slots l ≡ over (f .slots) (l .slots)
+    unfolding plan-slots
+    found-slots =
+        after-accepted (plan-answer l) (lent-d l) (outcome-slots (lent-outcome l)) (l .slots) found-answer ∙ rw (f .found)

@@ -7,23 +7,28 @@ use native.Mathlib.Omega.{arith}
 use native.Mathlib.Nat.{zero-add}
 use lib.ListN.{length, take, drop, replicate, length-take, length-replicate, drop-of-length-le}
 use Rattle.words.specs.Basics.{All}
-use Rattle.appointments.specs.Appointments.{Appt, appts, largest-load, scratch-words}
-use Rattle.appointments.specs.Checks.{passed, refused, checks}
+use Rattle.appointments.specs.Appointments.{Appt, appts}
+use Rattle.appointments.specs.Checks.{Check, passed}
 use Rattle.appointments.specs.Checked.{checked}
+use Rattle.appointments.specs.Answers.{Answer, accepted, refused}
+use Rattle.appointments.specs.Lent.{Lent, lent-appts, lent-d, lent-words, lent-checks}
 use Rattle.appointments.specs.declared.Answered.{Answered}
 use Rattle.appointments.specs.declared.Answered.the-variants.{Accepted, Refused}
 use Rattle.appointments.proofs.Loads.{Listed, largest-load-empty}
-use Rattle.appointments.proofs.ChecksLaws.{Passes, passed-passes, passes-passed, good-goes-on}
+use Rattle.appointments.proofs.ChecksLaws.{Passes, passes-passed, good-goes-on}
+use Rattle.appointments.proofs.LentLaws.{lent-passes, lent-goes-on}
 use Rattle.appointments.proofs.Answering.{checked-passed, checked-figure, checked-number, d-small}
 use Rattle.bipartition.specs.TwoColor.{not-bipartite, two-color}
 use Rattle.two_color.specs.Contract.{Colored}
 use Rattle.two_color.specs.declared.TwoColoring.the-variants.{Sides, NotBipartite}
-use Rattle.planning.specs.Planning.{Answer, planned, refusal, plan, graph-not-bipartite, given-sides, bipartite-edge-color, plan-answer, plan-slots, plan-scratch}
+use Rattle.planning.specs.Planning.{plan, graph-not-bipartite, given-sides, bipartite-edge-color, check-outcome, lent-outcome, plan-answer, plan-slots, plan-scratch}
 use Rattle.planning.specs.Demand3.{Demand-3}
 use Rattle.planning.specs.Steps.{Ready, Sided, Slots-planned, Worked-out}
 use Rattle.planning.specs.Computing.{computing}
 use Rattle.planning.proofs.Sizes.{sizes}
+use Rattle.planning.proofs.Outcomes.{barred-answer}
 use Rattle.planning.proofs.Demand3.{demand-3}
+use Rattle.planning.proofs.Frame.{refusal-slots, barred-scratch, passed-clears}
 
 -- ── the steps ──
 
@@ -62,7 +67,7 @@ unfolding bipartite-edge-color
 odd-outcome P xs e = ap (given-sides P xs) e
 
 module _ {P D : ℕ} {list slots : List ℕ} where
-  pub worked-none : {q : ℕ} {s : List ℕ} → Ready P D q list s → P ≡ 0 → Worked-out P D list slots slots (planned 0) s s
+  pub worked-none : {q : ℕ} {s : List ℕ} → Ready P D q list s → P ≡ 0 → Worked-out P D list slots slots (accepted 0) s s
   worked-none r e =
       let none : appts list ≡ [] = none-listed (appts list) (rw e at (sizes r .listed)) in
       let found : bipartite-edge-color P (appts list) ≡ plan [] = rw (e, none) no-slots in
@@ -70,14 +75,14 @@ module _ {P D : ℕ} {list slots : List ℕ} where
       record { answers = rw (found, idle); holds = rw found; len = refl }
 
   pub worked-odd :
-      {u : ℕ} {s t : List ℕ} → Colored P list 0 s u t NotBipartite → Worked-out P D list slots slots (refusal 9 0) s t
+      {u : ℕ} {s t : List ℕ} → Colored P list 0 s u t NotBipartite → Worked-out P D list slots slots (refused 9 0) s t
   worked-odd c =
       let found : bipartite-edge-color P (appts list) ≡ graph-not-bipartite = odd-outcome P (appts list) (c .answers) in
-      record { answers = rw found; holds = rw found; len = c .keeps .len }
+      record { answers = rw found; holds = refl; len = c .keeps .len }
 
   pub worked-plan :
       {after s t v : List ℕ} → length t ≡ length s → Slots-planned P list slots after t v →
-      Worked-out P D list slots after (planned D) s v
+      Worked-out P D list slots after (accepted D) s v
   worked-plan e x =
       record { answers = rw (x .found); holds = rw (x .found) (x .held); len = x .len ∙ e }
 
@@ -89,7 +94,7 @@ cleared-all w v c e h =
     h ∙ rw (none, append-nil)
 
 pub worked-cleanly :
-    {P D q : ℕ} {list slots after s v c : List ℕ} {a : Answer} → Ready P D q list s →
+    {P D q : ℕ} {list slots after s v c : List ℕ} {a : Answer ℕ} → Ready P D q list s →
     Worked-out P D list slots after a s v → c ≡ replicate (128 * q) 0 ++ drop (128 * q) v →
     Worked-out P D list slots after a s c × (c ≡ replicate (128 * q) 0)
 worked-cleanly {P} {D} {q} {list} {slots} {after} {s} {v} {c} r x h =
@@ -99,89 +104,89 @@ worked-cleanly {P} {D} {q} {list} {slots} {after} {s} {v} {c} r x h =
 
 -- ── the call ──
 
-module _ (P : ℕ) (list slots scratch : List ℕ) where
+module _ (l : Lent) where
   -- what the call states, of an answer and of slots and scratch afterwards
-  abbrev pub Stated : Answer → List ℕ → List ℕ → Type 0
-  Stated a after cleared =
-      (a ≡ plan-answer P list slots scratch)
-      × ((after ≡ plan-slots P list slots scratch)
-      × ((cleared ≡ plan-scratch P list slots scratch)
-      × Demand-3 P list (length slots) (length scratch) a after))
+  abbrev pub Stated : Answer ℕ → List ℕ → List ℕ → Type 0
+  Stated a slots scratch =
+      (a ≡ plan-answer l) × ((slots ≡ plan-slots l) × ((scratch ≡ plan-scratch l) × Demand-3 l a slots))
 
   stated :
-      (a : Answer) (after cleared : List ℕ) → a ≡ plan-answer P list slots scratch → after ≡ plan-slots P list slots scratch →
-      cleared ≡ plan-scratch P list slots scratch → Stated a after cleared
-  stated a after cleared e f g = (e, (f, (g, rw (e, f) (demand-3 P list slots scratch))))
+      (a : Answer ℕ) (slots scratch : List ℕ) → a ≡ plan-answer l → slots ≡ plan-slots l → scratch ≡ plan-scratch l →
+      Stated a slots scratch
+  stated a slots scratch e f g = (e, (f, (g, rw (e, f) (demand-3 l))))
 
   abbrev pub Told : Answered → Type 0
-  Told c = c ≡ checked (checks P list (length slots) (length scratch)) (largest-load P (appts list))
+  Told c = c ≡ checked (lent-checks l passed) (lent-d l)
 
   module _ {number place : ℕ} (told : Told (Refused number place)) where
-    barred : checks P list (length slots) (length scratch) ≡ refused number place
-    barred = checked-number (checks P list (length slots) (length scratch)) (largest-load P (appts list)) number place (sym told)
+    barred : lent-checks l passed ≡ Check.refused number place
+    barred = checked-number (lent-checks l passed) (lent-d l) number place (sym told)
 
-    pub refused-stated : Stated (refusal number place) slots scratch
-    unfolding plan-answer plan-slots plan-scratch
-    refused-stated = stated (refusal number place) slots scratch (rw barred) (rw barred) (rw barred)
+    answers : plan-answer l ≡ refused number place
+    answers = barred-answer l number place barred
+
+    pub refused-stated : Stated (refused number place) (l .slots) (l .scratch)
+    refused-stated =
+        stated (refused number place) (l .slots) (l .scratch) (sym answers) (sym (refusal-slots l number place answers))
+        (sym (barred-scratch l number place barred))
 
   module _ {D : ℕ} (told : Told (Accepted D)) where
-    ok : checks P list (length slots) (length scratch) ≡ passed
-    ok = checked-passed (checks P list (length slots) (length scratch)) (largest-load P (appts list)) D (sym told)
+    ok : lent-checks l passed ≡ passed
+    ok = checked-passed (lent-checks l passed) (lent-d l) D (sym told)
 
-    figure : D ≡ largest-load P (appts list)
-    figure = checked-figure (checks P list (length slots) (length scratch)) (largest-load P (appts list)) D (sym told)
+    figure : D ≡ lent-d l
+    figure = checked-figure (lent-checks l passed) (lent-d l) D (sym told)
 
-    passes : Passes P list (length slots) (length scratch)
-    passes = passed-passes P list (length slots) (length scratch) ok
+    passes : Passes (l .parties) (l .list) (length (l .slots)) (length (l .scratch))
+    passes = lent-passes l ok
 
     abbrev q : ℕ
-    q = P * (D + 1)
+    q = l .parties * (D + 1)
+
+    words-are : lent-words l ≡ 128 * q
+    words-are = rw (← figure) (omega arith)
 
     -- as many words as W, or fewer, can be lent
-    pub words-there : (w : ℕ) → w ≤ 128 * q → w ≤ length scratch
-    words-there w h =
-        let room : scratch-words P (largest-load P (appts list)) ≤ length scratch = passes .scratch-room in
-        let room' : 128 * P * (D + 1) ≤ length scratch = rw figure room in
-        omega arith
+    pub words-there : (w : ℕ) → w ≤ 128 * q → w ≤ length (l .scratch)
+    words-there w h = omega (arith, passes .scratch-room, words-are)
 
-    pub taken-length : (w : ℕ) → w ≤ 128 * q → w ≡ length (take w scratch)
-    taken-length w h = omega (arith, length-take w scratch, words-there w h)
+    pub taken-length : (w : ℕ) → w ≤ 128 * q → w ≡ length (take w (l .scratch))
+    taken-length w h = omega (arith, length-take w (l .scratch), words-there w h)
 
-    pub figures : (P ≤ 1024) × ((D ≤ 8192) × (q ≤ 9216))
+    pub figures : (l .parties ≤ 1024) × ((D ≤ 8192) × (q ≤ 9216))
     figures =
         let good = passes .good in
-        let most : largest-load P (appts list) ≤ 8192 = d-small P list (good-goes-on P list passed good) in
-        let product : D * P ≤ 8192 = rw figure (passes .product) in
+        let most : lent-d l ≤ 8192 = d-small (l .parties) (l .list) (good-goes-on (l .parties) (l .list) passed good) in
+        let product : D * l .parties ≤ 8192 = rw figure (passes .product) in
         (good .parties, (rw figure most, omega (arith, good .parties)))
 
-    pub ready : Ready P D q list (take (128 * q) scratch)
+    pub ready : Ready (l .parties) D q (l .list) (take (128 * q) (l .scratch))
     ready =
-        let all-taken : 128 * q ≡ length (take (128 * q) scratch) = taken-length (128 * q) (omega arith) in
-        let w : scratch-words P (largest-load P (appts list)) ≤ length (take (128 * q) scratch) =
-        rw (← figure) (omega (arith, all-taken)) in
+        let all-taken : 128 * q ≡ length (take (128 * q) (l .scratch)) = taken-length (128 * q) (omega arith) in
         record {
           checked =
-              passes-passed P list (length (appts list)) (length (take (128 * q) scratch))
+              passes-passed (l .parties) (l .list) (length (lent-appts l)) (length (take (128 * q) (l .scratch)))
               (record {
                 good = passes .good;
                 product = passes .product;
                 slot-room = omega arith;
-                scratch-room = w;
+                scratch-room = omega (arith, all-taken, words-are);
               });
           largest = figure;
           unit = refl;
           whole = sym all-taken;
         }
 
-    pub slot-room : length (appts list) ≤ length slots
+    pub slot-room : length (lent-appts l) ≤ length (l .slots)
     slot-room = passes .slot-room
 
     pub planned-stated :
-        {a : Answer} {after cleared : List ℕ} →
-        Worked-out P D list slots after a (take (128 * q) scratch) cleared × (cleared ≡ replicate (128 * q) 0) →
-        Stated a after (cleared ++ drop (128 * q) scratch)
-    unfolding plan-answer plan-slots plan-scratch
-    planned-stated {a} {after} {cleared} x =
-        let w : 128 * P * (D + 1) ≡ 128 * q = omega arith in
-        stated a after (cleared ++ drop (128 * q) scratch) (rw (ok, ← figure) (x .0 .answers)) (rw ok (x .0 .holds))
-        (rw (ok, ← figure, w, x .1))
+        {a : Answer ℕ} {slots cleared : List ℕ} →
+        Worked-out (l .parties) D (l .list) (l .slots) slots a (take (128 * q) (l .scratch)) cleared × (cleared ≡ replicate (128 * q) 0) →
+        Stated a slots (cleared ++ drop (128 * q) (l .scratch))
+    unfolding plan-answer plan-slots
+    planned-stated {a} {slots} {cleared} x =
+        let answers : a ≡ plan-answer l = rw (lent-goes-on l (check-outcome (lent-outcome l)) ok, ← figure) (x .0 .answers) in
+        let clears : cleared ++ drop (128 * q) (l .scratch) ≡ plan-scratch l =
+        rw (passed-clears l ok, length-replicate {A = ℕ} (lent-words l) 0, words-are, x .1) in
+        stated a slots (cleared ++ drop (128 * q) (l .scratch)) answers (rw (← answers) (x .0 .holds)) clears

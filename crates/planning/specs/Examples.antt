@@ -4,7 +4,9 @@
 use mathlib.Core.Path.{_≡_, refl}
 use mathlib.Core.List.{[], _∷_, _++_}
 use lib.ListN.{replicate}
-use Rattle.planning.specs.Planning.{refusal, plan-answer, plan-slots, plan-scratch}
+use Rattle.appointments.specs.Answers.{refused}
+use Rattle.appointments.specs.Lent.{lent}
+use Rattle.planning.specs.Planning.{plan-answer, plan-slots, plan-scratch}
 use Rattle.planning.specs.FifteenLists.{Row, row, call}
 use Rattle.planning.specs.Computing.{computing}
 
@@ -87,27 +89,27 @@ second-search-holds = refl
 -- ── buffers ──
 
 -- P 1, 0-0: W is 384. With 383 words check 8 refuses and leaves scratch, with 384 it's 9 and they are cleared.
-pub scratch-383 : plan-answer 1 (0 ∷ 0 ∷ []) (7 ∷ []) (replicate 383 7) ≡ refusal 8 0
+pub scratch-383 : plan-answer (lent 1 (0 ∷ 0 ∷ []) (7 ∷ []) (replicate 383 7)) ≡ refused 8 0
 unfolding computing
 scratch-383 = refl
 
-pub scratch-383-left : plan-scratch 1 (0 ∷ 0 ∷ []) (7 ∷ []) (replicate 383 7) ≡ replicate 383 7
+pub scratch-383-left : plan-scratch (lent 1 (0 ∷ 0 ∷ []) (7 ∷ []) (replicate 383 7)) ≡ replicate 383 7
 unfolding computing
 scratch-383-left = refl
 
-pub scratch-384 : plan-answer 1 (0 ∷ 0 ∷ []) (7 ∷ []) (replicate 384 7) ≡ refusal 9 0
+pub scratch-384 : plan-answer (lent 1 (0 ∷ 0 ∷ []) (7 ∷ []) (replicate 384 7)) ≡ refused 9 0
 unfolding computing
 scratch-384 = refl
 
-pub scratch-384-cleared : plan-scratch 1 (0 ∷ 0 ∷ []) (7 ∷ []) (replicate 386 7) ≡ replicate 384 0 ++ (7 ∷ 7 ∷ [])
+pub scratch-384-cleared : plan-scratch (lent 1 (0 ∷ 0 ∷ []) (7 ∷ []) (replicate 386 7)) ≡ replicate 384 0 ++ (7 ∷ 7 ∷ [])
 unfolding computing
 scratch-384-cleared = refl
 
 -- P 2, 0-1: W is 512. Slot entries past the first stay, words past the 512th too.
-pub slots-past : plan-slots 2 (0 ∷ 1 ∷ []) (7 ∷ 7 ∷ 7 ∷ []) (replicate 513 7) ≡ 0 ∷ 7 ∷ 7 ∷ []
+pub slots-past : plan-slots (lent 2 (0 ∷ 1 ∷ []) (7 ∷ 7 ∷ 7 ∷ []) (replicate 513 7)) ≡ 0 ∷ 7 ∷ 7 ∷ []
 unfolding computing
 slots-past = refl
 
-pub scratch-past : plan-scratch 2 (0 ∷ 1 ∷ []) (7 ∷ 7 ∷ 7 ∷ []) (replicate 513 7) ≡ replicate 512 0 ++ (7 ∷ [])
+pub scratch-past : plan-scratch (lent 2 (0 ∷ 1 ∷ []) (7 ∷ 7 ∷ 7 ∷ []) (replicate 513 7)) ≡ replicate 512 0 ++ (7 ∷ [])
 unfolding computing
 scratch-past = refl

@@ -4,7 +4,9 @@ use mathlib.Core.Path.{_≡_, refl}
 use mathlib.Core.List.{List, [], _∷_, map}
 use lib.ListN.{length, replicate}
 use Rattle.appointments.specs.Appointments.{appts, largest-load, scratch-words}
-use Rattle.planning.specs.Planning.{Answer, number-of, place-of, figure-of, plan-answer, plan-slots}
+use Rattle.appointments.specs.Answers.{Answer, number-of, place-of, figure-of}
+use Rattle.appointments.specs.Lent.{Lent, lent}
+use Rattle.planning.specs.Planning.{plan-answer, plan-slots}
 use Rattle.planning.specs.Computing.{computing}
 
 -- P, the list, and the number, place and D that the call gives, with what its slot buffer then holds: the slots, or where it
@@ -45,9 +47,9 @@ abbrev pub call : Row → Row
 call r =
     let A : ℕ = length (appts (r .list)) in
     let W : ℕ = scratch-words (r .parties) (largest-load (r .parties) (appts (r .list))) in
-    let answer : Answer = plan-answer (r .parties) (r .list) (replicate A 7) (replicate W 7) in
-    row (r .parties) (r .list) (number-of answer) (place-of answer) (figure-of answer)
-    (plan-slots (r .parties) (r .list) (replicate A 7) (replicate W 7))
+    let l : Lent = lent (r .parties) (r .list) (replicate A 7) (replicate W 7) in
+    let answer : Answer ℕ = plan-answer l in
+    row (r .parties) (r .list) (number-of answer) (place-of answer) (figure-of answer) (plan-slots l)
 
 -- All fifteen rows hold: the call gives each row's number, place, D and slots.
 pub fifteen-hold : map call fifteen-lists ≡ fifteen-lists

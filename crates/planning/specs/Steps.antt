@@ -7,7 +7,8 @@ use lib.ListN.{length}
 use Rattle.words.specs.Basics.{ran}
 use Rattle.words.specs.Words.{word, region}
 use Rattle.appointments.specs.Appointments.{appts, largest-load}
-use Rattle.appointments.specs.Answers.{over}
+use Rattle.appointments.specs.Answers.{Answer, over, after}
+use Rattle.appointments.specs.Answers as Answers
 use Rattle.appointments.specs.Checks.{passed, checks}
 use Rattle.bipartition.specs.TwoColor.{sides, two-color}
 use Rattle.multigraph.specs.Stored.{graph-at}
@@ -15,10 +16,9 @@ use Rattle.multigraph.specs.Places.{size, Has-ends}
 use Rattle.matching.specs.Searched.{lefts, rights}
 use Rattle.matching.specs.declared.Table.{Table}
 use Rattle.edge_color.specs.Room.{Color-fits}
-use Rattle.regular_graph.specs.Evening.{add-appointments, padded, even-out}
-use Rattle.list_pairs.specs.Contract.{first-of, second-of}
-use Rattle.planning.specs.Planning.{plan, bipartite-edge-color, answer-for, slots-for}
-use Rattle.planning.specs.Planning as Planning
+use Rattle.evening.specs.Evening.{add-appointments, padded, even-out}
+use Rattle.evening.specs.Contract.{first-of, second-of, Has-ends}
+use Rattle.planning.specs.Planning.{plan, bipartite-edge-color, check-outcome, outcome-slots}
 
 -- ── where things lie ──
 --
@@ -83,14 +83,14 @@ pub record Prepared (P D q n : ℕ) (list s : List ℕ) : Type 0 where
       Has-ends s (ends-at q) (word s (apair-at q + i)) (first-of list i) (second-of list i)
 
 -- The slots of `bipartite_edge_color` stand first in the slot buffer; later entries stay. Scratch is as long as it was.
-pub record Slots-planned (P : ℕ) (list slots after s t : List ℕ) : Type 0 where
+pub record Slots-planned (P : ℕ) (list slots slots' s t : List ℕ) : Type 0 where
   pub slots-of : List ℕ
   pub found : bipartite-edge-color P (appts list) ≡ plan slots-of
-  pub held : after ≡ over slots-of slots
+  pub held : slots' ≡ over slots-of slots
   pub len : length t ≡ length s
 
 -- What the planning of a list that passed comes to: the answer, and the slots afterwards. Scratch is as long as it was.
-pub record Worked-out (P D : ℕ) (list slots after : List ℕ) (answer : Planning.Answer) (s t : List ℕ) : Type 0 where
-  pub answers : answer ≡ answer-for passed (bipartite-edge-color P (appts list)) D
-  pub holds : after ≡ slots-for passed (bipartite-edge-color P (appts list)) slots
+pub record Worked-out (P D : ℕ) (list slots slots' : List ℕ) (answer : Answer ℕ) (s t : List ℕ) : Type 0 where
+  pub answers : answer ≡ Answers.answer (check-outcome (bipartite-edge-color P (appts list))) D
+  pub holds : slots' ≡ after answer (outcome-slots (bipartite-edge-color P (appts list))) slots
   pub len : length t ≡ length s

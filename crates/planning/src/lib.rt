@@ -9,6 +9,7 @@ ghost use Prim.Native.Nat.{ℕ, zero, _+_, _*_, _<_, _≤_};
 ghost use mathlib.Core.List.{_++_};
 ghost use lib.ListN.{length, replicate};
 ghost use Rattle.appointments.specs.Appointments.{appts};
+ghost use Rattle.appointments.specs.Lent.{lent};
 ghost use Rattle.edge_color.specs.Room.{«Color-fits», Colored as «Colored-words»};
 ghost use Rattle.planning.specs.Planning.{«plan-answer», «plan-slots», «plan-scratch»};
 ghost use Rattle.planning.specs.Demand3.{«Demand-3»};
@@ -145,10 +146,10 @@ fn work_out_cleanly(
 // The planning call: the slots of a list of appointments between `p` parties, or a refusal. Accepted, the first A entries of `slots`
 // hold the plan. The first W words of `scratch` are 0 after acceptance and after 9; 1 to 8 leave all. What both held affects nothing.
 pub fn bipartite_edge_color(p: u16, list: &[u16], slots: &mut [u16], scratch: &mut [u32]) -> Answer
-    ensures answer { λ r. ⌜ answer-of r ≡ plan-answer p (now (list .entry)) (now (slots .entry)) (now (scratch .entry)) ⌝ }
-    ensures slots { λ r. ⌜ now (slots .exit) ≡ plan-slots p (now (list .entry)) (now (slots .entry)) (now (scratch .entry)) ⌝ }
-    ensures scratch { λ r. ⌜ now (scratch .exit) ≡ plan-scratch p (now (list .entry)) (now (slots .entry)) (now (scratch .entry)) ⌝ }
-    ensures demand_3 { λ r. ⌜ Demand-3 p (now (list .entry)) (length (now (slots .entry))) (length (now (scratch .entry))) (answer-of r) (now (slots .exit)) ⌝ }
+    ensures answer { λ r. ⌜ answer-of r ≡ plan-answer (lent p (now (list .entry)) (now (slots .entry)) (now (scratch .entry))) ⌝ }
+    ensures slots { λ r. ⌜ now (slots .exit) ≡ plan-slots (lent p (now (list .entry)) (now (slots .entry)) (now (scratch .entry))) ⌝ }
+    ensures scratch { λ r. ⌜ now (scratch .exit) ≡ plan-scratch (lent p (now (list .entry)) (now (slots .entry)) (now (scratch .entry))) ⌝ }
+    ensures demand_3 { λ r. ⌜ Demand-3 (lent p (now (list .entry)) (now (slots .entry)) (now (scratch .entry))) (answer-of r) (now (slots .exit)) ⌝ }
 {
     let parties = p as usize;
     let checked = appointments::check_all(parties, list, slots.len(), scratch.len());
