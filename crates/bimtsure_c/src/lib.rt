@@ -2,12 +2,12 @@
 // the answer's enum into numbers, and says that they are the definitions', for acceptance and for every refusal.
 // host/include/bimtsure.h declares them.
 ghost use mathlib.Core.Path.{_≡_};
-ghost use lib.ListN.{length};
 ghost use Rattle.appointments.specs.Needed.{«needs-answer», «d-of», «words-of»};
-ghost use Rattle.planning.specs.Planning as Planning;
+ghost use Rattle.planning.specs.Planning.{«plan-answer», «plan-slots», «plan-scratch»};
 ghost use Rattle.planning.specs.Demand3.{«Demand-3»};
 ghost use Rattle.bimtsure_c.specs.Planned.{«answer-by»};
 ghost use Rattle.appointments.specs.Answers.{«number-of», «place-of», «figure-of»};
+ghost use Rattle.appointments.specs.Lent.{lent};
 ghost use Rattle.asking.specs.Waiting.{«waiting-answer»};
 ghost use Rattle.filing.specs.Filed.{«writing-answer», «writing-output», «reading-answer», «reading-list», «reading-slots», «parties-of», «appointments-of»};
 ghost use Rattle.viewing.specs.Viewer.{«viewer-answer», «view-step», «view-next»};
@@ -81,12 +81,12 @@ pub extern "C" fn bimtsure_plan(
     slots: &mut [u16],
     scratch: &mut [u32],
 ) -> BimtsureAnswer
-    ensures number { λ r. ⌜ r .number ≡ Planning.number-of (Planning.plan-answer p (now (list .entry)) (now (slots .entry)) (now (scratch .entry))) ⌝ }
-    ensures place { λ r. ⌜ r .place ≡ Planning.place-of (Planning.plan-answer p (now (list .entry)) (now (slots .entry)) (now (scratch .entry))) ⌝ }
-    ensures d { λ r. ⌜ r .d ≡ Planning.figure-of (Planning.plan-answer p (now (list .entry)) (now (slots .entry)) (now (scratch .entry))) ⌝ }
-    ensures slots { λ r. ⌜ now (slots .exit) ≡ Planning.plan-slots p (now (list .entry)) (now (slots .entry)) (now (scratch .entry)) ⌝ }
-    ensures scratch { λ r. ⌜ now (scratch .exit) ≡ Planning.plan-scratch p (now (list .entry)) (now (slots .entry)) (now (scratch .entry)) ⌝ }
-    ensures demand_3 { λ r. ⌜ Demand-3 p (now (list .entry)) (length (now (slots .entry))) (length (now (scratch .entry))) (answer-by (r .number) (r .place) (r .d)) (now (slots .exit)) ⌝ }
+    ensures number { λ r. ⌜ r .number ≡ number-of (plan-answer (lent p (now (list .entry)) (now (slots .entry)) (now (scratch .entry)))) ⌝ }
+    ensures place { λ r. ⌜ r .place ≡ place-of (plan-answer (lent p (now (list .entry)) (now (slots .entry)) (now (scratch .entry)))) ⌝ }
+    ensures d { λ r. ⌜ r .d ≡ figure-of (plan-answer (lent p (now (list .entry)) (now (slots .entry)) (now (scratch .entry)))) ⌝ }
+    ensures slots { λ r. ⌜ now (slots .exit) ≡ plan-slots (lent p (now (list .entry)) (now (slots .entry)) (now (scratch .entry))) ⌝ }
+    ensures scratch { λ r. ⌜ now (scratch .exit) ≡ plan-scratch (lent p (now (list .entry)) (now (slots .entry)) (now (scratch .entry))) ⌝ }
+    ensures demand_3 { λ r. ⌜ Demand-3 (lent p (now (list .entry)) (now (slots .entry)) (now (scratch .entry))) (answer-by (r .number) (r .place) (r .d)) (now (slots .exit)) ⌝ }
 {
     let answer = planning::bipartite_edge_color(p, list, slots, scratch);
     match answer {

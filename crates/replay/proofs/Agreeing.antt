@@ -5,31 +5,32 @@ use mathlib.Core.Bool.{Bool}
 use mathlib.Core.List.{List, [], _∷_}
 use native.Mathlib.Omega.{arith}
 use lib.ListN.{length, take}
-use Rattle.appointments.specs.Appointments.{appts}
-use Rattle.appointments.proofs.ChecksLaws.{Passes, passed-passes, good-length}
-use Rattle.planning.specs.Planning.{planned, refusal, plan-answer, plan-slots}
+use Rattle.appointments.specs.Answers.{accepted, refused}
+use Rattle.appointments.specs.Lent.{Lent, lent-appts}
+use Rattle.appointments.proofs.ChecksLaws.{Passes, good-length}
+use Rattle.appointments.proofs.LentLaws.{lent-passes}
+use Rattle.planning.specs.Planning.{plan-answer, plan-slots}
 use Rattle.planning.proofs.Demand3.{demand-3}
 use Rattle.replay.specs.Stored.{Decides, answer-told}
 
-module _ (P : ℕ) (list slots scratch : List ℕ) where
+module _ (l : Lent) where
   -- a plan: the list passed the checks, so there are A slots, and A is half the list's length
-  module _ (D : ℕ) (e : plan-answer P list slots scratch ≡ planned D) where
-    passes : Passes P list (length slots) (length scratch)
-    passes = passed-passes P list (length slots) (length scratch) (demand-3 P list slots scratch .only-passed D e)
+  module _ (D : ℕ) (e : plan-answer l ≡ accepted D) where
+    passes : Passes (l .parties) (l .list) (length (l .slots)) (length (l .scratch))
+    passes = lent-passes l (demand-3 l .only-passed D e)
 
-    half : length list / 2 ≡ length (appts list)
+    half : length (l .list) / 2 ≡ length (lent-appts l)
     half = omega (arith, good-length (passes .good))
 
-    pub slots-room : length list / 2 ≤ length slots
+    pub slots-room : length (l .list) / 2 ≤ length (l .slots)
     slots-room = omega (arith, half, passes .slot-room)
 
     pub plan-told :
-        (r : Bool) (stored : List ℕ) →
-        Decides r stored (0 ∷ D ∷ take (length list / 2) (plan-slots P list slots scratch)) →
-        Decides r stored (answer-told P list slots scratch)
+        (r : Bool) (stored : List ℕ) → Decides r stored (0 ∷ D ∷ take (length (l .list) / 2) (plan-slots l)) →
+        Decides r stored (answer-told l)
     plan-told r stored d = rw (e, ← half) d
 
   pub refusal-told :
-      (n i : ℕ) (r : Bool) (stored : List ℕ) → plan-answer P list slots scratch ≡ refusal n i →
-      Decides r stored (n ∷ i ∷ []) → Decides r stored (answer-told P list slots scratch)
+      (n i : ℕ) (r : Bool) (stored : List ℕ) → plan-answer l ≡ refused n i → Decides r stored (n ∷ i ∷ []) →
+      Decides r stored (answer-told l)
   refusal-told n i r stored e d = rw e d

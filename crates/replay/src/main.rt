@@ -11,6 +11,7 @@ ghost use mathlib.Core.Path.{_≡_};
 ghost use mathlib.Core.List.{[], _∷_};
 ghost use Prim.Native.Nat.{_+_, _<_, _≤_};
 ghost use lib.ListN.{length};
+ghost use Rattle.appointments.specs.Lent.{lent};
 ghost use Rattle.replay.specs.Stored.{Decides, «answer-told»};
 
 // How many lists got the stored answer, and how many another one.
@@ -67,7 +68,7 @@ fn same_refusal(stored: &[u16], number: usize, place: usize) -> bool
 
 // Whether the planning call gives the stored answer.
 fn agrees(p: u16, list: &[u16], stored: &[u16], slots: &mut [u16], scratch: &mut [u32]) -> bool
-    ensures { λ r. ⌜ Decides r (now (stored .entry)) (answer-told p (now (list .entry)) (now (slots .entry)) (now (scratch .entry))) ⌝ }
+    ensures { λ r. ⌜ Decides r (now (stored .entry)) (answer-told (lent p (now (list .entry)) (now (slots .entry)) (now (scratch .entry)))) ⌝ }
 {
     let answer = planning::bipartite_edge_color(p, list, slots, scratch);
     match answer {
