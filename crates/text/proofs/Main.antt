@@ -8,13 +8,14 @@ use native.Mathlib.Omega.{arith}
 use borrow.Author.Tests.{lt-ltb, le-ltb}
 use lib.ListN.{length, take, drop, length-append}
 use lib.Seq.{length-take-le}
-use Rattle.planning.specs.Planning.{planned, refusal, plan-answer, plan-slots}
-use Rattle.planning.specs.Planning as Planning
+use Rattle.appointments.specs.Answers.{accepted}
+use Rattle.appointments.specs.Answers as Answers
+use Rattle.planning.specs.Planning.{plan-answer, plan-slots}
 use Rattle.planning.specs.Told.{answer-of}
 use Rattle.planning.specs.declared.Answer.{Answer}
 use Rattle.text.specs.Reading.{Input, input, read-input}
 use Rattle.text.specs.Printing.{printed, plan-lines, refusal-line}
-use Rattle.text.specs.Text.{lent-slots, lent-scratch, planned-report, input-report, report, text-output}
+use Rattle.text.specs.Text.{main-lent, planned-report, input-report, report, text-output}
 use Rattle.text.specs.Placed.{Room, Printed, Has-d}
 use Rattle.text.proofs.TextLaws.{planned-passes, answer-fits, output-fits}
 
@@ -25,40 +26,40 @@ room bytes out h k = record { fits = omega (arith, h, k) }
 -- ── once the planning call has answered ──
 
 module _ (P : ℕ) (list : List ℕ) where
-  abbrev pub Answered : Planning.Answer → Type 0
-  Answered a = plan-answer P list lent-slots lent-scratch ≡ a
+  abbrev pub Answered : Answers.Answer ℕ → Type 0
+  Answered a = plan-answer (main-lent P list) ≡ a
 
   abbrev main-slots : List ℕ
-  main-slots = plan-slots P list lent-slots lent-scratch
+  main-slots = plan-slots (main-lent P list)
 
   -- what main prints of an answer
-  abbrev bytes-of : Planning.Answer → List ℕ
+  abbrev bytes-of : Answers.Answer ℕ → List ℕ
   bytes-of a = printed (planned-report P list a main-slots)
 
-  bytes-fit : (a : Planning.Answer) → Answered a → length (bytes-of a) ≤ 1801
+  bytes-fit : (a : Answers.Answer ℕ) → Answered a → length (bytes-of a) ≤ 1801
   bytes-fit a e = subst (λ b. length (bytes-of b) ≤ 1801) e (answer-fits P list)
 
   pub bytes-printed :
-      (a : Planning.Answer) → Answered a → (n : ℕ) (out after : List ℕ) → Printed (bytes-of a) n out after →
+      (a : Answers.Answer ℕ) → Answered a → (n : ℕ) (out after : List ℕ) → Printed (bytes-of a) n out after →
       Printed (printed (input-report (input P list))) n out after
   bytes-printed a e n out after p = subst (λ b. Printed (bytes-of b) n out after) (sym e) p
 
   -- planned with D
   pub plan-needs :
-      (D : ℕ) (slots out : List ℕ) → Answered (planned D) → slots ≡ main-slots → 1801 ≤ length out →
+      (D : ℕ) (slots out : List ℕ) → Answered (accepted D) → slots ≡ main-slots → 1801 ≤ length out →
       Has-d P list D × Room out 0 (plan-lines P list D slots)
   plan-needs D slots out e s h =
-      let told = planned-passes P list lent-slots lent-scratch D e in
-      (record { even = told .0 .good .even; largest = sym (told .1) }, rw s (room (bytes-of (planned D)) out (bytes-fit (planned D) e) h))
+      let told = planned-passes (main-lent P list) D e in
+      (record { even = told .0 .good .even; largest = sym (told .1) }, rw s (room (bytes-of (accepted D)) out (bytes-fit (accepted D) e) h))
 
   -- refused
   pub refusal-needs :
-      (number place : ℕ) (out : List ℕ) → Answered (refusal number place) → 1801 ≤ length out →
+      (number place : ℕ) (out : List ℕ) → Answered (Answers.Answer.refused number place) → 1801 ≤ length out →
       Room out 0 (refusal-line number place)
-  refusal-needs number place out e h = room (bytes-of (refusal number place)) out (bytes-fit (refusal number place) e) h
+  refusal-needs number place out e h = room (bytes-of (Answers.Answer.refused number place)) out (bytes-fit (Answers.Answer.refused number place) e) h
 
 -- the answer that was told
-pub told-answer : (r s : Answer) (a : Planning.Answer) → r ≡ s → answer-of r ≡ a → a ≡ answer-of s
+pub told-answer : (r s : Answer) (a : Answers.Answer ℕ) → r ≡ s → answer-of r ≡ a → a ≡ answer-of s
 told-answer r s a e t = sym t ∙ ap answer-of e
 
 -- ── the whole ──

@@ -5,26 +5,25 @@ use mathlib.Core.List.{List}
 use lib.Dec.{ltb}
 use lib.ListN.{length, replicate}
 use Rattle.words.specs.Basics.{pick}
-use Rattle.planning.specs.Planning.{Answer, planned, refusal, plan-answer, plan-slots}
+use Rattle.appointments.specs.Answers.{Answer, accepted}
+use Rattle.appointments.specs.Lent.{Lent, lent}
+use Rattle.planning.specs.Planning.{plan-answer, plan-slots}
 use Rattle.text.specs.Reading.{Input, input, malformed, read-input}
 use Rattle.text.specs.Printing.{Report, plan, refused, printed, plan-lines, refusal-line}
 
 -- Main lends 4,096 slot entries and 16,384 scratch words.
-abbrev pub lent-slots : List ℕ
-lent-slots = replicate 4096 0
-
-abbrev pub lent-scratch : List ℕ
-lent-scratch = replicate 16384 0
+abbrev pub main-lent : ℕ → List ℕ → Lent
+main-lent P list = lent P list (replicate 4096 0) (replicate 16384 0)
 
 -- what there is to print of the planning call's answer and slots
-abbrev pub planned-report : ℕ → List ℕ → Answer → List ℕ → Report
-planned-report P list (planned D) slots = plan P list D slots
-planned-report P list (refusal number place) slots = refused number place
+abbrev pub planned-report : ℕ → List ℕ → Answer ℕ → List ℕ → Report
+planned-report P list (accepted D) slots = plan P list D slots
+planned-report P list (Answer.refused number place) slots = refused number place
 
 -- what the planning call says of the input
 abbrev pub input-report : Input → Report
 input-report (input P list) =
-    planned-report P list (plan-answer P list lent-slots lent-scratch) (plan-slots P list lent-slots lent-scratch)
+    planned-report P list (plan-answer (main-lent P list)) (plan-slots (main-lent P list))
 input-report (malformed n) = refused 10 n
 
 -- 11 precedes 10, which precedes 1.
