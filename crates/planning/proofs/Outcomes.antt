@@ -18,10 +18,10 @@ use Rattle.appointments.proofs.AnswerLaws.{after-accepted}
 use Rattle.appointments.proofs.LentLaws.{lent-passes, lent-goes-on, lent-stays}
 use Rattle.two_color.specs.TwoSides.{Found-sides}
 use Rattle.two_color.proofs.TwoColorLaws.{two-color-decides}
-use Rattle.planning.specs.GivenPartition.{bipartite-edge-color-given-partition}
+use Rattle.given_partition.specs.GivenPartition.{bipartite-edge-color-given-partition}
 use Rattle.planning.specs.Planning.{plan, graph-not-bipartite, outcome, given-sides, bipartite-edge-color, check-outcome, outcome-slots, lent-outcome, plan-answer, plan-slots}
 use Rattle.planning.specs.Demand3.{Shortest-plan}
-use Rattle.planning.proofs.GivenPartitionLaws.{Proper-plan, given-partition-law}
+use Rattle.given_partition.proofs.GivenPartitionLaws.{Proper-plan, given-partition-law}
 
 -- A plan without a clash whose slots are below D is a shortest plan: by the lower bound no other is shorter, and by the
 -- pigeonhole principle a busiest party meets each of its slots once.

@@ -18,14 +18,17 @@ use Rattle.appointments.proofs.Loads.{Listed, largest-load-empty}
 use Rattle.appointments.proofs.ChecksLaws.{Passes, passes-passed, good-goes-on}
 use Rattle.appointments.proofs.LentLaws.{lent-passes, lent-goes-on}
 use Rattle.appointments.proofs.Answering.{checked-passed, checked-figure, checked-number, d-small}
-use Rattle.bipartition.specs.TwoColor.{not-bipartite, two-color}
+use Rattle.two_color.specs.TwoColor.{sides, not-bipartite, two-color}
 use Rattle.two_color.specs.Contract.{Colored}
 use Rattle.two_color.specs.declared.TwoColoring.the-variants.{Sides, NotBipartite}
-use Rattle.planning.specs.Planning.{plan, graph-not-bipartite, given-sides, bipartite-edge-color, check-outcome, lent-outcome, plan-answer, plan-slots, plan-scratch}
+use Rattle.two_color.proofs.TwoColorLaws.{sides-proper}
+use Rattle.given_partition.specs.GivenPartition.{bipartite-edge-color-given-partition}
+use Rattle.given_partition.specs.Steps.{Ready, left-side, right-side, Sided, Slots-planned}
+use Rattle.given_partition.proofs.Sizes.{sizes}
+use Rattle.planning.specs.Planning.{plan, graph-not-bipartite, outcome, given-sides, bipartite-edge-color, check-outcome, lent-outcome, plan-answer, plan-slots, plan-scratch}
 use Rattle.planning.specs.Demand3.{Demand-3}
-use Rattle.planning.specs.Steps.{Ready, Sided, Slots-planned, Worked-out}
+use Rattle.planning.specs.Steps.{Worked-out}
 use Rattle.planning.specs.Computing.{computing}
-use Rattle.planning.proofs.Sizes.{sizes}
 use Rattle.planning.proofs.Outcomes.{barred-answer}
 use Rattle.planning.proofs.Demand3.{demand-3}
 use Rattle.planning.proofs.Frame.{refusal-slots, barred-scratch, passed-clears}
@@ -37,21 +40,23 @@ ready-on : {P D q : ℕ} {list s t : List ℕ} → length t ≡ length s → Rea
 ready-on e r =
     record { checked = rw e (r .checked); largest = r .largest; unit = r .unit; whole = e ∙ r .whole }
 
+-- the two sides, from word 0 and from word P on
+sides-found :
+    {P u l : ℕ} {list s t : List ℕ} → Colored P list 0 s u t (Sides l) →
+    two-color P (appts list) ≡ sides (left-side t l) (right-side t P l)
+sides-found c = rw zero-add at (c .answers .1)
+
 module _ {P D q u l : ℕ} {list s t : List ℕ} (r : Ready P D q list s) where
   pub two-colored : 0 < P → Colored P list 0 s u t (Sides l) → Sided P D q l list t
   two-colored some c =
+      let proper = sides-proper P (appts list) (sizes r .listed) (sides-found c) in
       record {
         ready = ready-on (c .keeps .len) r;
         some = some;
         few = c .answers .0;
-        found = rw zero-add at (c .answers .1);
+        side = proper .0;
+        two = proper .1;
       }
-
--- slots planned from words that are as long as those before
-pub planned-from :
-    {P : ℕ} {list slots after s t v : List ℕ} → length t ≡ length s → Slots-planned P list slots after t v →
-    Slots-planned P list slots after s v
-planned-from e x = record { slots-of = x .slots-of; found = x .found; held = x .held; len = x .len ∙ e }
 
 -- without parties there is no appointment, and nothing to give
 none-listed : (xs : List Appt) → All (Listed 0) xs → xs ≡ []
@@ -65,6 +70,12 @@ no-slots = refl
 odd-outcome : (P : ℕ) (xs : List Appt) → two-color P xs ≡ not-bipartite → bipartite-edge-color P xs ≡ graph-not-bipartite
 unfolding bipartite-edge-color
 odd-outcome P xs e = ap (given-sides P xs) e
+
+sided-outcome :
+    (P : ℕ) (xs : List Appt) {left right : List ℕ} → two-color P xs ≡ sides left right →
+    bipartite-edge-color P xs ≡ outcome (bipartite-edge-color-given-partition P xs left right)
+unfolding bipartite-edge-color
+sided-outcome P xs e = ap (given-sides P xs) e
 
 module _ {P D : ℕ} {list slots : List ℕ} where
   pub worked-none : {q : ℕ} {s : List ℕ} → Ready P D q list s → P ≡ 0 → Worked-out P D list slots slots (accepted 0) s s
@@ -81,25 +92,24 @@ module _ {P D : ℕ} {list slots : List ℕ} where
       record { answers = rw found; holds = refl; len = c .keeps .len }
 
   pub worked-plan :
-      {after s t v : List ℕ} → length t ≡ length s → Slots-planned P list slots after t v →
-      Worked-out P D list slots after (accepted D) s v
-  worked-plan e x =
-      record { answers = rw (x .found); holds = rw (x .found) (x .held); len = x .len ∙ e }
+      {l u : ℕ} {slots' s t v : List ℕ} → Colored P list 0 s u t (Sides l) → Slots-planned P l list slots slots' t v →
+      Worked-out P D list slots slots' (accepted D) s v
+  worked-plan c x =
+      let found : bipartite-edge-color P (appts list) ≡ plan (x .slots-of) =
+      sided-outcome P (appts list) (sides-found c) ∙ ap outcome (x .found) in
+      record { answers = rw found; holds = rw found (x .held); len = x .len ∙ c .keeps .len }
 
 -- ── clearing ──
 
-cleared-all : (w : ℕ) (v c : List ℕ) → length v ≡ w → c ≡ replicate w 0 ++ drop w v → c ≡ replicate w 0
-cleared-all w v c e h =
-    let none : drop w v ≡ [] = drop-of-length-le v {i = w} (omega arith) in
-    h ∙ rw (none, append-nil)
+cleared-all : (v c : List ℕ) → c ≡ replicate (length v) 0 ++ drop (length v) v → c ≡ replicate (length v) 0
+cleared-all v c h = h ∙ rw (drop-of-length-le v {i = length v} (omega arith), append-nil)
 
 pub worked-cleanly :
-    {P D q : ℕ} {list slots after s v c : List ℕ} {a : Answer ℕ} → Ready P D q list s →
-    Worked-out P D list slots after a s v → c ≡ replicate (128 * q) 0 ++ drop (128 * q) v →
-    Worked-out P D list slots after a s c × (c ≡ replicate (128 * q) 0)
-worked-cleanly {P} {D} {q} {list} {slots} {after} {s} {v} {c} r x h =
-    let zeros : c ≡ replicate (128 * q) 0 = cleared-all (128 * q) v c (x .len ∙ r .whole) h in
-    let len : length c ≡ length s = rw zeros (length-replicate (128 * q) 0 ∙ sym (r .whole)) in
+    {P D : ℕ} {list slots slots' s v c : List ℕ} {a : Answer ℕ} → Worked-out P D list slots slots' a s v →
+    c ≡ replicate (length v) 0 ++ drop (length v) v → Worked-out P D list slots slots' a s c × (c ≡ replicate (length s) 0)
+worked-cleanly {s} {v} {c} x h =
+    let zeros : c ≡ replicate (length s) 0 = cleared-all v c h ∙ rw (x .len) in
+    let len : length c ≡ length s = rw zeros (length-replicate (length s) 0) in
     (record { answers = x .answers; holds = x .holds; len = len }, zeros)
 
 -- ── the call ──
@@ -182,11 +192,11 @@ module _ (l : Lent) where
 
     pub planned-stated :
         {a : Answer ℕ} {slots cleared : List ℕ} →
-        Worked-out (l .parties) D (l .list) (l .slots) slots a (take (128 * q) (l .scratch)) cleared × (cleared ≡ replicate (128 * q) 0) →
+        Worked-out (l .parties) D (l .list) (l .slots) slots a (take (128 * q) (l .scratch)) cleared × (cleared ≡ replicate (length (take (128 * q) (l .scratch))) 0) →
         Stated a slots (cleared ++ drop (128 * q) (l .scratch))
     unfolding plan-answer plan-slots
     planned-stated {a} {slots} {cleared} x =
         let answers : a ≡ plan-answer l = rw (lent-goes-on l (check-outcome (lent-outcome l)) ok, ← figure) (x .0 .answers) in
         let clears : cleared ++ drop (128 * q) (l .scratch) ≡ plan-scratch l =
-        rw (passed-clears l ok, length-replicate {A = ℕ} (lent-words l) 0, words-are, x .1) in
+        rw (passed-clears l ok, length-replicate {A = ℕ} (lent-words l) 0, words-are, x .1, ← taken-length (128 * q) (omega arith)) in
         stated a slots (cleared ++ drop (128 * q) (l .scratch)) answers (rw (← answers) (x .0 .holds)) clears

@@ -1,4 +1,3 @@
-pub mod GivenPartition
 pub mod Planning
 pub mod Demand3
 pub mod FifteenLists

@@ -25,7 +25,7 @@ given-partition-requires c κs =
 returns-3 : tie.Need-returns-3
 returns-3 c =
     let colored = c .before .before .before .before .before .before .before .before .before .before .before .before .two-sides .ensures in
-    worked-plan (colored .keeps .len) (c .before .before .before .before .bipartite-edge-color-given-partition .ensures)
+    worked-plan (rw (c .before .before .before .before .before .before .before .before .colored .given .1) at colored) (c .before .before .before .before .bipartite-edge-color-given-partition .ensures)
 
 pub work-out-spec : {M : Type 1} → statement M
 work-out-spec =

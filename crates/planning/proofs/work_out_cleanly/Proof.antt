@@ -6,9 +6,9 @@ use Rattle.planning.proofs.work_out_cleanly.Tie as tie
 
 returns : tie.Need-returns
 returns c =
-    worked-cleanly (c .before .before .before .before .before .before .before .before .before .before .before .before .before .before .pre .0) (c .before .before .before .before .before .before .before .before .work-out .ensures) (c .before .before .clear .ensures)
+    worked-cleanly (c .before .before .before .before .before .before .before .before .work-out .ensures) (c .before .before .clear .ensures)
 
 pub work-out-cleanly-spec : {M : Type 1} → statement M
 work-out-cleanly-spec =
     tie.close
-    (tie.spec (λ c κs. search needs) (λ c. search needs) (λ c κs. search needs) (λ c. search needs) (λ c. search needs) returns)
+    (tie.spec (λ c κs. search needs) (λ c κs. search needs) (λ c. search needs) (λ c. search needs) returns)

@@ -1,4 +1,4 @@
--- `planning::color` meets its contract: a walk of its MIR, by hand, over the rules of `mark`.
+-- `given_partition::color` meets its contract: a walk of its MIR, by hand, over the rules of `mark`.
 -- Assumes nothing.
 use mathlib.Core.Path.{_≡_, refl, subst, ap}
 use Prim.Native.Nat.{ℕ, _<_, _^_}
@@ -46,10 +46,10 @@ use Rattle.edge_color.proofs.rbmg_edge_color.Symbol as rbmg-edge-color-def
 use Rattle.edge_color.proofs.rbmg_edge_color.Symbol.{name as #edge-color·rbmg-edge-color}
 use Rattle.edge_color.proofs.rbmg_edge_color.Met as rbmg-edge-color-thm
 use Rattle.edge_color.specs.Room.{Color-fits, Colored}
-use Rattle.planning.proofs.color.Key.{name as #planning·color}
-use Rattle.planning.proofs.color as color
-use Rattle.planning.proofs.color.Statement as stated
-use Rattle.planning.proofs.color.Code as code
+use Rattle.given_partition.proofs.color.Key.{name as #given-partition·color}
+use Rattle.given_partition.proofs.color as color
+use Rattle.given_partition.proofs.color.Statement as stated
+use Rattle.given_partition.proofs.color.Code as code
 
 -- the parameters after the scratch
 abbrev ps : List (Slot 1)
@@ -112,6 +112,6 @@ pub color-spec : {M : Type 1} → stated.statement M
 unfolding code.routine tablesOf
 color-spec 𝓤 H 𝓜 𝓖 𝓡 =
     entered 𝓤 H (tripleOf 𝓤 H (𝓖 .A) color.signature (color.spec 𝓤 H (𝓖 .A) (𝓜 .mem) (𝓡 .run)))
-    (tables 𝓤 H 𝓜 𝓡 code.env .C) (tables 𝓤 H 𝓜 𝓡 code.env .Λ) #planning·color code.function (code.unfolded 𝓤 H 𝓜 𝓡)
+    (tables 𝓤 H 𝓜 𝓡 code.env .C) (tables 𝓤 H 𝓜 𝓡 code.env .Λ) #given-partition·color code.function (code.unfolded 𝓤 H 𝓜 𝓡)
     (color-meets 𝓤 H (𝓖 .A) (givenOf 𝓤 H 𝓜 𝓖) (𝓜 .mem) (𝓡 .run) (tablesOf 𝓤 H 𝓜 (tables 𝓤 H 𝓜 𝓡 code.env))
     (cited 𝓤 H (RbmgEdgeColorC 𝓤 H (𝓖 .A) (𝓜 .mem) (𝓡 .run)) 𝓜 𝓡 code.env #edge-color·rbmg-edge-color rbmg-edge-color-def.routine code.calls-edge-color·rbmg-edge-color (rbmg-edge-color-thm.met 𝓤 H 𝓜 𝓖 𝓡)))

@@ -11,7 +11,7 @@ use Rattle.words.proofs.Sums.{sum-below-le, sum-below-const}
 use Rattle.appointments.specs.Appointments.{appts, load, largest-load}
 use Rattle.appointments.proofs.Loads.{Listed, load-le-largest, list-loads-sum}
 use Rattle.appointments.proofs.ChecksLaws.{Passes, passed-passes}
-use Rattle.planning.specs.Steps.{Ready}
+use Rattle.given_partition.specs.Steps.{Ready}
 
 -- What the checks give: D·P, and the unit q.
 pub record Sizes (P D q : ℕ) (list s : List ℕ) : Type 0 where

@@ -1,4 +1,4 @@
--- `planning::prepare` meets its contract: a walk of its MIR, by hand, over the rules of `mark`.
+-- `given_partition::prepare` meets its contract: a walk of its MIR, by hand, over the rules of `mark`.
 -- Assumes nothing.
 use mathlib.Core.Path.{_≡_, refl, ap, _∙_}
 use Prim.Native.Nat.{ℕ, _<_, _^_, _*_, _-_}
@@ -36,12 +36,10 @@ use denote.Triple.Spec.{tripleOf}
 use denote.Triple.Statement.{Contract, Triple}
 use denote.Triple.Table.{entered, cited}
 use denote.Triple.Walked.{needs}
-use Rattle.list_pairs.specs.Contract.{Pairs-made}
-use Rattle.evening.specs.Contract.{Sides-padded, Evened-out}
-use Rattle.diagonal.specs.Contract.{Diagonal-set}
-use Rattle.planning.specs.Steps.{Sided}
-use Rattle.planning.proofs.Sizes.{Sizes, sizes}
-use Rattle.planning.proofs.Preparing.{can-pad, can-pair, can-even, can-diagonal, prepared, prepared-length}
+use Rattle.evening.specs.Contract.{Sides-padded, Pairs-made, Evened-out, Diagonal-set}
+use Rattle.given_partition.specs.Steps.{Sided}
+use Rattle.given_partition.proofs.Sizes.{Sizes, sizes}
+use Rattle.given_partition.proofs.Preparing.{can-pad, can-pair, can-even, can-diagonal, prepared, prepared-length}
 use Rattle.mark.specs.declared.Mark.{Mark}
 use Rattle.mark.proofs.Lending.{Lent, scratch-own, mark-val, scratch-val, calls-scratch-plain, calls-both, calls-both-plain, scratch-ref, mark-ref}
 use Rattle.mark.proofs.Marking.{shown}
@@ -61,14 +59,14 @@ use Rattle.evening.proofs.even_out as even-out
 use Rattle.evening.proofs.even_out.Symbol as even-out-def
 use Rattle.evening.proofs.even_out.Symbol.{name as #evening·even-out}
 use Rattle.evening.proofs.even_out.Met as even-out-thm
-use Rattle.diagonal.proofs.diagonal as diagonal
-use Rattle.diagonal.proofs.diagonal.Symbol as diagonal-def
-use Rattle.diagonal.proofs.diagonal.Symbol.{name as #diagonal·diagonal}
-use Rattle.diagonal.proofs.diagonal.Met as diagonal-thm
-use Rattle.planning.proofs.prepare.Key.{name as #planning·prepare}
-use Rattle.planning.proofs.prepare as prepare
-use Rattle.planning.proofs.prepare.Statement as stated
-use Rattle.planning.proofs.prepare.Code as code
+use Rattle.evening.proofs.diagonal as diagonal
+use Rattle.evening.proofs.diagonal.Symbol as diagonal-def
+use Rattle.evening.proofs.diagonal.Symbol.{name as #evening·diagonal}
+use Rattle.evening.proofs.diagonal.Met as diagonal-thm
+use Rattle.given_partition.proofs.prepare.Key.{name as #given-partition·prepare}
+use Rattle.given_partition.proofs.prepare as prepare
+use Rattle.given_partition.proofs.prepare.Statement as stated
+use Rattle.given_partition.proofs.prepare.Code as code
 
 -- the parameters after the scratch
 abbrev ps : List (Slot 2)
@@ -199,7 +197,7 @@ pub prepare-spec : {M : Type 1} → stated.statement M
 unfolding code.routine tablesOf
 prepare-spec 𝓤 H 𝓜 𝓖 𝓡 =
     entered 𝓤 H (tripleOf 𝓤 H (𝓖 .A) prepare.signature (prepare.spec 𝓤 H (𝓖 .A) (𝓜 .mem) (𝓡 .run)))
-    (tables 𝓤 H 𝓜 𝓡 code.env .C) (tables 𝓤 H 𝓜 𝓡 code.env .Λ) #planning·prepare code.function (code.unfolded 𝓤 H 𝓜 𝓡)
+    (tables 𝓤 H 𝓜 𝓡 code.env .C) (tables 𝓤 H 𝓜 𝓡 code.env .Λ) #given-partition·prepare code.function (code.unfolded 𝓤 H 𝓜 𝓡)
     (prepare-meets 𝓤 H (𝓖 .A) (givenOf 𝓤 H 𝓜 𝓖) (𝓜 .mem) (𝓡 .run) (tablesOf 𝓤 H 𝓜 (tables 𝓤 H 𝓜 𝓡 code.env))
     (cited 𝓤 H (PadSidesC 𝓤 H (𝓖 .A) (𝓜 .mem) (𝓡 .run)) 𝓜 𝓡 code.env #evening·pad-sides pad-sides-def.routine code.calls-evening·pad-sides (pad-sides-thm.met 𝓤 H 𝓜 𝓖 𝓡))
     (cited 𝓤 H (PairsFromListC 𝓤 H (𝓖 .A) (𝓜 .mem) (𝓡 .run)) 𝓜 𝓡 code.env #list-pairs·pairs-from-list pairs-from-list-def.routine code.calls-list-pairs·pairs-from-list (pairs-from-list-thm.met 𝓤 H 𝓜 𝓖 𝓡))

@@ -9,9 +9,8 @@ use lib.ListN.{length}
 use Rattle.words.specs.Basics.{All, ran}
 use Rattle.words.specs.Words.{word, region}
 use Rattle.appointments.specs.Appointments.{appts}
-use Rattle.appointments.specs.TwoSides.{Two-sides}
-use Rattle.bipartition.proofs.TwoColorLaws.{sides-proper}
-use Rattle.words.proofs.Regions.{region-same, region-length, region-front}
+use Rattle.two_color.specs.Contract.{region}
+use Rattle.two_color.proofs.Regions.{region-same, region-length, region-front}
 use Rattle.multigraph.specs.Regular.{Partition}
 use Rattle.multigraph.specs.Stored.{graph-at}
 use Rattle.multigraph.specs.Places.{size, number, Alike, Has-ends}
@@ -20,15 +19,13 @@ use Rattle.multigraph.proofs.Ends.{same-ends-sym}
 use Rattle.matching.specs.declared.Table.{Table}
 use Rattle.matching.specs.Searched.{column, lefts, rights, Tabled}
 use Rattle.edge_color.specs.Room.{Colorable, Color-fits}
-use Rattle.regular_graph.specs.Evening.{add-appointments, padded, even-out}
-use Rattle.list_pairs.specs.Contract.{Can-pair, Pairs-made}
-use Rattle.evening.specs.Contract.{Can-pad, Sides-padded, Can-even, Evened-out}
-use Rattle.diagonal.specs.Contract.{Can-diagonal, Diagonal-set}
-use Rattle.regular_graph.proofs.Pairs.{Crosses, sound-list, degree-load}
-use Rattle.regular_graph.proofs.Padding.{padded-side, padded-partition, padded-crosses, padded-loads}
-use Rattle.regular_graph.proofs.RegularLaws.{Evened, even-out-law}
-use Rattle.planning.specs.Steps.{table, Sided, Prepared}
-use Rattle.planning.proofs.Sizes.{Sizes, sizes, Side-sizes, side-sizes, le-product}
+use Rattle.evening.specs.Evening.{add-appointments, padded, even-out}
+use Rattle.evening.specs.Contract.{Has-ends, Can-pad, Sides-padded, Can-pair, Pairs-made, Can-even, Evened-out, Can-diagonal, Diagonal-set}
+use Rattle.evening.proofs.Pairs.{Crosses, sound-list, degree-load}
+use Rattle.evening.proofs.Padding.{padded-side, padded-partition, padded-crosses, padded-loads}
+use Rattle.evening.proofs.EvenOut.{Evened, even-out-law}
+use Rattle.given_partition.specs.Steps.{table, Sided, Prepared}
+use Rattle.given_partition.proofs.Sizes.{Sizes, sizes, Side-sizes, side-sizes, le-product}
 
 -- ── the rows of the diagonal, as regions ──
 
@@ -53,12 +50,12 @@ module _ {P D q l : ℕ} {list s₀ : List ℕ} (h : Sided P D q l list s₀) wh
   z : Sizes P D q list s₀
   z = sizes (h .ready)
 
-  two : (side : ℕ → ℕ) × Two-sides P (appts list) side (region s₀ 0 l) (region s₀ P (P - l))
-  two = sides-proper P (appts list) (z .listed) (h .found)
+  pub d-small : D ≤ 8192
+  d-small = omega (arith, z .product, le-product D P (h .some))
 
   -- the sides of the padded graph
   abbrev side' : ℕ → ℕ
-  side' = padded-side P (region s₀ 0 l) (region s₀ P (P - l)) (two .0)
+  side' = padded-side P (region s₀ 0 l) (region s₀ P (P - l)) (h .side)
 
   pub can-pad : Can-pad P 0 l P (P - l) s₀
   can-pad =
@@ -83,10 +80,10 @@ module _ {P D q l : ℕ} {list s₀ : List ℕ} (h : Sided P D q l list s₀) wh
     n-is = rw (region-length s₀ 0 l, region-length s₀ P (P - l)) (x .longer)
 
     partition₀ : Partition (n + n) side' (padded P n (region s₀ 0 l)) (padded P n (region s₀ P (P - l)))
-    partition₀ = rw n-is (padded-partition P (appts list) (two .0) (region s₀ 0 l) (region s₀ P (P - l)) (two .1))
+    partition₀ = rw n-is (padded-partition P (appts list) (h .side) (region s₀ 0 l) (region s₀ P (P - l)) (h .two))
 
     crosses : All (Crosses (n + n) side') (appts list)
-    crosses = rw n-is (padded-crosses P (appts list) (two .0) (region s₀ 0 l) (region s₀ P (P - l)) (two .1) (z .listed))
+    crosses = rw n-is (padded-crosses P (appts list) (h .side) (region s₀ 0 l) (region s₀ P (P - l)) (h .two) (z .listed))
 
     -- the padded sides stand at 0 and at P, below the table of ends
     record Sides-in (s : List ℕ) : Type 0 where
@@ -292,7 +289,7 @@ module _ {P D q l : ℕ} {list s₀ : List ℕ} (h : Sided P D q l list s₀) wh
           pair-word : (i : ℕ) → i < length list / 2 → word s₄ (9 * q + i) ≡ word s₃ (9 * q + i)
           pair-word i k = high (9 * q + i) (omega arith) (omega (arith, z .named, z .unit))
 
-          pub prepared : Prepared P D q n list s₄
+          pub prepared : Prepared P D q n list (region s₀ 0 l) (region s₀ P (P - l)) s₄
           prepared =
               record {
                 ready =
@@ -302,9 +299,6 @@ module _ {P D q l : ℕ} {list s₀ : List ℕ} (h : Sided P D q l list s₀) wh
                       unit = h .ready .unit;
                       whole = len₄;
                     };
-                left = region s₀ 0 l;
-                right = region s₀ P (P - l);
-                found = h .found;
                 longer = n-is;
                 evened = rw (kept .sizes, kept .same m) evened₃;
                 lefts-are = rw (kept .sizes) lefts₄;

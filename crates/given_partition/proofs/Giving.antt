@@ -1,5 +1,5 @@
 -- From the evened graph to the slots: the matchings of its colouring lie where the slots are given from, and what is given are the
--- slots of `bipartite_edge_color`. Assumes nothing.
+-- slots of `bipartite_edge_color_given_partition`. Assumes nothing.
 use Prim.Native.Nat.{ℕ, _+_, _*_, _/_, _<_, _≤_, max}
 use mathlib.Core.Path.{_≡_, sym, _∙_, ap}
 use mathlib.Core.List.{List, []}
@@ -10,8 +10,6 @@ use Rattle.words.specs.Words.{word}
 use Rattle.words.proofs.Runs.{ran-is}
 use Rattle.appointments.specs.Appointments.{Appt, appts, largest-load}
 use Rattle.appointments.proofs.Flat.{appts-count}
-use Rattle.appointments.specs.TwoSides.{Two-sides}
-use Rattle.bipartition.proofs.TwoColorLaws.{sides-proper}
 use Rattle.multigraph.specs.Multigraph.{Graph}
 use Rattle.multigraph.specs.Stored.{graph-at, matchings-at}
 use Rattle.multigraph.specs.Places.{size}
@@ -22,11 +20,10 @@ use Rattle.regular_graph.specs.Evening.{add-appointments, padded, even-out}
 use Rattle.list_pairs.proofs.Listed.{appt-at}
 use Rattle.slots.specs.Slots.{give-slots}
 use Rattle.slots.specs.Stored.{Slots-fit, Gives-slots}
-use Rattle.planning.specs.GivenPartition.{bipartite-edge-color-given-partition}
-use Rattle.planning.specs.Planning.{plan, outcome, given-sides, bipartite-edge-color}
-use Rattle.planning.specs.Steps.{table, Prepared, Slots-planned}
-use Rattle.planning.proofs.GivenPartitionLaws.{Proper-plan, given-partition-law}
-use Rattle.planning.proofs.Sizes.{Sizes, sizes, le-product}
+use Rattle.given_partition.specs.GivenPartition.{bipartite-edge-color-given-partition}
+use Rattle.given_partition.specs.Steps.{table, left-side, right-side, Sided, Prepared, Slots-planned}
+use Rattle.given_partition.proofs.GivenPartitionLaws.{Proper-plan, given-partition-law}
+use Rattle.given_partition.proofs.Sizes.{Sizes, sizes, le-product}
 
 -- the definition, step by step
 steps-run :
@@ -38,7 +35,15 @@ steps-run :
 unfolding bipartite-edge-color-given-partition
 steps-run P xs left right D n g ms largest longer evened colored = rw (← largest, ← longer, evened, colored)
 
-module _ {P D q n : ℕ} {list s : List ℕ} (h : Prepared P D q n list s) where
+module _
+    {P D q n l : ℕ} {list s₀ s : List ℕ} (on : Sided P D q l list s₀)
+    (h : Prepared P D q n list (left-side s₀ l) (right-side s₀ P l) s) where
+  abbrev left : List ℕ
+  left = left-side s₀ l
+
+  abbrev right : List ℕ
+  right = right-side s₀ P l
+
   z : Sizes P D q list s
   z = sizes (h .ready)
 
@@ -80,30 +85,23 @@ module _ {P D q n : ℕ} {list s : List ℕ} (h : Prepared P D q n list s) where
     abbrev ms : List Graph
     ms = matchings-at t (3 * q) m (10 * q) n D
 
-    two : (side : ℕ → ℕ) × Two-sides P (appts list) side (h .left) (h .right)
-    two = sides-proper P (appts list) (z .listed) (h .found)
-
-    colored : rbmg-edge-color D (n + n) (padded P n (h .left)) (padded P n (h .right)) D (graph-at s (3 * q) m (11 * q)) ≡ ran ms
+    colored : rbmg-edge-color D (n + n) (padded P n left) (padded P n right) D (graph-at s (3 * q) m (11 * q)) ≡ ran ms
     colored =
         let two-n : 2 * n ≡ n + n = omega arith in
         rw (two-n, h .lefts-are, h .rights-are) at (x .colors D (omega arith))
 
-    given-is : bipartite-edge-color-given-partition P (appts list) (h .left) (h .right) ≡ give-slots (appts list) ms
+    given-is : bipartite-edge-color-given-partition P (appts list) left right ≡ give-slots (appts list) ms
     given-is =
-        steps-run P (appts list) (h .left) (h .right) D n (graph-at s (3 * q) m (11 * q)) ms (h .ready .largest) (h .longer)
+        steps-run P (appts list) left right D n (graph-at s (3 * q) m (11 * q)) ms (h .ready .largest) (h .longer)
         (h .evened) colored
 
     -- it gives a plan
     planned :
-        (p : List ℕ) × (bipartite-edge-color-given-partition P (appts list) (h .left) (h .right) ≡ ran p)
+        (p : List ℕ) × (bipartite-edge-color-given-partition P (appts list) left right ≡ ran p)
         × Proper-plan P (appts list) p
     planned =
-        ran-is (Proper-plan P (appts list)) (bipartite-edge-color-given-partition P (appts list) (h .left) (h .right))
-        (given-partition-law P (appts list) (two .0) (h .left) (h .right) (z .listed) (two .1))
-
-    found : bipartite-edge-color P (appts list) ≡ plan (planned .0)
-    unfolding bipartite-edge-color
-    found = ap (given-sides P (appts list)) (h .found) ∙ ap outcome (planned .1)
+        ran-is (Proper-plan P (appts list)) (bipartite-edge-color-given-partition P (appts list) left right)
+        (given-partition-law P (appts list) (on .side) left right (z .listed) (on .two))
 
     -- of the words below the first mark only the map and the matchings have changed
     low : (i : ℕ) → i < 7 * q → word t i ≡ word s i
@@ -149,12 +147,12 @@ module _ {P D q n : ℕ} {list s : List ℕ} (h : Prepared P D q n list s) where
 
       pub slots-planned :
           {v after : List ℕ} → Gives-slots (length list / 2) n D (10 * q) (9 * q) (11 * q) t slots v after →
-          Slots-planned P list slots after s v
-      slots-planned g =
+          length s ≡ length s₀ → Slots-planned P l list slots after s₀ v
+      slots-planned g kept =
           let stored = g (3 * q) m (appts list) (planned .0) as-many slots-fit in
           record {
             slots-of = planned .0;
-            found = found;
+            found = planned .1;
             held = stored .held;
-            len = stored .changes .len ∙ x .spares .len;
+            len = stored .changes .len ∙ x .spares .len ∙ kept;
           }

@@ -1,0 +1,4 @@
+pub mod GivenPartitionLaws
+pub mod Sizes
+pub mod Preparing
+pub mod Giving

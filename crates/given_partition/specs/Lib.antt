@@ -1,0 +1,3 @@
+pub mod GivenPartition
+pub mod Steps
+pub mod Computing
