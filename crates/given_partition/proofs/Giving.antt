@@ -21,7 +21,7 @@ use Rattle.list_pairs.proofs.Listed.{appt-at}
 use Rattle.slots.specs.Slots.{give-slots}
 use Rattle.slots.specs.Stored.{Slots-fit, Gives-slots}
 use Rattle.given_partition.specs.GivenPartition.{bipartite-edge-color-given-partition}
-use Rattle.given_partition.specs.Steps.{table, left-side, right-side, Sided, Prepared, Slots-planned}
+use Rattle.given_partition.specs.Steps.{ends-at, places-at, apair-at, out-at, graph-base, first-mark, table, left-side, right-side, Sided, Prepared, Slots-planned}
 use Rattle.given_partition.proofs.GivenPartitionLaws.{Proper-plan, given-partition-law}
 use Rattle.given_partition.proofs.Sizes.{Sizes, sizes, le-product}
 
@@ -48,12 +48,12 @@ module _
   z = sizes (h .ready)
 
   abbrev m : ℕ
-  m = size s (11 * q)
+  m = size s (graph-base q)
 
   -- the graph can be coloured, its number of pairs having been read
   pub can-color :
-      (pairs : ℕ) → pairs ≡ word s (11 * q + 1) →
-      Color-fits (table P q pairs) s (15 * q) (11 * q) n D (10 * q)
+      (pairs : ℕ) → pairs ≡ word s (graph-base q + 1) →
+      Color-fits (table P q pairs) s (first-mark q) (graph-base q) n D (out-at q)
   can-color pairs e = rw e (h .fits)
 
   matchings-le : n * D ≤ q
@@ -67,8 +67,8 @@ module _
       (a d : ℕ) → a ≤ length list → n * d ≤ n * (D + 1) → (t : List ℕ) → length t ≡ length s →
       (d < 4294967296)
       × ((n * d < 4294967296)
-      × ((10 * q + n * d ≤ length t)
-      × ((10 * q < 4294967296) × ((9 * q + a < 4294967296) × (11 * q < 4294967296)))))
+      × ((out-at q + n * d ≤ length t)
+      × ((out-at q < 4294967296) × ((apair-at q + a < 4294967296) × (graph-base q < 4294967296)))))
   small a d few below t e =
       let some : d ≤ n * d = omega (arith, le-product d n (h .fits .graph .some)) in (
         omega (arith, some, h .fits .graph .sized),
@@ -81,18 +81,18 @@ module _
         ),
       )
 
-  module _ {u : ℕ} {t : List ℕ} (x : Colored (table P q m) s t (15 * q) u (11 * q) n D (10 * q)) where
+  module _ {u : ℕ} {t : List ℕ} (x : Colored (table P q m) s t (first-mark q) u (graph-base q) n D (out-at q)) where
     abbrev ms : List Graph
-    ms = matchings-at t (3 * q) m (10 * q) n D
+    ms = matchings-at t (ends-at q) m (out-at q) n D
 
-    colored : rbmg-edge-color D (n + n) (padded P n left) (padded P n right) D (graph-at s (3 * q) m (11 * q)) ≡ ran ms
+    colored : rbmg-edge-color D (n + n) (padded P n left) (padded P n right) D (graph-at s (ends-at q) m (graph-base q)) ≡ ran ms
     colored =
         let two-n : 2 * n ≡ n + n = omega arith in
         rw (two-n, h .lefts-are, h .rights-are) at (x .colors D (omega arith))
 
     given-is : bipartite-edge-color-given-partition P (appts list) left right ≡ give-slots (appts list) ms
     given-is =
-        steps-run P (appts list) left right D n (graph-at s (3 * q) m (11 * q)) ms (h .ready .largest) (h .longer)
+        steps-run P (appts list) left right D n (graph-at s (ends-at q) m (graph-base q)) ms (h .ready .largest) (h .longer)
         (h .evened) colored
 
     -- it gives a plan
@@ -104,26 +104,26 @@ module _
         (given-partition-law P (appts list) (on .side) left right (z .listed) (on .two))
 
     -- of the words below the first mark only the map and the matchings have changed
-    low : (i : ℕ) → i < 7 * q → word t i ≡ word s i
+    low : (i : ℕ) → i < places-at q → word t i ≡ word s i
     low i k = x .spares .under i (omega (arith, h .fits .graph .below)) k
 
-    rows : Ends-kept (3 * q) m s t
+    rows : Ends-kept (ends-at q) m s t
     rows =
         record {
-          firsts = λ e k. low (3 * q + 2 * e) (omega (arith, h .fits .tabled .after-ends));
-          seconds = λ e k. low (3 * q + 2 * e + 1) (omega (arith, h .fits .tabled .after-ends));
+          firsts = λ e k. low (ends-at q + 2 * e) (omega (arith, h .fits .tabled .after-ends));
+          seconds = λ e k. low (ends-at q + 2 * e + 1) (omega (arith, h .fits .tabled .after-ends));
         }
 
-    pair-word : (i : ℕ) → i < length list / 2 → word t (9 * q + i) ≡ word s (9 * q + i)
+    pair-word : (i : ℕ) → i < length list / 2 → word t (apair-at q + i) ≡ word s (apair-at q + i)
     pair-word i k =
-        x .spares .between (9 * q + i) (omega (arith, h .fits .graph .below, z .named, z .unit))
+        x .spares .between (apair-at q + i) (omega (arith, h .fits .graph .below, z .named, z .unit))
         (omega (arith, h .fits .tabled .after-ends)) (omega (arith, z .named, z .unit))
 
     module _ (slots : List ℕ) (room : length (appts list) ≤ length slots) where
       as-many : length (appts list) ≡ length list / 2
       as-many = appts-count list
 
-      slots-fit : Slots-fit (3 * q) m n D (10 * q) (9 * q) (11 * q) (appts list) (planned .0) t slots
+      slots-fit : Slots-fit (ends-at q) m n D (out-at q) (apair-at q) (graph-base q) (appts list) (planned .0) t slots
       slots-fit =
           record {
             distinct =
@@ -133,8 +133,8 @@ module _
             own =
                 λ i k.
                 let inside : i < length list / 2 = omega (arith, as-many) in
-                let below : word s (9 * q + i) < m = h .number-of i inside in
-                rw (pair-word i inside, appt-at list i inside, rows .firsts (word s (9 * q + i)) below, rows .seconds (word s (9 * q + i)) below)
+                let below : word s (apair-at q + i) < m = h .number-of i inside in
+                rw (pair-word i inside, appt-at list i inside, rows .firsts (word s (apair-at q + i)) below, rows .seconds (word s (apair-at q + i)) below)
                 (h .ends-of i inside);
             after-ends = h .fits .graph .after-table;
             after-appointed = omega (arith, as-many, z .named, z .unit);
@@ -146,10 +146,10 @@ module _
           }
 
       pub slots-planned :
-          {v after : List ℕ} → Gives-slots (length list / 2) n D (10 * q) (9 * q) (11 * q) t slots v after →
+          {v after : List ℕ} → Gives-slots (length list / 2) n D (out-at q) (apair-at q) (graph-base q) t slots v after →
           length s ≡ length s₀ → Slots-planned P l list slots after s₀ v
       slots-planned g kept =
-          let stored = g (3 * q) m (appts list) (planned .0) as-many slots-fit in
+          let stored = g (ends-at q) m (appts list) (planned .0) as-many slots-fit in
           record {
             slots-of = planned .0;
             found = planned .1;

@@ -24,7 +24,7 @@ use Rattle.evening.specs.Contract.{Has-ends, Can-pad, Sides-padded, Can-pair, P
 use Rattle.evening.proofs.Pairs.{Crosses, sound-list, degree-load}
 use Rattle.evening.proofs.Padding.{padded-side, padded-partition, padded-crosses, padded-loads}
 use Rattle.evening.proofs.EvenOut.{Evened, even-out-law}
-use Rattle.given_partition.specs.Steps.{table, Sided, Prepared}
+use Rattle.given_partition.specs.Steps.{ends-at, apair-at, out-at, graph-base, first-mark, table, Sided, Prepared}
 use Rattle.given_partition.proofs.Sizes.{Sizes, sizes, Side-sizes, side-sizes, le-product}
 
 -- ── the rows of the diagonal, as regions ──
@@ -92,19 +92,19 @@ module _ {P D q l : ℕ} {list s₀ : List ℕ} (h : Sided P D q l list s₀) wh
 
     -- where later steps, with their marks u above it, change nothing
     sides-stay :
-        {s t : List ℕ} (u : ℕ) → 3 * q ≤ u → ((i : ℕ) → i < u → i < 3 * q → word t i ≡ word s i) → Sides-in s → Sides-in t
+        {s t : List ℕ} (u : ℕ) → ends-at q ≤ u → ((i : ℕ) → i < u → i < ends-at q → word t i ≡ word s i) → Sides-in s → Sides-in t
     sides-stay {s} {t} u above under stood =
         record { lefts = side 0 (omega arith) ∙ stood .lefts; rights = side P (omega arith) ∙ stood .rights }
       where
         side : (a : ℕ) → a ≤ P → region t a n ≡ region s a n
         side a le =
-            let low : a + n ≤ 3 * q = omega (arith, z .unit, n-le) in
+            let low : a + n ≤ ends-at q = omega (arith, z .unit, n-le) in
             region-same s t a n (λ i lo hi. under i (omega arith) (omega arith))
 
     len₁ : length s₁ ≡ 128 * q
     len₁ = x .changes .len ∙ z .whole
 
-    pub can-pair : Can-pair list P D (3 * q) (9 * q) (11 * q) (15 * q) s₁
+    pub can-pair : Can-pair list P D (ends-at q) (apair-at q) (graph-base q) (first-mark q) s₁
     can-pair =
         record {
           short = omega (arith, z .named, z .product);
@@ -118,14 +118,14 @@ module _ {P D q l : ℕ} {list s₀ : List ℕ} (h : Sided P D q l list s₀) wh
           low = omega (arith, z .unit, z .product, z .parties);
         }
 
-    module _ {u₂ : ℕ} {s₂ : List ℕ} (y : Pairs-made list (3 * q) (9 * q) (11 * q) (15 * q) s₁ u₂ s₂) where
+    module _ {u₂ : ℕ} {s₂ : List ℕ} (y : Pairs-made list (ends-at q) (apair-at q) (graph-base q) (first-mark q) s₁ u₂ s₂) where
       len₂ : length s₂ ≡ 128 * q
       len₂ = y .changes .len ∙ len₁
 
       sides₂ : Sides-in s₂
-      sides₂ = sides-stay (15 * q) (omega (arith, z .unit, h .some)) (y .changes .under) (record { lefts = x .lefts; rights = x .rights })
+      sides₂ = sides-stay (first-mark q) (omega (arith, z .unit, h .some)) (y .changes .under) (record { lefts = x .lefts; rights = x .rights })
 
-      pub can-even : Can-even list D n 0 P (3 * q) (9 * q) (11 * q) u₂ s₂
+      pub can-even : Can-even list D n 0 P (ends-at q) (apair-at q) (graph-base q) u₂ s₂
       can-even =
           record {
             short = omega (arith, z .named, z .product);
@@ -145,17 +145,17 @@ module _ {P D q l : ℕ} {list s₀ : List ℕ} (h : Sided P D q l list s₀) wh
             low = omega (arith, z .unit, zn .product, zn .twice, n-le, y .mark, z .product, z .parties);
           }
 
-      module _ {u₃ : ℕ} {s₃ : List ℕ} (e : Evened-out list D n 0 P (3 * q) (9 * q) (11 * q) u₂ s₂ u₃ s₃) where
+      module _ {u₃ : ℕ} {s₃ : List ℕ} (e : Evened-out list D n 0 P (ends-at q) (apair-at q) (graph-base q) u₂ s₂ u₃ s₃) where
         len₃ : length s₃ ≡ 128 * q
         len₃ = e .changes .len ∙ len₂
 
-        mark₃ : u₃ ≡ 15 * q
+        mark₃ : u₃ ≡ first-mark q
         mark₃ = e .mark ∙ y .mark
 
         sides₃ : Sides-in s₃
         sides₃ = sides-stay u₂ (omega (arith, z .unit, h .some, y .mark)) (e .changes .under) sides₂
 
-        pub can-diagonal : Can-diagonal n 0 P (3 * q) (11 * q) (2 * P) u₃ s₃
+        pub can-diagonal : Can-diagonal n 0 P (ends-at q) (graph-base q) (2 * P) u₃ s₃
         can-diagonal =
             record {
               side = side';
@@ -171,75 +171,75 @@ module _ {P D q l : ℕ} {list s₀ : List ℕ} (h : Sided P D q l list s₀) wh
 
         -- how many pairs the evened graph has
         abbrev m : ℕ
-        m = size s₃ (11 * q)
+        m = size s₃ (graph-base q)
 
         evened₃ :
             even-out D (add-appointments [] (appts list)) (padded P n (region s₀ 0 l)) (padded P n (region s₀ P (P - l)))
-            ≡ ran (graph-at s₃ (3 * q) m (11 * q))
+            ≡ ran (graph-at s₃ (ends-at q) m (graph-base q))
         evened₃ =
             rw (y .paired .graph m (e .grown), sides₂ .lefts, sides₂ .rights) at (e .graph m (omega arith))
 
-        evens : Evened (n + n) side' D (add-appointments [] (appts list)) (graph-at s₃ (3 * q) m (11 * q))
+        evens : Evened (n + n) side' D (add-appointments [] (appts list)) (graph-at s₃ (ends-at q) m (graph-base q))
         evens =
             rw evened₃ at
             (even-out-law (n + n) side' D (add-appointments [] (appts list)) (padded P n (region s₀ 0 l))
             (padded P n (region s₀ P (P - l))) partition₀ (sound-list (n + n) side' (appts list) crosses)
             (λ v k. omega (arith, degree-load v (appts list), padded-loads P D (appts list) (z .listed) (z .loads) v)))
 
-        module _ {u₄ : ℕ} {s₄ : List ℕ} (w : Diagonal-set n 0 P (3 * q) (11 * q) (2 * P) u₃ s₃ u₄ s₄) where
+        module _ {u₄ : ℕ} {s₄ : List ℕ} (w : Diagonal-set n 0 P (ends-at q) (graph-base q) (2 * P) u₃ s₃ u₄ s₄) where
           len₄ : length s₄ ≡ 128 * q
           len₄ = w .changes .len ∙ len₃
 
           -- what lies above the table of ends stays
-          high : (i : ℕ) → 9 * q ≤ i → i < 15 * q → word s₄ i ≡ word s₃ i
+          high : (i : ℕ) → apair-at q ≤ i → i < first-mark q → word s₄ i ≡ word s₃ i
           high i lo hi =
               w .changes .after-second i (omega (arith, mark₃))
               (omega (arith, e .few, zn .product, z .unit, n-le)) (omega (arith, mark₃))
 
-          rows : Ends-kept (3 * q) m s₃ s₄
+          rows : Ends-kept (ends-at q) m s₃ s₄
           rows =
               record {
-                firsts = λ f k. w .changes .after-first (3 * q + 2 * f) (omega (arith, mark₃, e .few, zn .product, z .unit)) (omega (arith, n-le, z .unit)) (omega arith);
-                seconds = λ f k. w .changes .after-first (3 * q + 2 * f + 1) (omega (arith, mark₃, e .few, zn .product, z .unit)) (omega (arith, n-le, z .unit)) (omega arith);
+                firsts = λ f k. w .changes .after-first (ends-at q + 2 * f) (omega (arith, mark₃, e .few, zn .product, z .unit)) (omega (arith, n-le, z .unit)) (omega arith);
+                seconds = λ f k. w .changes .after-first (ends-at q + 2 * f + 1) (omega (arith, mark₃, e .few, zn .product, z .unit)) (omega (arith, n-le, z .unit)) (omega arith);
               }
 
-          own : (i : ℕ) → i < m → number s₃ (11 * q) i < m
+          own : (i : ℕ) → i < m → number s₃ (graph-base q) i < m
           own i k = omega (arith, e .plain .numbers i k)
 
-          kept : Graph-kept (3 * q) m s₃ s₄ (11 * q)
+          kept : Graph-kept (ends-at q) m s₃ s₄ (graph-base q)
           kept =
-              kept-above (11 * q) rows own
+              kept-above (graph-base q) rows own
               (λ i lo hi. high i (omega arith) (omega (arith, e .few, zn .product, z .unit, n-some, n-le)))
 
           abbrev t : Table
           t = table P q m
 
-          first-row : (i : ℕ) → i < n → word s₄ (3 * q + 2 * (m + i)) ≡ word s₃ (0 + i)
+          first-row : (i : ℕ) → i < n → word s₄ (ends-at q + 2 * (m + i)) ≡ word s₃ (0 + i)
           first-row i k = w .firsts i k
 
-          second-row : (i : ℕ) → i < n → word s₄ (3 * q + 2 * (m + i) + 1) ≡ word s₃ (P + i)
+          second-row : (i : ℕ) → i < n → word s₄ (ends-at q + 2 * (m + i) + 1) ≡ word s₃ (P + i)
           second-row i k = w .seconds i k
 
           lefts₄ : lefts t n s₄ ≡ padded P n (region s₀ 0 l)
           lefts₄ =
-              column-region s₃ s₄ (3 * q + 2 * m) 0 n
+              column-region s₃ s₄ (ends-at q + 2 * m) 0 n
               (λ i k. ap (word s₄) (omega arith) ∙ first-row i k)
               ∙ sides₃ .lefts
 
           rights₄ : rights t n s₄ ≡ padded P n (region s₀ P (P - l))
           rights₄ =
-              column-region s₃ s₄ (3 * q + 2 * m + 1) P n
+              column-region s₃ s₄ (ends-at q + 2 * m + 1) P n
               (λ i k. ap (word s₄) (omega arith) ∙ second-row i k)
               ∙ sides₃ .rights
 
           -- pair f has the ends of row i, in the words at the end as in those before
           alike-row :
-              (f i : ℕ) → f < m → i < n → Has-ends s₃ (3 * q) f (word s₃ (0 + i)) (word s₃ (P + i)) → Alike s₄ (3 * q) f (m + i)
+              (f i : ℕ) → f < m → i < n → Has-ends s₃ (ends-at q) f (word s₃ (0 + i)) (word s₃ (P + i)) → Alike s₄ (ends-at q) f (m + i)
           alike-row f i a k x =
               rw (rows .firsts f a, rows .seconds f a, first-row i k, second-row i k) (same-ends-sym x)
 
           row-alike :
-              (f i : ℕ) → f < m → i < n → Alike s₄ (3 * q) f (m + i) → Has-ends s₃ (3 * q) f (word s₃ (0 + i)) (word s₃ (P + i))
+              (f i : ℕ) → f < m → i < n → Alike s₄ (ends-at q) f (m + i) → Has-ends s₃ (ends-at q) f (word s₃ (0 + i)) (word s₃ (P + i))
           row-alike f i a k x =
               same-ends-sym (rw (rows .firsts f a, rows .seconds f a, first-row i k, second-row i k) at x)
 
@@ -256,7 +256,7 @@ module _ {P D q l : ℕ} {list s₀ : List ℕ} (h : Sided P D q l list s₀) wh
                 after-ends = omega (arith, n-le, z .unit, e .few, zn .product);
               }
 
-          colorable : Colorable side' m s₄ (15 * q) (3 * q) (11 * q) n D (10 * q)
+          colorable : Colorable side' m s₄ (first-mark q) (ends-at q) (graph-base q) n D (out-at q)
           colorable =
               let two-n : 2 * n ≡ n + n = omega arith in
               record {
@@ -272,7 +272,7 @@ module _ {P D q l : ℕ} {list s₀ : List ℕ} (h : Sided P D q l list s₀) wh
                 short = omega (arith, len₄, z .unit, z .product, z .parties);
               }
 
-          fits : Color-fits t s₄ (15 * q) (11 * q) n D (10 * q)
+          fits : Color-fits t s₄ (first-mark q) (graph-base q) n D (out-at q)
           fits =
               let two-n : 2 * n ≡ n + n = omega arith in
               record {
@@ -286,8 +286,8 @@ module _ {P D q l : ℕ} {list s₀ : List ℕ} (h : Sided P D q l list s₀) wh
                 room = omega (arith, zn .pairs, zn .product, n-le, z .unit, len₄);
               }
 
-          pair-word : (i : ℕ) → i < length list / 2 → word s₄ (9 * q + i) ≡ word s₃ (9 * q + i)
-          pair-word i k = high (9 * q + i) (omega arith) (omega (arith, z .named, z .unit))
+          pair-word : (i : ℕ) → i < length list / 2 → word s₄ (apair-at q + i) ≡ word s₃ (apair-at q + i)
+          pair-word i k = high (apair-at q + i) (omega arith) (omega (arith, z .named, z .unit))
 
           pub prepared : Prepared P D q n list (region s₀ 0 l) (region s₀ P (P - l)) s₄
           prepared =
@@ -307,8 +307,8 @@ module _ {P D q l : ℕ} {list s₀ : List ℕ} (h : Sided P D q l list s₀) wh
                 number-of = λ i k. rw (kept .sizes, pair-word i k) (e .number-of i k);
                 ends-of =
                     λ i k.
-                    let below : word s₃ (9 * q + i) < m = e .number-of i k in
-                    rw (pair-word i k, rows .firsts (word s₃ (9 * q + i)) below, rows .seconds (word s₃ (9 * q + i)) below)
+                    let below : word s₃ (apair-at q + i) < m = e .number-of i k in
+                    rw (pair-word i k, rows .firsts (word s₃ (apair-at q + i)) below, rows .seconds (word s₃ (apair-at q + i)) below)
                     (e .ends-of i k);
               }
 

@@ -14,6 +14,14 @@ use evening::Bases;
 use mark::Mark;
 use matching::Table;
 
+// Where things lie, in units of q words.
+const ENDS: usize = 3; // the ends of the pairs
+const PLACES: usize = 7; // the map of places
+const APAIR: usize = 9; // each appointment's pair
+const OUT: usize = 10; // the matchings
+const GRAPH: usize = 11;
+const FIRST_MARK: usize = 15; // above all this
+
 // The list's pairs on two equally long sides, evened out, with the numbers of the pairs on the diagonal. Gives how many parties
 // each side has. The mark is made above all that lies at a fixed place, and each step gives back what it takes.
 fn prepare(s: &mut [u32], list: &[u16], p: usize, d: usize, q: usize, left: usize) -> usize
@@ -21,15 +29,15 @@ fn prepare(s: &mut [u32], list: &[u16], p: usize, d: usize, q: usize, left: usiz
     ensures { λ n. ⌜ Prepared p d q n (now (list .entry)) (left-side (now (s .entry)) left) (right-side (now (s .entry)) p left) (now (s .exit)) × (length (now (s .exit)) ≡ length (now (s .entry))) ⌝ }
 {
     let mut m = Mark {
-        taken: 15 * q,
+        taken: FIRST_MARK * q,
         there: s.len(),
     };
     let at = Bases {
         left: 0,
         right: p,
-        ends: 3 * q,
-        apair: 9 * q,
-        g: 11 * q,
+        ends: ENDS * q,
+        apair: APAIR * q,
+        g: GRAPH * q,
     };
     let n = evening::pad_sides(s, p, 0, left, p, p - left);
     evening::pairs_from_list(s, &mut m, list, p, d, at);
@@ -67,13 +75,13 @@ pub fn bipartite_edge_color_given_partition(
 {
     let q = p * (d + 1);
     let n = prepare(s, list, p, d, q, left);
-    let pairs = words::get(s, 11 * q + 1);
+    let pairs = words::get(s, GRAPH * q + 1);
     let t = Table {
-        ends: 3 * q,
-        places: 7 * q,
+        ends: ENDS * q,
+        places: PLACES * q,
         diag: 2 * p,
         pairs,
     };
-    color(s, 15 * q, t, 11 * q, n, d, 10 * q);
-    slots::give_slots(s, slots, list.len() / 2, n, d, 10 * q, 9 * q, 11 * q);
+    color(s, FIRST_MARK * q, t, GRAPH * q, n, d, OUT * q);
+    slots::give_slots(s, slots, list.len() / 2, n, d, OUT * q, APAIR * q, GRAPH * q);
 }

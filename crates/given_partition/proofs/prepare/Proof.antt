@@ -37,7 +37,7 @@ use denote.Triple.Statement.{Contract, Triple}
 use denote.Triple.Table.{entered, cited}
 use denote.Triple.Walked.{needs}
 use Rattle.evening.specs.Contract.{Sides-padded, Pairs-made, Evened-out, Diagonal-set}
-use Rattle.given_partition.specs.Steps.{Sided}
+use Rattle.given_partition.specs.Steps.{ends-at, apair-at, graph-base, first-mark, Sided}
 use Rattle.given_partition.proofs.Sizes.{Sizes, sizes}
 use Rattle.given_partition.proofs.Preparing.{can-pad, can-pair, can-even, can-diagonal, prepared, prepared-length}
 use Rattle.mark.specs.declared.Mark.{Mark}
@@ -97,11 +97,11 @@ module _ {M : Type 1} (𝓤 : URA M) (H : Heap 𝓤) (A : Atoms 𝓤) (W : Given
 
   -- the mark as it is made
   abbrev m₀ : Mark
-  m₀ = record { taken = 15 * q; there = length (s .now) }
+  m₀ = record { taken = first-mark q; there = length (s .now) }
 
   -- where things lie
   abbrev at₀ : Bases
-  at₀ = record { left = 0; right = p; ends = 3 * q; apair = 9 * q; g = 11 * q }
+  at₀ = record { left = 0; right = p; ends = ends-at q; apair = apair-at q; g = graph-base q }
 
   at₀-is : Is Bases-T.the-row at₀ (Bases-T′.lowered at₀ ∷ [])
   at₀-is = LL.owes Bases-T.the-type Bases-T′.the-laws at₀ ((refl, (omega (arith, z .unit, z .product, z .parties, ok .few))), ((refl, (omega (arith, z .unit, z .product, z .parties, ok .few))), ((refl, (omega (arith, z .unit, z .product, z .parties, ok .few))), ((refl, (omega (arith, z .unit, z .product, z .parties, ok .few))), ((refl, (omega (arith, z .unit, z .product, z .parties, ok .few))), tt)))))
@@ -150,7 +150,7 @@ module _ {M : Type 1} (𝓤 : URA M) (H : Heap 𝓤) (A : Atoms 𝓤) (W : Given
         calls-both ! (held-of α l7 γ (κs .0) (qs .0) s) room fm 1 unit (shrSlice 2 tt (λ _. u16) ∷ plain (λ _. usize) ∷ plain (λ _. usize) ∷ plain (λ _. Bases-T.the-row) ∷ []) (yes, (yes, (yes, (yes, tt)))) (pairs-from-list.clauses 𝓤 H A mem run) (κₗ, tt) (qₗ, tt) (m₀) (ys1) le1 (λ ν ν′. (list, (p, (d, (at₀, tt))))) (λ ν ν′. (slice-vals list, (vint w64 p ∷ [], (vint w64 d ∷ [], (Bases-T′.lowered at₀ ∷ [], tt))))) (λ ν δ ν′ δ′. tt) (λ ν δ ν′ δ′. known-pairs-from-list (((ν ∷ [], (ν′ ∷ [], (κₗ, tt))), (fullShare, (fullShare, (qₗ, tt))), tt, (scratch-ref (held-of α l7 γ (κs .0) (qs .0) s) δ ys1, (mark-ref (held-of α l7 γ (κs .0) (qs .0) s) δ′ m₀, (list, (p, (d, (at₀, tt)))))), (scratch-val (held-of α l7 γ (κs .0) (qs .0) s) ∷ [], (mark-val (held-of α l7 γ (κs .0) (qs .0) s) ∷ [], (slice-vals list, (vint w64 p ∷ [], (vint w64 d ∷ [], (Bases-T′.lowered at₀ ∷ [], tt))))))), tt))
         (raw (toks 𝓤 A 1 (κₗ, tt) (qₗ, tt)) ⊛ ‵ (ShrSlice (named 1) κₗ u16 .own list (slice-vals list))) (λ ν ν′. qed W ((raw (toks 𝓤 A 1 (κₗ, tt) (qₗ, tt)) ⊛ ‵ (ShrSlice (named 1) κₗ u16 .own list (slice-vals list))) ∷ []) ∵ split ! $ frame ! $ nothing ! $ owned ! Bases-T.the-row (Is Bases-T.the-row) (LL.makes Bases-T.the-type Bases-T′.the-plain 𝓤 H A) at₀ _ at₀-is $ fjoin ! $ owned ! usize (Is usize) (uint-makes 𝓤 H A W w64) d _ (refl, d-fits) $ fjoin ! $ owned ! usize (Is usize) (uint-makes 𝓤 H A W w64) p _ (refl, p-fits) $ fjoin ! $ move ! (1 ∷ 0 ∷ []) $ fjoin ! $ done !)
         (λ ν δ ν′ δ′. shown 𝓤 (can-pair ok p1, omega (arith, can-pair ok p1 .room, le1)))
-        (λ r2 ys2 n2. Pairs-made (list .now) (3 * q) (9 * q) (11 * q) (15 * q) ys1 (n2 .taken) ys2 × (n2 ≡ m₀)) (λ ν δ ν′ δ′ r2 ys2 n2 ws. id⊢ 𝓤 _)
+        (λ r2 ys2 n2. Pairs-made (list .now) (ends-at q) (apair-at q) (graph-base q) (first-mark q) ys1 (n2 .taken) ys2 × (n2 ≡ m₀)) (λ ν δ ν′ δ′ r2 ys2 n2 ws. id⊢ 𝓤 _)
         (λ ν δ ν′ δ′ P. and-then ! (load ! (from ! (stop !)) (look ! 20 refl)) (and-then ! (load ! (from ! (stop !)) (look ! 18 refl)) (and-then ! (load ! (from ! (stop !)) (look ! 49 refl)) (and-then ! (load ! (from ! (stop !)) (look ! 47 refl)) (and-then ! (load ! (from ! (stop !)) (look ! 45 refl)) (and-then ! (load ! (from ! (stop !)) (look ! 38 refl)) (no-more !))))))) (λ w2 r2 ys2 n2 le2 is2 p2.
         -- the tokens go behind the scratch
         move ! (1 ∷ 2 ∷ 3 ∷ 4 ∷ []) $
@@ -164,7 +164,7 @@ module _ {M : Type 1} (𝓤 : URA M) (H : Heap 𝓤) (A : Atoms 𝓤) (W : Given
         calls-both ! (held-of α l7 γ (κs .0) (qs .0) s) room fm 1 unit (shrSlice 2 tt (λ _. u16) ∷ plain (λ _. usize) ∷ plain (λ _. usize) ∷ plain (λ _. Bases-T.the-row) ∷ []) (yes, (yes, (yes, (yes, tt)))) (even-out.clauses 𝓤 H A mem run) (κₗ, tt) (qₗ, tt) (n2) (ys2) le2 (λ ν ν′. (list, (d, (r1, (at₀, tt))))) (λ ν ν′. (slice-vals list, (vint w64 d ∷ [], (vint w64 r1 ∷ [], (Bases-T′.lowered at₀ ∷ [], tt))))) (λ ν δ ν′ δ′. tt) (λ ν δ ν′ δ′. known-even-out (((ν ∷ [], (ν′ ∷ [], (κₗ, tt))), (fullShare, (fullShare, (qₗ, tt))), tt, (scratch-ref (held-of α l7 γ (κs .0) (qs .0) s) δ ys2, (mark-ref (held-of α l7 γ (κs .0) (qs .0) s) δ′ n2, (list, (d, (r1, (at₀, tt)))))), (scratch-val (held-of α l7 γ (κs .0) (qs .0) s) ∷ [], (mark-val (held-of α l7 γ (κs .0) (qs .0) s) ∷ [], (slice-vals list, (vint w64 d ∷ [], (vint w64 r1 ∷ [], (Bases-T′.lowered at₀ ∷ [], tt))))))), tt))
         (raw (toks 𝓤 A 1 (κₗ, tt) (qₗ, tt)) ⊛ ‵ (ShrSlice (named 1) κₗ u16 .own list (slice-vals list))) (λ ν ν′. qed W ((raw (toks 𝓤 A 1 (κₗ, tt) (qₗ, tt)) ⊛ ‵ (ShrSlice (named 1) κₗ u16 .own list (slice-vals list))) ∷ []) ∵ split ! $ frame ! $ nothing ! $ owned ! Bases-T.the-row (Is Bases-T.the-row) (LL.makes Bases-T.the-type Bases-T′.the-plain 𝓤 H A) at₀ _ at₀-is $ fjoin ! $ owned ! usize (Is usize) (uint-makes 𝓤 H A W w64) r1 _ (refl, is1 .1) $ fjoin ! $ owned ! usize (Is usize) (uint-makes 𝓤 H A W w64) d _ (refl, d-fits) $ fjoin ! $ move ! (1 ∷ 0 ∷ []) $ fjoin ! $ done !)
         (λ ν δ ν′ δ′. shown 𝓤 (can-even ok p1 (p2 .0), omega (arith, can-even ok p1 (p2 .0) .room, le2, ap (λ (n : Mark). n .there) (p2 .1))))
-        (λ r3 ys3 n3. Evened-out (list .now) d r1 0 p (3 * q) (9 * q) (11 * q) (n2 .taken) ys2 (n3 .taken) ys3 × (n3 ≡ n2)) (λ ν δ ν′ δ′ r3 ys3 n3 ws. id⊢ 𝓤 _)
+        (λ r3 ys3 n3. Evened-out (list .now) d r1 0 p (ends-at q) (apair-at q) (graph-base q) (n2 .taken) ys2 (n3 .taken) ys3 × (n3 ≡ n2)) (λ ν δ ν′ δ′ r3 ys3 n3 ws. id⊢ 𝓤 _)
         (λ ν δ ν′ δ′ P. and-then ! (load ! (from ! (stop !)) (look ! 14 refl)) (and-then ! (load ! (from ! (stop !)) (look ! 12 refl)) (and-then ! (load ! (from ! (stop !)) (look ! 49 refl)) (and-then ! (load ! (from ! (stop !)) (look ! 45 refl)) (and-then ! (load ! (from ! (stop !)) (look ! 36 refl)) (and-then ! (load ! (from ! (stop !)) (look ! 38 refl)) (no-more !))))))) (λ w3 r3 ys3 n3 le3 is3 p3.
         -- the tokens go behind the scratch
         move ! (1 ∷ 2 ∷ 3 ∷ 4 ∷ []) $
@@ -176,7 +176,7 @@ module _ {M : Type 1} (𝓤 : URA M) (H : Heap 𝓤) (A : Atoms 𝓤) (W : Given
         calls-both-plain ! (held-of α l7 γ (κs .0) (qs .0) s) room fm unit (plain (λ _. usize) ∷ plain (λ _. Bases-T.the-row) ∷ plain (λ _. usize) ∷ []) (yes, (yes, (yes, tt))) (diagonal.clauses 𝓤 H A mem run) (n3) (ys3) le3 (λ ν ν′. (r1, (at₀, (2 * p, tt)))) (λ ν ν′. (vint w64 r1 ∷ [], (Bases-T′.lowered at₀ ∷ [], (vint w64 (2 * p) ∷ [], tt)))) (λ ν δ ν′ δ′. tt) (λ ν δ ν′ δ′. known-diagonal (((ν ∷ [], (ν′ ∷ [], tt)), (fullShare, (fullShare, tt)), tt, (scratch-ref (held-of α l7 γ (κs .0) (qs .0) s) δ ys3, (mark-ref (held-of α l7 γ (κs .0) (qs .0) s) δ′ n3, (r1, (at₀, (2 * p, tt))))), (scratch-val (held-of α l7 γ (κs .0) (qs .0) s) ∷ [], (mark-val (held-of α l7 γ (κs .0) (qs .0) s) ∷ [], (vint w64 r1 ∷ [], (Bases-T′.lowered at₀ ∷ [], (vint w64 (2 * p) ∷ [], tt)))))), tt))
         (λ ν ν′. owns-make 𝓤 H A (usize ∷ Bases-T.the-row ∷ usize ∷ []) (Ises (usize ∷ Bases-T.the-row ∷ usize ∷ [])) (uint-makes 𝓤 H A W w64, (LL.makes Bases-T.the-type Bases-T′.the-plain 𝓤 H A, (uint-makes 𝓤 H A W w64, tt))) (r1, (at₀, (2 * p, tt))) (vint w64 r1 ∷ [], (Bases-T′.lowered at₀ ∷ [], (vint w64 (2 * p) ∷ [], tt))) ((refl, is1 .1), (at₀-is, ((refl, (omega (arith, z .unit, z .product, z .parties, ok .few))), tt))))
         (λ ν δ ν′ δ′. shown 𝓤 (can-diagonal ok p1 (p2 .0) (p3 .0), omega (arith, can-diagonal ok p1 (p2 .0) (p3 .0) .room, le3, ap (λ (n : Mark). n .there) (p3 .1 ∙ p2 .1))))
-        (λ r4 ys4 n4. Diagonal-set r1 0 p (3 * q) (11 * q) (2 * p) (n3 .taken) ys3 (n4 .taken) ys4 × (n4 ≡ n3)) (λ ν δ ν′ δ′ r4 ys4 n4 ws. id⊢ 𝓤 _)
+        (λ r4 ys4 n4. Diagonal-set r1 0 p (ends-at q) (graph-base q) (2 * p) (n3 .taken) ys3 (n4 .taken) ys4 × (n4 ≡ n3)) (λ ν δ ν′ δ′ r4 ys4 n4 ws. id⊢ 𝓤 _)
         (λ ν δ ν′ δ′ P. and-then ! (load ! (from ! (stop !)) (look ! 9 refl)) (and-then ! (load ! (from ! (stop !)) (look ! 7 refl)) (and-then ! (load ! (from ! (stop !)) (look ! 37 refl)) (and-then ! (load ! (from ! (stop !)) (look ! 39 refl)) (and-then ! (load ! (from ! (stop !)) (look ! 31 refl)) (no-more !)))))) (λ w4 r4 ys4 n4 le4 is4 p4.
         land ! (from ! (stop !)) (store ! 25 refl (nothing-lawful 𝓤 H A W .typed r4 _ is4 .0)) $
         assigns ! (of-opd ! (load ! (from ! (stop !)) (look ! 37 refl))) (from ! (stop !)) (init ! 54 refl (tt, record { fits = is1 .1 })) $
