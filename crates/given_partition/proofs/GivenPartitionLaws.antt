@@ -25,9 +25,9 @@ use Rattle.matching.specs.Perfect.{Perfect}
 use Rattle.regular_graph.specs.Evening.{add-appointments, padded, even-out}
 use Rattle.slots.specs.Slots.{give-slots}
 use Rattle.given_partition.specs.GivenPartition.{bipartite-edge-color-given-partition}
-use Rattle.evening.proofs.Pairs.{degree-load, copies-appts, sound-list}
-use Rattle.evening.proofs.Padding.{padded-side, even-length, even-parties, padded-partition, padded-crosses}
-use Rattle.evening.proofs.EvenOut.{Evened, even-out-law}
+use Rattle.regular_graph.proofs.Pairs.{degree-load, copies-appts, sound-list}
+use Rattle.regular_graph.proofs.Padding.{padded-side, even-length, even-parties, padded-partition, padded-crosses}
+use Rattle.regular_graph.proofs.RegularLaws.{Evened, even-out-law}
 use Rattle.slots.proofs.GiveSlots.{Slots-given, give-slots-law}
 
 -- a plan of the list with slots below D and without a clash

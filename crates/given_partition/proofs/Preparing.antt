@@ -9,8 +9,8 @@ use lib.ListN.{length}
 use Rattle.words.specs.Basics.{All, ran}
 use Rattle.words.specs.Words.{word, region}
 use Rattle.appointments.specs.Appointments.{appts}
-use Rattle.two_color.specs.Contract.{region}
-use Rattle.two_color.proofs.Regions.{region-same, region-length, region-front}
+use Rattle.words.specs.Words.{region}
+use Rattle.words.proofs.Regions.{region-same, region-length, region-front}
 use Rattle.multigraph.specs.Regular.{Partition}
 use Rattle.multigraph.specs.Stored.{graph-at}
 use Rattle.multigraph.specs.Places.{size, number, Alike, Has-ends}
@@ -19,11 +19,14 @@ use Rattle.multigraph.proofs.Ends.{same-ends-sym}
 use Rattle.matching.specs.declared.Table.{Table}
 use Rattle.matching.specs.Searched.{column, lefts, rights, Tabled}
 use Rattle.edge_color.specs.Room.{Colorable, Color-fits}
-use Rattle.evening.specs.Evening.{add-appointments, padded, even-out}
-use Rattle.evening.specs.Contract.{Has-ends, Can-pad, Sides-padded, Can-pair, Pairs-made, Can-even, Evened-out, Can-diagonal, Diagonal-set}
-use Rattle.evening.proofs.Pairs.{Crosses, sound-list, degree-load}
-use Rattle.evening.proofs.Padding.{padded-side, padded-partition, padded-crosses, padded-loads}
-use Rattle.evening.proofs.EvenOut.{Evened, even-out-law}
+use Rattle.regular_graph.specs.Evening.{add-appointments, padded, even-out}
+use Rattle.evening.specs.Contract.{Can-pad, Sides-padded, Can-even, Evened-out}
+use Rattle.multigraph.specs.Places.{Has-ends}
+use Rattle.list_pairs.specs.Contract.{Can-pair, Pairs-made}
+use Rattle.diagonal.specs.Contract.{Can-diagonal, Diagonal-set}
+use Rattle.regular_graph.proofs.Pairs.{Crosses, sound-list, degree-load}
+use Rattle.regular_graph.proofs.Padding.{padded-side, padded-partition, padded-crosses, padded-loads}
+use Rattle.regular_graph.proofs.RegularLaws.{Evened, even-out-law}
 use Rattle.given_partition.specs.Steps.{ends-at, apair-at, out-at, graph-base, first-mark, table, Sided, Prepared}
 use Rattle.given_partition.proofs.Sizes.{Sizes, sizes, Side-sizes, side-sizes, le-product}
 

@@ -1,10 +1,10 @@
 -- Opens every definition of this crate and of those below it: an example that is computed says `unfolding computing`.
 -- Assumes nothing.
 use Rattle.edge_color.specs.Computing as EdgeColor
-use Rattle.evening.specs.Computing as Evening
+use Rattle.regular_graph.specs.Computing as RegularGraph
 use Rattle.slots.specs.Computing as Slots
 use Rattle.given_partition.specs.GivenPartition.{bipartite-edge-color-given-partition}
 
 unfoldable pub computing : Unit {0}
-unfolding EdgeColor.computing Evening.computing Slots.computing bipartite-edge-color-given-partition
+unfolding EdgeColor.computing RegularGraph.computing Slots.computing bipartite-edge-color-given-partition
 computing = tt

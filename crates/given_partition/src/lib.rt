@@ -10,7 +10,7 @@ ghost use lib.ListN.{length};
 ghost use Rattle.appointments.specs.Appointments.{appts};
 ghost use Rattle.edge_color.specs.Room.{«Color-fits», Colored};
 ghost use Rattle.given_partition.specs.Steps.{«left-side», «right-side», Sided, Prepared, «Slots-planned»};
-use evening::Bases;
+use list_pairs::Bases;
 use mark::Mark;
 use matching::Table;
 
@@ -40,9 +40,9 @@ fn prepare(s: &mut [u32], list: &[u16], p: usize, d: usize, q: usize, left: usiz
         g: GRAPH * q,
     };
     let n = evening::pad_sides(s, p, 0, left, p, p - left);
-    evening::pairs_from_list(s, &mut m, list, p, d, at);
+    list_pairs::pairs_from_list(s, &mut m, list, p, d, at);
     evening::even_out(s, &mut m, list, d, n, at);
-    evening::diagonal(s, &mut m, n, at, 2 * p);
+    diagonal::diagonal(s, &mut m, n, at, 2 * p);
     n
 }
 

@@ -16,8 +16,8 @@ use Rattle.appointments.proofs.LowerBound.{lower-bound, different-is}
 use Rattle.appointments.proofs.Pigeonhole.{busiest-meets-once}
 use Rattle.appointments.proofs.AnswerLaws.{after-accepted}
 use Rattle.appointments.proofs.LentLaws.{lent-passes, lent-goes-on, lent-stays}
-use Rattle.two_color.specs.TwoSides.{Found-sides}
-use Rattle.two_color.proofs.TwoColorLaws.{two-color-decides}
+use Rattle.bipartition.specs.TwoSides.{Found-sides}
+use Rattle.bipartition.proofs.TwoColorLaws.{two-color-decides}
 use Rattle.given_partition.specs.GivenPartition.{bipartite-edge-color-given-partition}
 use Rattle.planning.specs.Planning.{plan, graph-not-bipartite, outcome, given-sides, bipartite-edge-color, check-outcome, outcome-slots, lent-outcome, plan-answer, plan-slots}
 use Rattle.planning.specs.Demand3.{Shortest-plan}

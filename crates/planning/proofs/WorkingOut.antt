@@ -18,10 +18,10 @@ use Rattle.appointments.proofs.Loads.{Listed, largest-load-empty}
 use Rattle.appointments.proofs.ChecksLaws.{Passes, passes-passed, good-goes-on}
 use Rattle.appointments.proofs.LentLaws.{lent-passes, lent-goes-on}
 use Rattle.appointments.proofs.Answering.{checked-passed, checked-figure, checked-number, d-small}
-use Rattle.two_color.specs.TwoColor.{sides, not-bipartite, two-color}
+use Rattle.bipartition.specs.TwoColor.{sides, not-bipartite, two-color}
 use Rattle.two_color.specs.Contract.{Colored}
 use Rattle.two_color.specs.declared.TwoColoring.the-variants.{Sides, NotBipartite}
-use Rattle.two_color.proofs.TwoColorLaws.{sides-proper}
+use Rattle.bipartition.proofs.TwoColorLaws.{sides-proper}
 use Rattle.given_partition.specs.GivenPartition.{bipartite-edge-color-given-partition}
 use Rattle.given_partition.specs.Steps.{Ready, left-side, right-side, Sided, Slots-planned}
 use Rattle.given_partition.proofs.Sizes.{sizes}

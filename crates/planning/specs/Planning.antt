@@ -7,7 +7,7 @@ use Rattle.appointments.specs.Appointments.{Appt}
 use Rattle.appointments.specs.Checks.{Check, passed, refused}
 use Rattle.appointments.specs.Answers.{Answer, answer, once, after}
 use Rattle.appointments.specs.Lent.{Lent, lent-appts, lent-d, lent-words, lent-checks}
-use Rattle.two_color.specs.TwoColor.{Sides, sides, not-bipartite, unfinished, two-color}
+use Rattle.bipartition.specs.TwoColor.{Sides, sides, not-bipartite, unfinished, two-color}
 use Rattle.given_partition.specs.GivenPartition.{bipartite-edge-color-given-partition}
 
 -- `bipartite_edge_color`: a plan, or `GraphNotBipartite`, or (which a law rules out) neither.

@@ -36,7 +36,9 @@ use denote.Triple.Spec.{tripleOf}
 use denote.Triple.Statement.{Contract, Triple}
 use denote.Triple.Table.{entered, cited}
 use denote.Triple.Walked.{needs}
-use Rattle.evening.specs.Contract.{Sides-padded, Pairs-made, Evened-out, Diagonal-set}
+use Rattle.evening.specs.Contract.{Sides-padded, Evened-out}
+use Rattle.list_pairs.specs.Contract.{Pairs-made}
+use Rattle.diagonal.specs.Contract.{Diagonal-set}
 use Rattle.given_partition.specs.Steps.{ends-at, apair-at, graph-base, first-mark, Sided}
 use Rattle.given_partition.proofs.Sizes.{Sizes, sizes}
 use Rattle.given_partition.proofs.Preparing.{can-pad, can-pair, can-even, can-diagonal, prepared, prepared-length}
@@ -59,10 +61,10 @@ use Rattle.evening.proofs.even_out as even-out
 use Rattle.evening.proofs.even_out.Symbol as even-out-def
 use Rattle.evening.proofs.even_out.Symbol.{name as #evening·even-out}
 use Rattle.evening.proofs.even_out.Met as even-out-thm
-use Rattle.evening.proofs.diagonal as diagonal
-use Rattle.evening.proofs.diagonal.Symbol as diagonal-def
-use Rattle.evening.proofs.diagonal.Symbol.{name as #evening·diagonal}
-use Rattle.evening.proofs.diagonal.Met as diagonal-thm
+use Rattle.diagonal.proofs.diagonal as diagonal
+use Rattle.diagonal.proofs.diagonal.Symbol as diagonal-def
+use Rattle.diagonal.proofs.diagonal.Symbol.{name as #diagonal·diagonal}
+use Rattle.diagonal.proofs.diagonal.Met as diagonal-thm
 use Rattle.given_partition.proofs.prepare.Key.{name as #given-partition·prepare}
 use Rattle.given_partition.proofs.prepare as prepare
 use Rattle.given_partition.proofs.prepare.Statement as stated
