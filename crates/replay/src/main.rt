@@ -5,6 +5,7 @@
 use libc::STDIN_FILENO;
 use libc::STDOUT_FILENO;
 use planning::Answer;
+use reading::find;
 use words::get16;
 use words::put16;
 ghost use mathlib.Core.Path.{_≡_};
@@ -75,20 +76,6 @@ fn agrees(p: u16, list: &[u16], stored: &[u16], slots: &mut [u16], scratch: &mut
         Answer::Planned(d) => same_plan(stored, d, &slots[..list.len() / 2]),
         Answer::Refused(number, place) => same_refusal(stored, number, place),
     }
-}
-
-// The first place of a byte, or the length where there is none.
-fn find(text: &[u8], byte: u8) -> usize
-    ensures { λ r. ⌜ r ≤ length (now (text .entry)) ⌝ }
-{
-    let mut i = 0;
-    while i < text.len() {
-        if text[i] == byte {
-            return i;
-        }
-        i += 1;
-    }
-    i
 }
 
 // Whether the byte is one of 0 to 9.

@@ -1,11 +1,5 @@
-pub mod Parting
-pub mod Lengths
-pub mod ReadingLaws
 pub mod BrokenLaws
 pub mod TextLaws
-pub mod Digits
+pub mod Decimals
 pub mod WrittenInput
-pub mod ParsingSteps
-pub mod LinesSteps
-pub mod PlacingSteps
 pub mod Main

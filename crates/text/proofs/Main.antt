@@ -13,10 +13,10 @@ use Rattle.appointments.specs.Answers as Answers
 use Rattle.planning.specs.Planning.{plan-answer, plan-slots}
 use Rattle.planning.specs.Told.{answer-of}
 use Rattle.planning.specs.declared.Answer.{Answer}
-use Rattle.text.specs.Reading.{Input, input, read-input}
-use Rattle.text.specs.Printing.{printed, plan-lines, refusal-line}
+use Rattle.reading.specs.Reading.{Input, input, read-input}
+use Rattle.printing.specs.Printing.{printed, plan-lines, refusal-line}
 use Rattle.text.specs.Text.{main-lent, planned-report, input-report, report, text-output}
-use Rattle.text.specs.Placed.{Room, Printed, Has-d}
+use Rattle.printing.specs.Placed.{Room, Printed, Has-d}
 use Rattle.text.proofs.TextLaws.{planned-passes, answer-fits, output-fits}
 
 -- bytes that 1,801 hold have room

@@ -19,11 +19,11 @@ use Rattle.appointments.proofs.LentLaws.{lent-passes}
 use Rattle.planning.specs.Planning.{plan-answer, plan-slots}
 use Rattle.planning.specs.Demand3.{Shortest-plan}
 use Rattle.planning.proofs.Demand3.{demand-3, refusal-small}
-use Rattle.text.specs.Reading.{Input, input, malformed, read-input}
-use Rattle.text.specs.Printing.{Report, printed, plan-lines}
+use Rattle.reading.specs.Reading.{Input, input, malformed, read-input}
+use Rattle.printing.specs.Printing.{Report, printed, plan-lines}
 use Rattle.text.specs.Text.{main-lent, planned-report, input-report, report, text-output}
-use Rattle.text.proofs.Lengths.{Slots-fit, small-load, plan-fits, refusal-fits}
-use Rattle.text.proofs.ReadingLaws.{input-place}
+use Rattle.printing.proofs.Lengths.{Slots-fit, small-load, plan-fits, refusal-fits}
+use Rattle.reading.proofs.ReadingLaws.{input-place}
 
 -- ── what an answer of the planning call tells ──
 

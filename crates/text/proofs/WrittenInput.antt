@@ -13,12 +13,13 @@ use Rattle.words.specs.Basics.{pick, All}
 use Rattle.words.proofs.Sums.{all-append, all-map}
 use Rattle.appointments.specs.Appointments.{Appt, appt}
 use Rattle.appointments.specs.Checks.{blank}
-use Rattle.text.specs.Ascii.{line-feed, comma}
-use Rattle.text.specs.Reading.{parts, end-of, appointment-of, input, with-ends, and-then-lines, read-lines, with-parties, read-first, read-text}
-use Rattle.text.specs.Printing.{decimal}
-use Rattle.text.proofs.Digits.{Digit, decimal-digits, decimal-some, number-decimal}
-use Rattle.text.proofs.ReadingLaws.{end-number, line-step, first-step}
-use Rattle.text.proofs.Parting.{Free, parts-first, parts-last, parts-some}
+use Rattle.words.specs.Ascii.{line-feed, comma}
+use Rattle.reading.specs.Reading.{parts, end-of, appointment-of, input, with-ends, and-then-lines, read-lines, with-parties, read-first, read-text}
+use Rattle.printing.specs.Printing.{decimal}
+use Rattle.reading.proofs.Digits.{Digit}
+use Rattle.text.proofs.Decimals.{decimal-digits, decimal-some, number-decimal}
+use Rattle.reading.proofs.ReadingLaws.{end-number, line-step, first-step}
+use Rattle.reading.proofs.Parting.{Free, parts-first, parts-last, parts-some}
 
 -- ── the written form ──
 

@@ -2,19 +2,14 @@
 use Prim.Native.Nat.{ℕ, _+_, _≤_, _<_}
 use mathlib.Core.Path.{_≡_}
 use mathlib.Core.Bool.{true}
-use mathlib.Core.List.{List, [], _∷_}
-use lib.Dec.{eqb}
+use mathlib.Core.List.{List}
 use lib.ListN.{length}
-use Rattle.words.specs.Basics.{pick, count}
-use Rattle.text.specs.Ascii.{line-feed}
-use Rattle.text.specs.Reading.{input, malformed, read-text}
-use Rattle.text.specs.Printing.{plan, refused}
+use Rattle.words.specs.Basics.{count}
+use Rattle.words.specs.Ascii.{line-feed}
+use Rattle.reading.specs.Reading.{input, malformed, read-text}
+use Rattle.reading.specs.Broken.{ended}
+use Rattle.printing.specs.Printing.{plan, refused}
 use Rattle.text.specs.Text.{report}
-
--- the lines that ended: the bytes up to the last line feed
-unfoldable pub ended : List ℕ → List ℕ
-ended [] = []
-ended (b ∷ bytes) = pick (eqb (count line-feed (b ∷ bytes)) 0) [] (b ∷ ended bytes)
 
 -- A refusal, never a plan: 11 above 4,096 bytes; else 10 with the first malformed line among those that ended, or else 1 plus
 -- the number of line feeds. (Where no line ended, reading no bytes gives that 1.) Where the bytes alone are malformed too, as an

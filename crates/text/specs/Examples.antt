@@ -1,10 +1,11 @@
--- Worked examples of main, each computed to the byte: document 01's input, malformed lines of each kind, the order of 11, 10
--- and 1, lines that look odd and are read, and broken inputs. A wrong definition is refused here. Assumes nothing.
+-- Worked examples of main, each computed to the byte: document 01's input, the order of 11, 10 and 1, what the planning call
+-- refuses, lines that look odd and are read, and broken inputs. What is read of each kind of line, reading's own examples have. A
+-- wrong definition is refused here. Assumes nothing.
 use Prim.Native.String.{String}
 use mathlib.Core.Path.{_≡_, refl}
 use mathlib.Core.Bool.{true, false}
 use lib.ListN.{replicate}
-use Rattle.text.specs.Ascii.{ascii}
+use Rattle.words.specs.Ascii.{ascii}
 use Rattle.text.specs.Text.{text-output}
 use Rattle.text.specs.Computing.{computing}
 
@@ -20,27 +21,6 @@ Prints-broken came output = text-output true (ascii came) ≡ ascii output
 document-01 : Prints "3\n0,1\n1,2\n" "plan 2\n0 0 1 0\n1 1 2 1\nparty 0 1\nparty 1 0\nparty 2 1\n"
 unfolding computing
 document-01 = refl
-
--- each kind of malformed line, by its number
-malformed-lines :
-    Prints "" "refused 10 1\n"
-    × Prints "3" "refused 10 1\n"
-    × Prints "\n" "refused 10 1\n"
-    × Prints "3\n0,1" "refused 10 2\n"
-    × Prints "3\n\n" "refused 10 2\n"
-    × Prints "3\n0\n" "refused 10 2\n"
-    × Prints "3\n0,1\n1,2\n\n0,1\n" "refused 10 4\n"
-    × Prints "3\n0, 1\n" "refused 10 2\n"
-    × Prints "3\r\n0,1\r\n" "refused 10 1\n"
-    × Prints "3\n0,1\r\n" "refused 10 2\n"
-    × Prints "3\n0,1,2\n" "refused 10 2\n"
-    × Prints "3\n0,000001\n" "refused 10 2\n"
-    × Prints "3\n65535,1\n" "refused 10 2\n"
-    × Prints "65535\n" "refused 10 1\n"
-    × Prints "3\n/,1\n" "refused 10 2\n"
-    × Prints "3\n0,:\n" "refused 10 2\n"
-unfolding computing
-malformed-lines = (refl, refl, refl, refl, refl, refl, refl, refl, refl, refl, refl, refl, refl, refl, refl, refl)
 
 -- 11 precedes 10, which precedes 1
 refusals-in-order :
@@ -69,25 +49,14 @@ odd-looking :
 unfolding computing
 odd-looking = (refl, refl, refl)
 
--- no line malformed: 1 plus the number of line feeds, also where bytes stand behind the last one
-broken-off :
+-- A broken input: 1 plus the number of line feeds where no line is malformed. A malformed line among those that ended comes first,
+-- and 11 before it; what the planning call would refuse isn't looked at.
+broken :
     Prints-broken "" "refused 10 1\n"
-    × Prints-broken "3" "refused 10 1\n"
-    × Prints-broken "3\n" "refused 10 2\n"
-    × Prints-broken "3\n0,1" "refused 10 2\n"
-    × Prints-broken "3\n0,1\n" "refused 10 3\n"
-    × Prints-broken "3\n0,1\n1" "refused 10 3\n"
     × Prints-broken "3\n0,1\n1,2\n" "refused 10 4\n"
-unfolding computing
-broken-off = (refl, refl, refl, refl, refl, refl, refl)
-
--- a malformed line among those that ended comes first, and 11 before it; what the planning call would refuse isn't looked at
-broken-malformed :
-    Prints-broken "\n" "refused 10 1\n"
-    × Prints-broken "3\n\n0,1" "refused 10 2\n"
     × Prints-broken "3\n0,1,2\n0" "refused 10 2\n"
     × (text-output true (replicate 4097 0) ≡ ascii "refused 11 0\n")
     × (text-output true (replicate 4096 0) ≡ ascii "refused 10 1\n")
     × Prints-broken "1025\n0,\n" "refused 10 3\n"
 unfolding computing
-broken-malformed = (refl, refl, refl, refl, refl, refl)
+broken = (refl, refl, refl, refl, refl, refl)

@@ -1,9 +1,4 @@
-pub mod Ascii
-pub mod Reading
-pub mod Printing
 pub mod Text
 pub mod Broken
-pub mod Told
-pub mod Placed
 pub mod Computing
 pub mod Examples

@@ -8,8 +8,8 @@ use Rattle.words.specs.Basics.{pick}
 use Rattle.appointments.specs.Answers.{Answer, accepted}
 use Rattle.appointments.specs.Lent.{Lent, lent}
 use Rattle.planning.specs.Planning.{plan-answer, plan-slots}
-use Rattle.text.specs.Reading.{Input, input, malformed, read-input}
-use Rattle.text.specs.Printing.{Report, plan, refused, printed, plan-lines, refusal-line}
+use Rattle.reading.specs.Reading.{Input, input, malformed, read-input}
+use Rattle.printing.specs.Printing.{Report, plan, refused, printed, plan-lines, refusal-line}
 
 -- Main lends 4,096 slot entries and 16,384 scratch words.
 abbrev pub main-lent : ℕ → List ℕ → Lent

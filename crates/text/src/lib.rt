@@ -1,18 +1,15 @@
 // Main as one function from the bytes that came of its input to the bytes of its output. The program around it only reads and
 // writes.
-mod parsing; // parsing.rt: what main reads
-mod putting; // putting.rt: what main prints
-
-use crate::parsing::ReadInput;
 use planning::Answer;
+use reading::ReadInput;
 ghost use mathlib.Core.Path.{_≡_};
 ghost use mathlib.Core.List.{_++_};
 ghost use Prim.Native.Nat.{_≤_};
 ghost use lib.ListN.{length, take, drop};
-ghost use Rattle.text.specs.Reading.{input};
-ghost use Rattle.text.specs.Printing.{printed};
+ghost use Rattle.reading.specs.Reading.{input};
+ghost use Rattle.printing.specs.Printing.{printed};
 ghost use Rattle.text.specs.Text.{«input-report», «text-output»};
-ghost use Rattle.text.specs.Placed.{Printed};
+ghost use Rattle.printing.specs.Placed.{Printed};
 
 // What the planning call says of a list: the plan's lines or the refusal's. Here are the 4,096 slot entries and 16,384 scratch
 // words that main lends.
@@ -23,8 +20,8 @@ fn plan_output(p: u16, list: &[u16], output: &mut [u8; 1801]) -> usize
     let mut scratch = [0u32; 16384];
     let answer = planning::bipartite_edge_color(p, list, &mut slots, &mut scratch);
     match answer {
-        Answer::Planned(d) => putting::put_plan(p, list, d, &slots, output),
-        Answer::Refused(number, place) => putting::put_refusal(number, place, output),
+        Answer::Planned(d) => printing::put_plan(p, list, d, &slots, output),
+        Answer::Refused(number, place) => printing::put_refusal(number, place, output),
     }
 }
 
@@ -47,12 +44,12 @@ pub fn text_output(input: &[u8; 4097], came: Came, output: &mut [u8; 1801]) -> u
     let all: &[u8] = input; // parts are taken of slices
     let count = came.count;
     if 4096 < count {
-        return putting::put_refusal(11, 0, output);
+        return printing::put_refusal(11, 0, output);
     }
     let mut list = [0u16; 4096];
-    let read = parsing::read_input(&all[..count], came.broken, &mut list);
+    let read = reading::read_input(&all[..count], came.broken, &mut list);
     match read {
         ReadInput::Input(p, count) => plan_output(p, &list[..count], output),
-        ReadInput::Malformed(n) => putting::put_refusal(10, n, output),
+        ReadInput::Malformed(n) => printing::put_refusal(10, n, output),
     }
 }

@@ -7,10 +7,10 @@ use Rattle.replay.proofs.line_agrees.Statement.{statement}
 use Rattle.replay.proofs.line_agrees.Tie as tie
 
 slice-aggregate-line : tie.Need-slice-aggregate-line
-slice-aggregate-line c = sym (length-take-le _ _ (c .before .find .ensures))
+slice-aggregate-line c = sym (length-take-le _ _ (c .before .find .ensures .inside))
 
 slice-aggregate-numbers : tie.Need-slice-aggregate-numbers
-slice-aggregate-numbers c = sym (length-take-le _ _ (c .before .find2 .ensures))
+slice-aggregate-numbers c = sym (length-take-le _ _ (c .before .find2 .ensures .inside))
 
 slice-aggregate-agrees : tie.Need-slice-aggregate-agrees
 slice-aggregate-agrees c = sym (length-take-le _ _ (omega arith))

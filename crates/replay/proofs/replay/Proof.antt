@@ -17,7 +17,7 @@ abbrev μ-loop : tie.MeasureT-loop
     length input - from
 
 slice-aggregate-line-agrees : tie.Need-slice-aggregate-line-agrees Inv-loop μ-loop
-slice-aggregate-line-agrees c = sym (length-take-le _ _ (c .before .find .ensures))
+slice-aggregate-line-agrees c = sym (length-take-le _ _ (c .before .find .ensures .inside))
 
 pub replay-spec : {M : Type 1} → statement M
 replay-spec =

@@ -6,10 +6,10 @@ use mathlib.Core.List.{List}
 use native.Mathlib.Omega.{arith}
 use lib.ListN.{length, take, length-take}
 use lib.Seq.{length-take-le}
-use Rattle.text.specs.Reading.{input, malformed, read-input}
-use Rattle.text.specs.Printing.{refusal-line}
+use Rattle.reading.specs.Reading.{input, malformed, read-input}
+use Rattle.printing.specs.Printing.{refusal-line}
 use Rattle.text.specs.Text.{text-output}
-use Rattle.text.proofs.LinesSteps.{Was-read, was-read, was-malformed}
+use Rattle.reading.proofs.LinesSteps.{Was-read, was-read, was-malformed}
 use Rattle.text.proofs.Main.{output-long, output-read, output-room, output-printed}
 use borrow.Author.Needs.{needs}
 use Rattle.text.proofs.text_output.Statement.{statement}

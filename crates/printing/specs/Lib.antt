@@ -1,0 +1,4 @@
+pub mod Printing
+pub mod Placed
+pub mod Computing
+pub mod Examples

@@ -1,0 +1,5 @@
+pub mod Reading
+pub mod Broken
+pub mod Told
+pub mod Computing
+pub mod Examples
