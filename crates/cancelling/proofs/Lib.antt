@@ -1,0 +1,3 @@
+pub mod KeptLaws
+pub mod Cancelled
+pub mod Positions
