@@ -25,10 +25,15 @@ impl<T: Copy + Default + PartialEq> Lent<T> {
 
     /// Noise for a call with that many entries.
     pub fn fill(&mut self, entries: usize, random: &mut Random) {
-        let (store, from) = (random.below(2), random.below(PLACES));
-        self.before = (store, from);
-        self.held.clear();
-        self.held.extend_from_slice(&self.stores[store][from..][..entries + BEHIND]);
+        self.before = (random.below(2), random.below(PLACES));
+        self.held.resize(entries + BEHIND, T::default());
+        self.fill_again();
+    }
+
+    /// The same noise once more.
+    pub fn fill_again(&mut self) {
+        let ((store, from), entries) = (self.before, self.held.len());
+        self.held.copy_from_slice(&self.stores[store][from..][..entries]);
     }
 
     /// The entries to lend.

@@ -6,6 +6,7 @@ mod answer;
 mod bench;
 mod bimtsure;
 mod bytes;
+mod cancel;
 mod definitions;
 mod demand3;
 mod desk;
@@ -89,6 +90,9 @@ bimtsure-host needs COUNT SEED
 bimtsure-host plan COUNT SEED
     compare our planning call with the Rust on the lists that papers name and on COUNT random ones: answers, slots and scratch
     afterwards, and demand 3; from 100000 lists on, fails if there were too few of some kind of list
+bimtsure-host cancel COUNT SEED
+    plan the lists that papers name and COUNT random ones, and choices of their appointments in random order, with the same P and
+    buffers: each must be accepted with a D that is no larger; from 1000 lists on, fails if a kind of choice never came
 bimtsure-host guard COUNT SEED
     make every exported call between unreadable pages, and with NULL for slices of no entries, in COUNT rounds of random and
     of damaged input; from 1000 rounds on, fails if a call never gave one of its numbers
@@ -126,6 +130,7 @@ fn main() -> ExitCode {
         ["desk", count, seed] => compare(desk_calls::compare, count, seed),
         ["needs", count, seed] => compare(needs::compare, count, seed),
         ["plan", count, seed] => compare(plan::compare, count, seed),
+        ["cancel", count, seed] => compare(cancel::show, count, seed),
         ["guard", count, seed] => compare(guard::run, count, seed),
         ["bytes", seconds, seed] => compare(bytes::throw, seconds, seed),
         ["pieces"] => pieces::check(),
