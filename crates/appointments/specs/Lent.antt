@@ -17,6 +17,10 @@ pub record Lent : Type 0 where
 abbrev pub lent : ℕ → List ℕ → List ℕ → List ℕ → Lent
 lent P list slots scratch = record { parties = P; list = list; slots = slots; scratch = scratch }
 
+-- the same with another list
+abbrev pub with-list : Lent → List ℕ → Lent
+with-list l list = lent (l .parties) list (l .slots) (l .scratch)
+
 -- the appointments, D and W of its list
 abbrev pub lent-appts : Lent → List Appt
 lent-appts l = appts (l .list)

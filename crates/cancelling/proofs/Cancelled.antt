@@ -6,14 +6,17 @@ use native.Mathlib.Nat.{le-trans, mul-le-mul-left, mul-le-mul-right}
 use native.Mathlib.Omega.{arith}
 use lib.ListN.{length}
 use Rattle.appointments.specs.Appointments.{appts, largest-load, scratch-words}
-use Rattle.appointments.specs.Checks.{checks, passed}
+use Rattle.appointments.specs.Checks.{passed}
 use Rattle.appointments.specs.Rounds.{Odd-round}
+use Rattle.appointments.specs.Lent.{Lent, with-list, lent-appts, lent-d, lent-checks}
 use Rattle.appointments.proofs.Loads.{Listed}
-use Rattle.appointments.proofs.ChecksLaws.{Filled, Passes, passed-passes, passes-passed}
+use Rattle.appointments.proofs.ChecksLaws.{Filled, Passes, passes-passed}
+use Rattle.appointments.proofs.LentLaws.{lent-passes}
+use Rattle.appointments.proofs.AnswerLaws.{accepted-refused}
 use Rattle.planning.specs.Planning.{plan-answer, plan-slots}
 use Rattle.planning.specs.Demand3.{Demand-3}
-use Rattle.planning.proofs.Demand3.{demand-3, planned-refusal}
-use Rattle.cancelling.specs.Cancelling.{Kept, Still-planned, Cancelling}
+use Rattle.planning.proofs.Demand3.{demand-3}
+use Rattle.cancelling.specs.Cancelling.{Kept, Cancelling}
 use Rattle.cancelling.proofs.KeptLaws.{kept-length, kept-all, kept-largest, kept-odd}
 
 -- Checks 1 to 8 pass what is kept: nothing that they bound grows.
@@ -46,28 +49,30 @@ kept-passes P list kept slots scratch even k p =
 
 -- Cancelling can't lengthen a plan.
 pub cancelling : Cancelling
-cancelling P D list kept slots scratch planned-before even k =
+cancelling l D kept planned even k =
     record {
-      its-D = largest-load P (appts kept);
-      answer = after .accepted still even-rounds;
-      no-larger = omega (arith, kept-largest P (appts list) (appts kept) k, before .plan D planned-before .largest);
+      its-D = lent-d kept-lent;
+      answer = after .accepts still even-rounds;
+      no-larger = omega (arith, kept-largest (l .parties) (lent-appts l) (appts kept) k, before .plan D planned .largest);
     }
   where
-    before : Demand-3 P list (length slots) (length scratch) (plan-answer P list slots scratch) (plan-slots P list slots scratch)
-    before = demand-3 P list slots scratch
+    kept-lent : Lent
+    kept-lent = with-list l kept
 
-    after : Demand-3 P kept (length slots) (length scratch) (plan-answer P kept slots scratch) (plan-slots P kept slots scratch)
-    after = demand-3 P kept slots scratch
+    before : Demand-3 l (plan-answer l) (plan-slots l)
+    before = demand-3 l
 
-    was : checks P list (length slots) (length scratch) ≡ passed
-    was = before .only-passed D planned-before
+    after : Demand-3 kept-lent (plan-answer kept-lent) (plan-slots kept-lent)
+    after = demand-3 kept-lent
 
-    still : checks P kept (length slots) (length scratch) ≡ passed
+    was : lent-checks l passed ≡ passed
+    was = before .only-passed D planned
+
+    still : lent-checks kept-lent passed ≡ passed
     still =
-        passes-passed P kept (length slots) (length scratch)
-        (kept-passes P list kept (length slots) (length scratch) even k (passed-passes P list (length slots) (length scratch) was))
+        passes-passed (l .parties) kept (length (l .slots)) (length (l .scratch))
+        (kept-passes (l .parties) (l .list) kept (length (l .slots)) (length (l .scratch)) even k (lent-passes l was))
 
     -- an odd round of what is kept would be one of the whole list, which was accepted and not refused with 9
     even-rounds : Odd-round (appts kept) → ⊥
-    even-rounds odd =
-        planned-refusal D 9 0 (sym planned-before ∙ before .nine-only was (kept-odd (appts list) (appts kept) k odd))
+    even-rounds odd = accepted-refused D 9 0 (sym planned ∙ before .nine-only was (kept-odd (lent-appts l) (appts kept) k odd))

@@ -10,6 +10,7 @@ use Rattle.words.specs.Basics.{All, is, count}
 use Rattle.words.specs.Words.{word}
 use Rattle.words.proofs.Sums.{is-same, is-eq, is-ne, is-le, count-append, all-counted}
 use Rattle.appointments.specs.Appointments.{Appt, appt, appts}
+use Rattle.appointments.specs.Lent.{lent-appts}
 use Rattle.appointments.proofs.Flat.{appts-count, rest-cons, rest-none}
 use Rattle.cancelling.specs.Cancelling.{Kept, Chosen, at-positions, Cancelling-by-positions}
 use Rattle.cancelling.proofs.KeptLaws.{kept-map}
@@ -108,8 +109,14 @@ module _ (list : List ℕ) where
 
 -- Cancelling can't lengthen a plan, by the positions that are kept.
 pub cancelling-by-positions : Cancelling-by-positions
-cancelling-by-positions P D list positions slots scratch planned-before chosen =
-    cancelling P D list (at-positions list positions) slots scratch planned-before (even-positions list positions)
-    (rw (entries list positions, ← all-entries list 0 (length (appts list)) (omega arith)) (
-    kept-map (entry list) (from 0 (length (appts list))) positions (chosen-kept (length (appts list)) positions chosen)
-    ))
+cancelling-by-positions l D positions planned chosen =
+    cancelling l D (at-positions list positions) planned (even-positions list positions) (
+      rw (entries list positions, ← all-entries list 0 A (omega arith))
+      (kept-map (entry list) (from 0 A) positions (chosen-kept A positions chosen))
+    )
+  where
+    list : List ℕ
+    list = l .list
+
+    A : ℕ
+    A = length (lent-appts l)

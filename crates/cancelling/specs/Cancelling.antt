@@ -7,7 +7,9 @@ use lib.ListN.{length}
 use Rattle.words.specs.Basics.{All, count}
 use Rattle.words.specs.Words.{word}
 use Rattle.appointments.specs.Appointments.{appts}
-use Rattle.planning.specs.Planning.{planned, plan-answer}
+use Rattle.appointments.specs.Answers.{accepted}
+use Rattle.appointments.specs.Lent.{Lent, lent-appts, with-list}
+use Rattle.planning.specs.Planning.{plan-answer}
 
 -- Some of the entries of xs, each at most once, in any order: each in turn is taken out of those that are left. Equal entries at
 -- different positions count apart, and none at all may be kept too.
@@ -15,17 +17,17 @@ abbrev pub Kept : {A : Type 0} → List A → List A → Type 0
 Kept xs [] = Unit {0}
 Kept {A} xs (y ∷ ys) = (before : List A) × (after : List A) × (xs ≡ before ++ y ∷ after) × Kept (before ++ after) ys
 
--- The list is accepted too, with this P and these buffers, and its D is no larger.
-pub record Still-planned (P D : ℕ) (list slots scratch : List ℕ) : Type 0 where
+-- What the call is lent is accepted too, and its D is no larger.
+pub record Still-planned (D : ℕ) (l : Lent) : Type 0 where
   pub its-D : ℕ
-  pub answer : plan-answer P list slots scratch ≡ planned its-D
+  pub answer : plan-answer l ≡ accepted its-D
   pub no-larger : its-D ≤ D
 
--- Cancelling can't lengthen a plan: if a list is accepted, so is every list of some of its appointments.
+-- Cancelling can't lengthen a plan: if a list is accepted, so is every list of some of its appointments, with the same P and buffers.
 abbrev pub Cancelling : Type 0
 Cancelling =
-    (P D : ℕ) (list kept slots scratch : List ℕ) → plan-answer P list slots scratch ≡ planned D → length kept % 2 ≡ 0 →
-    Kept (appts list) (appts kept) → Still-planned P D kept slots scratch
+    (l : Lent) (D : ℕ) (kept : List ℕ) → plan-answer l ≡ accepted D → length kept % 2 ≡ 0 → Kept (lent-appts l) (appts kept) →
+    Still-planned D (with-list l kept)
 
 -- ── the same by positions, as a desk thinks of it ──
 
@@ -42,5 +44,5 @@ pub record Chosen (A : ℕ) (positions : List ℕ) : Type 0 where
 -- If a list is accepted, so is what stands at any positions that are chosen from it.
 abbrev pub Cancelling-by-positions : Type 0
 Cancelling-by-positions =
-    (P D : ℕ) (list positions slots scratch : List ℕ) → plan-answer P list slots scratch ≡ planned D →
-    Chosen (length (appts list)) positions → Still-planned P D (at-positions list positions) slots scratch
+    (l : Lent) (D : ℕ) (positions : List ℕ) → plan-answer l ≡ accepted D → Chosen (length (lent-appts l)) positions →
+    Still-planned D (with-list l (at-positions (l .list) positions))
