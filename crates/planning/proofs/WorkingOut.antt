@@ -128,6 +128,9 @@ module _ (l : Lent) where
   abbrev pub Told : Answered → Type 0
   Told c = c ≡ checked (lent-checks l passed) (lent-d l)
 
+  pub told-as : {r c : Answered} → r ≡ c → Told r → Told c
+  told-as e t = sym e ∙ t
+
   module _ {number place : ℕ} (told : Told (Refused number place)) where
     barred : lent-checks l passed ≡ Check.refused number place
     barred = checked-number (lent-checks l passed) (lent-d l) number place (sym told)
