@@ -3,12 +3,12 @@
 use Prim.Native.Nat.{ℕ, _≤_, _<_}
 use mathlib.Core.Path.{_≡_, refl, sym, _∙_, ap, subst}
 use mathlib.Core.Bool.{Bool}
-use mathlib.Core.List.{List, _++_}
+use mathlib.Core.List.{List}
 use native.Mathlib.Omega.{arith}
 use borrow.Author.Tests.{lt-ltb, le-ltb}
 use lib.ListN.{length, take, drop, length-append}
 use lib.Seq.{length-take-le}
-use Rattle.appointments.specs.Answers.{accepted}
+use Rattle.appointments.specs.Answers.{accepted, over}
 use Rattle.appointments.specs.Answers as Answers
 use Rattle.planning.specs.Planning.{plan-answer, plan-slots}
 use Rattle.planning.specs.Told.{answer-of}
@@ -81,8 +81,8 @@ output-room broken bytes line out e h = rw (← e) (room (text-output broken byt
 -- and what is printed is what main prints; it stands in the output.
 pub output-printed :
     (broken : Bool) (bytes line : List ℕ) (n : ℕ) (out after : List ℕ) → text-output broken bytes ≡ line → Printed line n out after →
-    (n ≡ length (text-output broken bytes)) × ((after ≡ text-output broken bytes ++ drop n out) × ((n ≤ length after) × (n ≡ length (take n after))))
+    (n ≡ length (text-output broken bytes)) × ((after ≡ over (text-output broken bytes) out) × ((n ≤ length after) × (n ≡ length (take n after))))
 output-printed broken bytes line n out after e p =
     let inside : n ≤ length after =
     rw (p .stored, length-append line (drop (length line) out)) (omega (arith, p .counted)) in
-    rw e (p .counted, (rw (p .counted) (p .stored), (inside, sym (length-take-le n after inside))))
+    rw e (p .counted, (p .stored, (inside, sym (length-take-le n after inside))))

@@ -3,11 +3,11 @@
 use planning::Answer;
 use reading::ReadInput;
 ghost use mathlib.Core.Path.{_≡_};
-ghost use mathlib.Core.List.{_++_};
 ghost use Prim.Native.Nat.{_≤_};
-ghost use lib.ListN.{length, take, drop};
-ghost use Rattle.reading.specs.Reading.{input};
-ghost use Rattle.printing.specs.Printing.{printed};
+ghost use lib.ListN.{length, take};
+ghost use Rattle.appointments.specs.Answers.{over};
+ghost use Rattle.text.specs.Reading.{input};
+ghost use Rattle.text.specs.Printing.{printed};
 ghost use Rattle.text.specs.Text.{«input-report», «text-output»};
 ghost use Rattle.printing.specs.Placed.{Printed};
 
@@ -38,7 +38,7 @@ pub struct Came {
 // that take the printed bytes a proof.
 pub fn text_output(input: &[u8; 4097], came: Came, output: &mut [u8; 1801]) -> usize
     ensures count { λ r. ⌜ r ≡ length (text-output (came .broken) (take (came .count) (now (input .entry)))) ⌝ }
-    ensures bytes { λ r. ⌜ now (output .exit) ≡ text-output (came .broken) (take (came .count) (now (input .entry))) ++ drop r (now (output .entry)) ⌝ }
+    ensures bytes { λ r. ⌜ now (output .exit) ≡ over (text-output (came .broken) (take (came .count) (now (input .entry)))) (now (output .entry)) ⌝ }
     ensures inside { λ r. ⌜ (r ≤ length (now (output .exit))) × (r ≡ length (take r (now (output .exit)))) ⌝ }
 {
     let all: &[u8] = input; // parts are taken of slices
