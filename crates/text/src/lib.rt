@@ -6,8 +6,8 @@ ghost use mathlib.Core.Path.{_≡_};
 ghost use Prim.Native.Nat.{_≤_};
 ghost use lib.ListN.{length, take};
 ghost use Rattle.appointments.specs.Answers.{over};
-ghost use Rattle.text.specs.Reading.{input};
-ghost use Rattle.text.specs.Printing.{printed};
+ghost use Rattle.reading.specs.Reading.{input};
+ghost use Rattle.printing.specs.Printing.{printed};
 ghost use Rattle.text.specs.Text.{«input-report», «text-output»};
 ghost use Rattle.printing.specs.Placed.{Printed};
 
