@@ -23,12 +23,12 @@ use Rattle.edge_color.specs.Coloring.{Coloring}
 use Rattle.edge_color.proofs.ColorLaws.{color-law}
 use Rattle.matching.specs.Perfect.{Perfect}
 use Rattle.regular_graph.specs.Evening.{add-appointments, padded, even-out}
-use Rattle.slots.specs.Slots.{give-slots}
+use Rattle.highest_slot.specs.Slots.{give-slots}
 use Rattle.given_partition.specs.GivenPartition.{bipartite-edge-color-given-partition}
 use Rattle.regular_graph.proofs.Pairs.{degree-load, copies-appts, sound-list}
 use Rattle.regular_graph.proofs.Padding.{padded-side, even-length, even-parties, padded-partition, padded-crosses}
 use Rattle.regular_graph.proofs.RegularLaws.{Evened, even-out-law}
-use Rattle.slots.proofs.GiveSlots.{Slots-given, give-slots-law}
+use Rattle.highest_slot.proofs.GiveSlots.{Slots-given, give-slots-law}
 
 -- a plan of the list with slots below D and without a clash
 pub record Proper-plan (P : ℕ) (xs : List Appt) (plan : List ℕ) : Type 0 where

@@ -18,7 +18,7 @@ use Rattle.edge_color.specs.EdgeColor.{rbmg-edge-color}
 use Rattle.edge_color.specs.Room.{Color-fits, Colored}
 use Rattle.regular_graph.specs.Evening.{add-appointments, padded, even-out}
 use Rattle.list_pairs.proofs.Listed.{appt-at}
-use Rattle.slots.specs.Slots.{give-slots}
+use Rattle.highest_slot.specs.Slots.{give-slots}
 use Rattle.slots.specs.Stored.{Slots-fit, Gives-slots}
 use Rattle.given_partition.specs.GivenPartition.{bipartite-edge-color-given-partition}
 use Rattle.given_partition.specs.Steps.{ends-at, places-at, apair-at, out-at, graph-base, first-mark, table, left-side, right-side, Sided, Prepared, Slots-planned}

@@ -2,9 +2,9 @@
 -- Assumes nothing.
 use Rattle.edge_color.specs.Computing as EdgeColor
 use Rattle.regular_graph.specs.Computing as RegularGraph
-use Rattle.slots.specs.Computing as Slots
+use Rattle.highest_slot.specs.Computing as HighestSlot
 use Rattle.given_partition.specs.GivenPartition.{bipartite-edge-color-given-partition}
 
 unfoldable pub computing : Unit {0}
-unfolding EdgeColor.computing RegularGraph.computing Slots.computing bipartite-edge-color-given-partition
+unfolding EdgeColor.computing RegularGraph.computing HighestSlot.computing bipartite-edge-color-given-partition
 computing = tt

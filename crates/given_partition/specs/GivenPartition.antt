@@ -6,7 +6,7 @@ use Rattle.words.specs.Basics.{Run, and-then}
 use Rattle.appointments.specs.Appointments.{Appt, largest-load}
 use Rattle.edge_color.specs.EdgeColor.{rbmg-edge-color}
 use Rattle.regular_graph.specs.Evening.{add-appointments, padded, even-out}
-use Rattle.slots.specs.Slots.{give-slots}
+use Rattle.highest_slot.specs.Slots.{give-slots}
 
 -- The slots of a list whose parties below P stand on two sides.
 unfoldable pub bipartite-edge-color-given-partition : ℕ → List Appt → List ℕ → List ℕ → Run (List ℕ)

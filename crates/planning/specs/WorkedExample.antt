@@ -9,7 +9,7 @@ use Rattle.multigraph.specs.Multigraph.{Graph, pair}
 use Rattle.euler.specs.Split.{rbmg-split-into-two}
 use Rattle.edge_color.specs.EdgeColor.{rbmg-edge-color}
 use Rattle.regular_graph.specs.Evening.{add-appointments, padded, even-out}
-use Rattle.slots.specs.Slots.{give-slots}
+use Rattle.highest_slot.specs.Slots.{give-slots}
 use Rattle.planning.specs.Computing.{computing}
 
 abbrev pub appointments : List Appt

@@ -1,5 +1,3 @@
-pub mod GiveSlots
-pub mod StepLaws
 pub mod Chains
 pub mod Pushing
 pub mod StoredMatchings

@@ -14,7 +14,7 @@ use Rattle.words.proofs.Sums.{is-eq, is-ne}
 use Rattle.words.proofs.Frames.{here, away, length-put}
 use Rattle.words.proofs.Ranges.{changes-refl, changes-trans, changes-put, changes-put-low}
 use Rattle.words.proofs.Below.{row-end}
-use Rattle.slots.specs.Steps.{pushed, matching-pushed, all-pushed}
+use Rattle.slot_chains.specs.Steps.{pushed, matching-pushed, all-pushed}
 use Rattle.slots.proofs.Chains.{Chain, chain-keep, chain-cut, link-fits, slots-left}
 
 -- how often the number e stands among the j words from m on

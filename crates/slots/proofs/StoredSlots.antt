@@ -12,10 +12,10 @@ use Rattle.appointments.specs.Appointments.{Appt, appt}
 use Rattle.multigraph.specs.Multigraph.{Graph}
 use Rattle.multigraph.specs.Stored.{matchings-at}
 use Rattle.multigraph.proofs.SideBySide.{matchings-length, matchings-positive, matchings-nth}
-use Rattle.slots.specs.Slots.{give-slots}
+use Rattle.highest_slot.specs.Slots.{give-slots}
 use Rattle.multigraph.specs.Places.{Has-ends}
 use Rattle.slots.specs.Stored.{Slots-fit, Slots-stored}
-use Rattle.slots.specs.Steps.{all-pushed, given-words, given-slots}
+use Rattle.slot_chains.specs.Steps.{all-pushed, given-words, given-slots}
 use Rattle.slots.proofs.Chains.{slots-same}
 use Rattle.slots.proofs.Pushing.{seen, Pushable, Chained, has, push-all}
 use Rattle.slots.proofs.StoredMatchings.{matching-copies}

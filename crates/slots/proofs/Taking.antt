@@ -21,9 +21,9 @@ use Rattle.multigraph.specs.Regular.{between, copies-between, Positive}
 use Rattle.multigraph.specs.Places.{Distinct-ends, Has-ends}
 use Rattle.multigraph.proofs.Ends.{between-symmetric, same-weight}
 use Rattle.multigraph.proofs.Weights.{pairs-between-ends, no-pairs-no-copies}
-use Rattle.slots.specs.Slots.{Given, given, none-left, give, with-slot, give-slots}
-use Rattle.slots.specs.Steps.{link, taken-words, taken-slots, given-words, given-slots}
-use Rattle.slots.proofs.GiveSlots.{Gave, give-law}
+use Rattle.highest_slot.specs.Slots.{Given, given, none-left, give, with-slot, give-slots}
+use Rattle.slot_chains.specs.Steps.{link, taken-words, taken-slots, given-words, given-slots}
+use Rattle.highest_slot.proofs.GiveSlots.{Gave, give-law}
 use Rattle.slots.proofs.Chains.{Chain, chain-keep, chain-cut, link-slot, link-place, slots-left, slots-same, slots-taken}
 use Rattle.slots.proofs.StoredMatchings.{between-numbers}
 

@@ -1,5 +1,1 @@
-pub mod Slots
 pub mod Stored
-pub mod Steps
-pub mod Computing
-pub mod Examples

@@ -11,7 +11,7 @@ use Rattle.appointments.specs.Appointments.{Appt, appt}
 use Rattle.appointments.specs.Answers.{over}
 use Rattle.multigraph.specs.Stored.{matchings-at}
 use Rattle.multigraph.specs.Places.{Distinct-ends, Has-ends}
-use Rattle.slots.specs.Slots.{give-slots}
+use Rattle.highest_slot.specs.Slots.{give-slots}
 
 -- The table of ends, the numbers of the appointments' pairs, the matchings and a word for each pair lie inside the words, the
 -- matchings above the first two and the words for the pairs above the matchings; all numbers are below `pairs`, and each

@@ -4,8 +4,8 @@ use Prim.Native.Nat.{_-_, _≤_}
 use mathlib.Core.Path.{_≡_, refl, sym, _∙_, ap}
 use native.Mathlib.Omega.{arith}
 use lib.ListN.{length}
-use Rattle.slots.specs.Steps.{given-words, given-slots}
-use Rattle.slots.proofs.StepLaws.{given-words-turn, given-slots-turn, given-words-stop, given-slots-stop}
+use Rattle.slot_chains.specs.Steps.{given-words, given-slots}
+use Rattle.slot_chains.proofs.StepLaws.{given-words-turn, given-slots-turn, given-words-stop, given-slots-stop}
 use borrow.Author.Needs.{needs}
 use Rattle.slots.proofs.take_all.Statement.{statement}
 use Rattle.slots.proofs.take_all.Tie as tie

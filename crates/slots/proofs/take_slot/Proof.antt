@@ -1,5 +1,5 @@
 -- `slots::take_slot` meets its contract: it does what its model does. Assumes nothing.
-use Rattle.slots.specs.Steps.{taken-words, taken-slots}
+use Rattle.slot_chains.specs.Steps.{taken-words, taken-slots}
 use borrow.Author.Needs.{needs}
 use Rattle.slots.proofs.take_slot.Statement.{statement}
 use Rattle.slots.proofs.take_slot.Tie as tie

@@ -1,12 +1,12 @@
--- `slots::pair_in` meets its contract: word j of the stretch is the matching's number j. Assumes nothing.
+-- `slot_chains::pair_in` meets its contract: word j of the stretch is the matching's number j. Assumes nothing.
 use Prim.Native.Nat.{_+_, _*_}
 use native.Mathlib.Omega.{arith}
 use native.Mathlib.Nat.{add-assoc}
 use lib.ListN.{length-take, length-drop}
 use borrow.Author.Needs.{needs}
 use Rattle.words.proofs.Frames.{stretch-word}
-use Rattle.slots.proofs.pair_in.Statement.{statement}
-use Rattle.slots.proofs.pair_in.Tie as tie
+use Rattle.slot_chains.proofs.pair_in.Statement.{statement}
+use Rattle.slot_chains.proofs.pair_in.Tie as tie
 
 -- the stretch is as long as a matching
 in-stretch : tie.Need-shared-slice-read-t9

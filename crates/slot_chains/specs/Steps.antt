@@ -1,6 +1,6 @@
 -- What the inner steps do, on the list of words: each pair's slots become a chain of links, highest slot first. A link is one
 -- word: the slot times 16,384, and the place among the matchings' words where the next link stands. There are at most 16,384
--- places (`few` in Stored.antt). Assumes nothing.
+-- places (`few` in the Stored.antt of `slots`). Assumes nothing.
 use Prim.Native.Nat.{ℕ, zero, suc, _+_, _*_, _/_, _%_}
 use mathlib.Core.List.{List}
 use Rattle.words.specs.Words.{word, put-word, put-word16}

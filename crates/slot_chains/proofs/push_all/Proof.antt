@@ -1,15 +1,15 @@
--- `slots::push_all` meets its contract. Invariant: the matchings of the slots below `slot` are linked; the measure is what is left of them. Assumes
+-- `slot_chains::push_all` meets its contract. Invariant: the matchings of the slots below `slot` are linked; the measure is what is left of them. Assumes
 -- nothing.
 use Prim.Native.Nat.{_-_, _≤_}
 use mathlib.Core.Path.{_≡_, refl, _∙_}
 use native.Mathlib.Omega.{arith}
 use lib.ListN.{length}
 use Rattle.words.proofs.Below.{row-end}
-use Rattle.slots.specs.Steps.{all-pushed}
-use Rattle.slots.proofs.StepLaws.{all-pushed-more}
+use Rattle.slot_chains.specs.Steps.{all-pushed}
+use Rattle.slot_chains.proofs.StepLaws.{all-pushed-more}
 use borrow.Author.Needs.{needs}
-use Rattle.slots.proofs.push_all.Statement.{statement}
-use Rattle.slots.proofs.push_all.Tie as tie
+use Rattle.slot_chains.proofs.push_all.Statement.{statement}
+use Rattle.slot_chains.proofs.push_all.Tie as tie
 
 abbrev Inv-loop : tie.InvT-loop
 Inv-loop s₀ n d out links slot₀ s slot = (slot ≤ d) × (length s ≡ length s₀) × (s ≡ all-pushed n out links slot s₀)

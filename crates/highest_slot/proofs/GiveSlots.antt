@@ -21,7 +21,7 @@ use Rattle.multigraph.specs.Regular.{weigh, names, degree, between, pairs-betwe
 use Rattle.multigraph.proofs.Ends.{names-symmetric, between-symmetric, between-self}
 use Rattle.multigraph.proofs.Weights.{pairs-between-none, no-pairs-no-copies}
 use Rattle.multigraph.proofs.Removing.{weigh-remove-edge, positive-remove-edge}
-use Rattle.slots.specs.Slots.{Given, given, none-left, give-here, or-here, give, with-slot, give-slots}
+use Rattle.highest_slot.specs.Slots.{Given, given, none-left, give-here, or-here, give, with-slot, give-slots}
 use Rattle.appointments.proofs.Loads.{weigh-appts, weigh-appts-cons}
 
 -- the copies of all matchings, each weighed by its ends

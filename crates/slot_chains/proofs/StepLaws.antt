@@ -1,10 +1,18 @@
--- One turn of each loop's model, and where it stops. Assumes nothing.
+-- The model of `push_slot`; one turn of each loop's model, and where it stops. Assumes nothing.
 use Prim.Native.Nat.{ℕ, suc, _+_, _*_, _-_, _<_, _≤_}
 use mathlib.Core.Path.{_≡_}
 use mathlib.Core.List.{List}
 use native.Mathlib.Omega.{arith}
 use native.Mathlib.Numerals.{add-one}
-use Rattle.slots.specs.Steps.{pushed, matching-pushed, all-pushed, taken-words, taken-slots, given-words, given-slots}
+use Rattle.words.specs.Words.{word, put-word}
+use Rattle.slot_chains.specs.Steps.{pushed, matching-pushed, all-pushed, taken-words, taken-slots, given-words, given-slots}
+
+-- what `push_slot` reads and writes, one after the other, is its model
+pub push-is :
+    (out links slot t : ℕ) (s : List ℕ) {e next : ℕ} {s₁ s₂ : List ℕ} → e ≡ word s (out + t) → next ≡ word s (links + e) →
+    s₁ ≡ put-word s (out + t) next → s₂ ≡ put-word s₁ (links + e) (slot * 16384 + t) → s₂ ≡ pushed out links slot t s
+unfolding pushed
+push-is out links slot t s number first held linked = rw (linked, held, first, number)
 
 pub matching-pushed-more :
     (n out links slot j : ℕ) (s : List ℕ) →

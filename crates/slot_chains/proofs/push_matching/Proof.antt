@@ -1,14 +1,14 @@
--- `slots::push_matching` meets its contract. Invariant: the first j pairs of the matching have their link; the measure is what is left
+-- `slot_chains::push_matching` meets its contract. Invariant: the first j pairs of the matching have their link; the measure is what is left
 -- of them. Assumes nothing.
 use Prim.Native.Nat.{_-_, _≤_}
 use mathlib.Core.Path.{_≡_, refl, _∙_}
 use native.Mathlib.Omega.{arith}
 use lib.ListN.{length}
-use Rattle.slots.specs.Steps.{matching-pushed}
-use Rattle.slots.proofs.StepLaws.{matching-pushed-more}
+use Rattle.slot_chains.specs.Steps.{matching-pushed}
+use Rattle.slot_chains.proofs.StepLaws.{matching-pushed-more}
 use borrow.Author.Needs.{needs}
-use Rattle.slots.proofs.push_matching.Statement.{statement}
-use Rattle.slots.proofs.push_matching.Tie as tie
+use Rattle.slot_chains.proofs.push_matching.Statement.{statement}
+use Rattle.slot_chains.proofs.push_matching.Tie as tie
 
 abbrev Inv-loop : tie.InvT-loop
 Inv-loop s₀ n out links slot j₀ s j =
