@@ -17,15 +17,15 @@ use Rattle.multigraph.proofs.Numbers.{matching-once, matching-present}
 use Rattle.multigraph.proofs.Kept.{ends-kept, Graph-kept, graph-spares}
 use Rattle.multigraph.proofs.Sizes.{entries-few, entries-copies}
 use Rattle.multigraph.proofs.SideBySide.{matching-kept}
-use Rattle.matching.specs.Perfect.{Full, Matching-of}
+use Rattle.perfect_matching.specs.Perfect.{Full, Matching-of}
 use Rattle.matching.specs.Searched.{lefts, rights, Tabled, Can-find, Matching-found}
 use Rattle.matching.specs.declared.Table.{Table}
-use Rattle.matching.proofs.MatchingLaws.{perfect-single, matching-law}
+use Rattle.perfect_matching.proofs.MatchingLaws.{perfect-single, matching-law}
 use Rattle.matching.proofs.Tables.{tabled-kept}
-use Rattle.edge_color.specs.EdgeColor.{Set-aside, set-aside}
+use Rattle.coloring.specs.EdgeColor.{Set-aside, set-aside}
 use Rattle.edge_color.specs.Room.{Color-fits, Aside-stored}
-use Rattle.edge_color.proofs.Moving.{full}
-use Rattle.edge_color.proofs.SettingAside.{Aside-of, set-aside-law}
+use Rattle.coloring.proofs.Moving.{full}
+use Rattle.coloring.proofs.SettingAside.{Aside-of, set-aside-law}
 
 -- ── even degree: nothing happens ──
 

@@ -18,16 +18,16 @@ use Rattle.multigraph.proofs.SideBySide.{matchings-append, matchings-kept, matc
 use Rattle.euler.specs.Split.{rbmg-split-into-two}
 use Rattle.euler.specs.Room.{Splits, Halves-stored}
 use Rattle.words.specs.PowersOfTwo.{log-up}
-use Rattle.matching.specs.Perfect.{Full}
+use Rattle.perfect_matching.specs.Perfect.{Full}
 use Rattle.matching.specs.Searched.{lefts, rights}
 use Rattle.matching.specs.declared.Table.{Table}
 use Rattle.matching.proofs.Tables.{Sides-kept, sides-kept, tabled-kept}
-use Rattle.edge_color.specs.EdgeColor.{Set-aside, set-aside, add-matchings, rbmg-edge-color-when-power-of-two, rbmg-edge-color}
-use Rattle.edge_color.specs.Coloring.{Coloring}
+use Rattle.coloring.specs.EdgeColor.{Set-aside, set-aside, add-matchings, rbmg-edge-color-when-power-of-two, rbmg-edge-color}
+use Rattle.coloring.specs.Coloring.{Coloring}
 use Rattle.edge_color.specs.Room.{Colorable, Power-fits, Power-colored, Color-fits, Aside-stored, Colored}
-use Rattle.edge_color.proofs.Moving.{full, add-matchings-law, add-matchings-words}
-use Rattle.edge_color.proofs.SettingAside.{Aside-of, set-aside-law}
-use Rattle.edge_color.proofs.ColorLaws.{Cut, cut-law, color-law}
+use Rattle.coloring.proofs.Moving.{full, add-matchings-law, add-matchings-words}
+use Rattle.coloring.proofs.SettingAside.{Aside-of, set-aside-law}
+use Rattle.coloring.proofs.ColorLaws.{Cut, cut-law, color-law}
 use Rattle.edge_color.proofs.SplitHalves.{splits, Half, Both-halves, both-halves, half-kept, half-colorable}
 use Rattle.edge_color.proofs.AsideWords.{small}
 use Rattle.edge_color.proofs.CutSizes.{Cuts, cuts, second-room, second-below}

@@ -1,7 +1,3 @@
-pub mod Moving
-pub mod PowerOfTwo
-pub mod SettingAside
-pub mod ColorLaws
 pub mod SplitHalves
 pub mod SingleWords
 pub mod PowerWords

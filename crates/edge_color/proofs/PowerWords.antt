@@ -17,7 +17,7 @@ use Rattle.multigraph.specs.Places.{size, number}
 use Rattle.multigraph.proofs.SideBySide.{matchings-append, matchings-kept}
 use Rattle.multigraph.proofs.Kept.{stays-ends, Graph-kept, graph-stays}
 use Rattle.euler.specs.Room.{Splits, Halves-stored}
-use Rattle.edge_color.specs.EdgeColor.{rbmg-edge-color-when-power-of-two}
+use Rattle.coloring.specs.EdgeColor.{rbmg-edge-color-when-power-of-two}
 use Rattle.edge_color.specs.Room.{Bounds-pass, Power-fits, Power-colored}
 use Rattle.edge_color.proofs.SplitHalves.{splits, Half, numbers-pass, Both-halves, both-halves, half-kept, half-colorable}
 

@@ -17,7 +17,7 @@ use Rattle.multigraph.proofs.Sizes.{entries-one}
 use Rattle.matching.specs.Searched.{lefts, rights, Can-read, Reads-matching, Matching-read}
 use Rattle.matching.specs.declared.Table.{Table}
 use Rattle.matching.proofs.Reading.{can-read}
-use Rattle.edge_color.specs.EdgeColor.{rbmg-edge-color-when-power-of-two, rbmg-edge-color}
+use Rattle.coloring.specs.EdgeColor.{rbmg-edge-color-when-power-of-two, rbmg-edge-color}
 use Rattle.edge_color.specs.Room.{Colorable, Power-fits, Power-colored, Color-fits, Colored}
 
 pub color-none :

@@ -1,5 +1,1 @@
-pub mod EdgeColor
-pub mod Coloring
 pub mod Room
-pub mod Computing
-pub mod Examples

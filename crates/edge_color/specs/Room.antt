@@ -11,7 +11,7 @@ use Rattle.multigraph.specs.Stored.{graph-at, matchings-at}
 use Rattle.multigraph.specs.Places.{size, number}
 use Rattle.matching.specs.Searched.{lefts, rights, Tabled}
 use Rattle.matching.specs.declared.Table.{Table}
-use Rattle.edge_color.specs.EdgeColor.{rbmg-edge-color-when-power-of-two, set-aside, rbmg-edge-color}
+use Rattle.coloring.specs.EdgeColor.{rbmg-edge-color-when-power-of-two, set-aside, rbmg-edge-color}
 
 -- A graph to be coloured, regular of degree d on n parties a side. From below up there lie the table of ends, the n·d words of
 -- the result, the graph and the mark.

@@ -18,10 +18,10 @@ use Rattle.multigraph.specs.Regular.{names, degree, between, Across, Regular, P
 use Rattle.multigraph.proofs.Ends.{between-symmetric}
 use Rattle.multigraph.proofs.Weights.{weigh-none}
 use Rattle.multigraph.proofs.Matchings.{Sound}
-use Rattle.edge_color.specs.EdgeColor.{rbmg-edge-color}
-use Rattle.edge_color.specs.Coloring.{Coloring}
-use Rattle.edge_color.proofs.ColorLaws.{color-law}
-use Rattle.matching.specs.Perfect.{Perfect}
+use Rattle.coloring.specs.EdgeColor.{rbmg-edge-color}
+use Rattle.coloring.specs.Coloring.{Coloring}
+use Rattle.coloring.proofs.ColorLaws.{color-law}
+use Rattle.perfect_matching.specs.Perfect.{Perfect}
 use Rattle.regular_graph.specs.Evening.{add-appointments, padded, even-out}
 use Rattle.highest_slot.specs.Slots.{give-slots}
 use Rattle.given_partition.specs.GivenPartition.{bipartite-edge-color-given-partition}

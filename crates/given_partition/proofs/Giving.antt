@@ -14,7 +14,7 @@ use Rattle.multigraph.specs.Multigraph.{Graph}
 use Rattle.multigraph.specs.Stored.{graph-at, matchings-at}
 use Rattle.multigraph.specs.Places.{size}
 use Rattle.multigraph.proofs.Kept.{Ends-kept, alike-back}
-use Rattle.edge_color.specs.EdgeColor.{rbmg-edge-color}
+use Rattle.coloring.specs.EdgeColor.{rbmg-edge-color}
 use Rattle.edge_color.specs.Room.{Color-fits, Colored}
 use Rattle.regular_graph.specs.Evening.{add-appointments, padded, even-out}
 use Rattle.list_pairs.proofs.Listed.{appt-at}

@@ -4,7 +4,7 @@ use mathlib.Core.List.{List, []}
 use lib.ListN.{length}
 use Rattle.words.specs.Basics.{Run, and-then}
 use Rattle.appointments.specs.Appointments.{Appt, largest-load}
-use Rattle.edge_color.specs.EdgeColor.{rbmg-edge-color}
+use Rattle.coloring.specs.EdgeColor.{rbmg-edge-color}
 use Rattle.regular_graph.specs.Evening.{add-appointments, padded, even-out}
 use Rattle.highest_slot.specs.Slots.{give-slots}
 

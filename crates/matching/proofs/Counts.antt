@@ -20,8 +20,8 @@ use Rattle.multigraph.specs.Multigraph.{Graph}
 use Rattle.multigraph.specs.Stored.{entry, graph-at}
 use Rattle.multigraph.specs.Places.{size, number, copies-of}
 use Rattle.multigraph.proofs.Spans.{graph-span, total-span}
+use Rattle.perfect_matching.specs.Matching.{flagged-pairs, flagged-copies}
 use Rattle.words.specs.PowersOfTwo.{log-up}
-use Rattle.matching.specs.Matching.{flagged-pairs, flagged-copies}
 use Rattle.matching.specs.Choosing.{flagged-by, flagged-entry, Whole, fewer, Chooses, Inside-both, Side-by-side}
 use Rattle.words.proofs.PowersOfTwo.{log-up-law}
 

@@ -14,7 +14,7 @@ use Rattle.multigraph.specs.Multigraph.{Graph, add-edge}
 use Rattle.multigraph.specs.Stored.{graph-at}
 use Rattle.multigraph.specs.Places.{size, Stored, Mapped, Maps-places, Places-mapped, Edge-added, Adds-edge}
 use Rattle.multigraph.proofs.Kept.{Ends-kept, ends-kept, alike-kept, graph-kept}
-use Rattle.matching.specs.Matching.{add-diagonal}
+use Rattle.perfect_matching.specs.Matching.{add-diagonal}
 use Rattle.matching.specs.Searched.{column, lefts, rights, Diagonal-fits, Diagonal-added}
 use Rattle.matching.specs.declared.Table.{Table}
 use Rattle.matching.proofs.Columns.{column-cons, column-all, column-none}

@@ -19,12 +19,12 @@ use Rattle.multigraph.specs.Places.{size, number}
 use Rattle.multigraph.proofs.Sizes.{entries-one}
 use Rattle.multigraph.proofs.Spans.{graph-span, all-span}
 use Rattle.multigraph.proofs.Kept.{Ends-kept, graph-kept}
+use Rattle.perfect_matching.specs.Matching.{search-graph, halve, flagged-pairs, flagged-copies, rbmg-find-perfect-matching}
 use Rattle.words.specs.PowersOfTwo.{log-up}
-use Rattle.matching.specs.Matching.{search-graph, halve, flagged-pairs, flagged-copies, rbmg-find-perfect-matching}
-use Rattle.matching.specs.Perfect.{Matching-of}
+use Rattle.perfect_matching.specs.Perfect.{Matching-of}
 use Rattle.matching.specs.Searched.{lefts, rights, Can-search, Search-done, Searches-done, Can-read, Matching-read, Reads-matching, Can-find, Matching-found}
 use Rattle.matching.specs.declared.Table.{Table}
-use Rattle.matching.proofs.MatchingLaws.{matching-law}
+use Rattle.perfect_matching.proofs.MatchingLaws.{matching-law}
 use Rattle.matching.proofs.Columns.{length-column}
 use Rattle.matching.proofs.Tables.{Sides-kept, sides-kept, rows-kept, tabled-kept}
 use Rattle.matching.proofs.Reading.{can-read}

@@ -18,7 +18,7 @@ use Rattle.multigraph.proofs.Spans.{graph-span, span-same, span-snoc, apart-spa
 use Rattle.multigraph.proofs.Numbers.{numbers-once}
 use Rattle.multigraph.proofs.Kept.{Ends-kept, alike-back, alike-kept, entry-is}
 use Rattle.multigraph.proofs.Ends.{same-ends-sym, same-ends-trans}
-use Rattle.matching.specs.Matching.{add-times}
+use Rattle.perfect_matching.specs.Matching.{add-times}
 use Rattle.matching.specs.Choosing.{Can-copy, Copied}
 use Rattle.matching.specs.Searched.{Tabled, Diagonal-fits, Diagonal-added, Can-build, Graph-built, Adds-diagonal}
 use Rattle.matching.specs.declared.Table.{Table}

@@ -26,11 +26,11 @@ use Rattle.euler.specs.Split.{Halves, rbmg-split-into-two}
 use Rattle.euler.specs.Halved.{Split-of}
 use Rattle.euler.specs.Room.{Splits, Numbers-from, Halves-stored}
 use Rattle.euler.proofs.SplitLaws.{split-law}
-use Rattle.matching.specs.Matching.{fewer-flagged, halve}
+use Rattle.perfect_matching.specs.Matching.{fewer-flagged, halve}
 use Rattle.matching.specs.Choosing.{flagged-by, Chooses, Can-copy, Copied, Copies, Side-by-side}
 use Rattle.matching.specs.Searched.{Search-laid, Searching, Can-halve, Halved, Can-halve-all, Halved-all}
 use Rattle.matching.specs.declared.Table.{Table}
-use Rattle.matching.proofs.Halving.{Half-of, half-of}
+use Rattle.perfect_matching.proofs.Halving.{Half-of, half-of}
 use Rattle.matching.proofs.Narrow.{Lies-within, lies-within}
 
 -- ── what is asked ──

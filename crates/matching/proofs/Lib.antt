@@ -1,8 +1,3 @@
-pub mod Powers
-pub mod Diagonal
-pub mod Searching
-pub mod Halving
-pub mod MatchingLaws
 pub mod Counts
 pub mod CopyLaws
 pub mod Columns

@@ -13,9 +13,9 @@ use Rattle.multigraph.specs.Places.{size}
 use Rattle.multigraph.proofs.Matchings.{weigh-ends}
 use Rattle.multigraph.proofs.Parts.{pairs-le-degree, pairs-by-width, ends-add-edge}
 use Rattle.multigraph.proofs.Sizes.{one-pair}
+use Rattle.perfect_matching.specs.Matching.{add-times, add-diagonal, search-graph}
 use Rattle.words.specs.PowersOfTwo.{log-up}
-use Rattle.matching.specs.Matching.{add-times, add-diagonal, search-graph}
-use Rattle.matching.proofs.Diagonal.{diagonal, diagonal-names}
+use Rattle.perfect_matching.proofs.Diagonal.{diagonal, diagonal-names}
 
 -- ── at most one pair more at a party ──
 

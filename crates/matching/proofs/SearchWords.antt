@@ -15,15 +15,15 @@ use Rattle.multigraph.specs.Regular.{Regular}
 use Rattle.multigraph.specs.Stored.{graph-at}
 use Rattle.multigraph.specs.Places.{size, copies-of, Alike}
 use Rattle.multigraph.proofs.Sizes.{entries-few, entries-copies}
+use Rattle.perfect_matching.specs.Matching.{add-times, add-diagonal, search-graph, flagged-pairs}
 use Rattle.words.specs.PowersOfTwo.{log-up}
-use Rattle.matching.specs.Matching.{add-times, add-diagonal, search-graph, flagged-pairs}
 use Rattle.matching.specs.Choosing.{Inside-both}
 use Rattle.matching.specs.Searched.{lefts, rights, Can-build, Graph-built, Searching, Can-halve-all, Halved-all, Can-search, Search-done}
 use Rattle.matching.specs.declared.Table.{Table}
 use Rattle.matching.proofs.Columns.{length-column, column-at, column-once}
+use Rattle.perfect_matching.proofs.Powers.{Shares, shares}
 use Rattle.words.proofs.PowersOfTwo.{log-up-law, log-up-under}
-use Rattle.matching.proofs.Powers.{Shares, shares}
-use Rattle.matching.proofs.Searching.{search-law}
+use Rattle.perfect_matching.proofs.Searching.{search-law}
 use Rattle.matching.proofs.Narrow.{search-narrow}
 
 -- ── how the degree is cut ──

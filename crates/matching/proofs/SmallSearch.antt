@@ -13,7 +13,7 @@ use Rattle.multigraph.specs.Regular.{degree, Regular, Positive, Partition}
 use Rattle.multigraph.specs.Stored.{graph-at}
 use Rattle.multigraph.specs.Places.{number}
 use Rattle.matching.specs.Computing.{computing}
-use Rattle.matching.specs.Matching.{rbmg-find-perfect-matching}
+use Rattle.perfect_matching.specs.Matching.{rbmg-find-perfect-matching}
 use Rattle.matching.specs.Searched.{lefts, rights, Tabled, Can-search, Can-find}
 use Rattle.matching.specs.declared.Table.{Table}
 

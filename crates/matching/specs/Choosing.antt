@@ -10,7 +10,7 @@ use Rattle.words.specs.Words.{word}
 use Rattle.multigraph.specs.Multigraph.{Graph}
 use Rattle.multigraph.specs.Stored.{graph-at}
 use Rattle.multigraph.specs.Places.{size, number, copies-of}
-use Rattle.matching.specs.Matching.{flagged-pairs, flagged-copies}
+use Rattle.perfect_matching.specs.Matching.{flagged-pairs, flagged-copies}
 
 -- what a search counts: the first one flagged pairs, the second one their copies
 abbrev pub flagged-by : Bool → Graph → ℕ

@@ -13,8 +13,8 @@ use Rattle.multigraph.specs.Regular.{names, Apart, Regular, Positive, Partition
 use Rattle.multigraph.specs.Stored.{graph-at, matching-at}
 use Rattle.multigraph.specs.Places.{size, number, copies-of, Alike, Distinct-ends, Stored, Mappable}
 use Rattle.euler.specs.Split.{Halves, rbmg-split-into-two}
+use Rattle.perfect_matching.specs.Matching.{add-times, add-diagonal, fewer-flagged, halve, search-graph, flagged-pairs, rbmg-find-perfect-matching}
 use Rattle.words.specs.PowersOfTwo.{log-up}
-use Rattle.matching.specs.Matching.{add-times, add-diagonal, fewer-flagged, halve, search-graph, flagged-pairs, rbmg-find-perfect-matching}
 use Rattle.matching.specs.Choosing.{flagged-by}
 use Rattle.matching.specs.declared.Table.{Table}
 

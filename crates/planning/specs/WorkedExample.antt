@@ -7,7 +7,7 @@ use Rattle.appointments.specs.Appointments.{Appt, appt}
 use Rattle.bipartition.specs.TwoColor.{sides, two-color}
 use Rattle.multigraph.specs.Multigraph.{Graph, pair}
 use Rattle.euler.specs.Split.{rbmg-split-into-two}
-use Rattle.edge_color.specs.EdgeColor.{rbmg-edge-color}
+use Rattle.coloring.specs.EdgeColor.{rbmg-edge-color}
 use Rattle.regular_graph.specs.Evening.{add-appointments, padded, even-out}
 use Rattle.highest_slot.specs.Slots.{give-slots}
 use Rattle.planning.specs.Computing.{computing}

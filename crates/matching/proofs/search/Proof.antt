@@ -71,8 +71,8 @@ use mathlib.Core.Path.{sym}
 use Prim.Native.Nat.{_-_, _/_}
 use native.Mathlib.Nat.{mul-comm}
 use Rattle.multigraph.specs.Stored.{graph-at}
+use Rattle.perfect_matching.specs.Matching.{flagged-pairs}
 use Rattle.words.specs.PowersOfTwo.{log-up}
-use Rattle.matching.specs.Matching.{flagged-pairs}
 use Rattle.matching.specs.Searched.{Can-search, Builds-graph, Halved-all, Search-done}
 use Rattle.matching.proofs.Narrow.{width-small}
 use Rattle.matching.proofs.SearchWords.{cut, addresses, copy-inside, shares-fit, can-build, can-halve-all, search-done}

@@ -17,13 +17,13 @@ use Rattle.euler.specs.Split.{Halves, rbmg-split-into-two}
 use Rattle.euler.specs.Halved.{Split-of}
 use Rattle.euler.proofs.SplitLaws.{split-law}
 use Rattle.words.specs.PowersOfTwo.{log-up}
-use Rattle.matching.specs.Perfect.{Full, Perfect}
+use Rattle.perfect_matching.specs.Perfect.{Full, Perfect}
 use Rattle.words.proofs.PowersOfTwo.{log-up-law, log-up-under}
-use Rattle.edge_color.specs.EdgeColor.{Set-aside, set-aside, add-matchings, rbmg-edge-color-when-power-of-two, rbmg-edge-color}
-use Rattle.edge_color.specs.Coloring.{Coloring}
-use Rattle.edge_color.proofs.Moving.{full, weigh-add-matchings, add-matchings-law}
-use Rattle.edge_color.proofs.PowerOfTwo.{coloring-one, power-law}
-use Rattle.edge_color.proofs.SettingAside.{Aside-of, set-aside-law}
+use Rattle.coloring.specs.EdgeColor.{Set-aside, set-aside, add-matchings, rbmg-edge-color-when-power-of-two, rbmg-edge-color}
+use Rattle.coloring.specs.Coloring.{Coloring}
+use Rattle.coloring.proofs.Moving.{full, weigh-add-matchings, add-matchings-law}
+use Rattle.coloring.proofs.PowerOfTwo.{coloring-one, power-law}
+use Rattle.coloring.proofs.SettingAside.{Aside-of, set-aside-law}
 
 -- a graph of degree 0 has no pair
 no-pairs : (N : ℕ) (side : ℕ → ℕ) (g : Graph) → Full N side 0 g → g ≡ []

@@ -5,8 +5,8 @@ use mathlib.Core.Path.{_≡_, refl}
 use mathlib.Core.List.{List, [], _∷_}
 use Rattle.words.specs.Basics.{Run, ran, failed}
 use Rattle.multigraph.specs.Multigraph.{pair, Graph}
-use Rattle.edge_color.specs.EdgeColor.{rbmg-edge-color-when-power-of-two, rbmg-edge-color}
-use Rattle.edge_color.specs.Computing.{computing}
+use Rattle.coloring.specs.EdgeColor.{rbmg-edge-color-when-power-of-two, rbmg-edge-color}
+use Rattle.coloring.specs.Computing.{computing}
 
 -- a copies of 0-2 and 1-3, b copies of 0-3 and 1-2
 abbrev pub square : ℕ → ℕ → Graph

@@ -13,11 +13,11 @@ use Rattle.multigraph.specs.Multigraph.{Graph, remove-matching}
 use Rattle.multigraph.specs.Regular.{weigh, names, Partition, Symmetric}
 use Rattle.multigraph.proofs.Ends.{names-symmetric}
 use Rattle.multigraph.proofs.Matchings.{Removed, remove-matching-law}
-use Rattle.matching.specs.Matching.{rbmg-find-perfect-matching}
-use Rattle.matching.specs.Perfect.{Full, Perfect, Matching-of}
-use Rattle.matching.proofs.MatchingLaws.{perfect-weigh, perfect-single, matching-law}
-use Rattle.edge_color.specs.EdgeColor.{Set-aside, set-aside}
-use Rattle.edge_color.proofs.Moving.{full-sound, sound-full}
+use Rattle.perfect_matching.specs.Matching.{rbmg-find-perfect-matching}
+use Rattle.perfect_matching.specs.Perfect.{Full, Perfect, Matching-of}
+use Rattle.perfect_matching.proofs.MatchingLaws.{perfect-weigh, perfect-single, matching-law}
+use Rattle.coloring.specs.EdgeColor.{Set-aside, set-aside}
+use Rattle.coloring.proofs.Moving.{full-sound, sound-full}
 
 -- What is set aside, and the graph of even degree that is left: copies add up.
 pub record Aside-of (N : ℕ) (side : ℕ → ℕ) (d : ℕ) (g : Graph) (s : Set-aside) : Type 0 where

@@ -17,7 +17,7 @@ use Rattle.multigraph.specs.Regular.{weigh, Regular, Positive, Symmetric, Agree
 use Rattle.euler.specs.Split.{Halves, rbmg-split-into-two}
 use Rattle.euler.specs.Halved.{Split-of}
 use Rattle.euler.proofs.SplitLaws.{split-law}
-use Rattle.matching.specs.Matching.{flagged-copies, fewer-flagged, halve}
+use Rattle.perfect_matching.specs.Matching.{flagged-copies, fewer-flagged, halve}
 
 -- one of the two halves of a graph
 pub record Half-of (N : ℕ) (side : ℕ → ℕ) (k : ℕ) (g c : Graph) : Type 0 where

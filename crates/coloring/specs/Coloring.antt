@@ -6,7 +6,7 @@ use lib.ListN.{length}
 use Rattle.words.specs.Basics.{total, All}
 use Rattle.multigraph.specs.Multigraph.{Graph}
 use Rattle.multigraph.specs.Regular.{weigh, Symmetric}
-use Rattle.matching.specs.Perfect.{Perfect}
+use Rattle.perfect_matching.specs.Perfect.{Perfect}
 
 pub record Coloring (N : ℕ) (side : ℕ → ℕ) (d : ℕ) (g : Graph) (ms : List Graph) : Type 0 where
   pub as-many : length ms ≡ d

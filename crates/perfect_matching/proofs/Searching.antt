@@ -14,11 +14,11 @@ use Rattle.multigraph.specs.Regular.{weigh, names, degree, between, copies-betw
 use Rattle.multigraph.proofs.Ends.{names-symmetric, between-symmetric, between-ends}
 use Rattle.multigraph.proofs.Weights.{weigh-none, own-copies, no-pairs-no-copies}
 use Rattle.multigraph.proofs.Adding.{agrees-add-edge, weigh-add-edge}
+use Rattle.perfect_matching.specs.Matching.{add-times, add-diagonal, search-graph}
 use Rattle.words.specs.PowersOfTwo.{log-up}
-use Rattle.matching.specs.Matching.{add-times, add-diagonal, search-graph}
+use Rattle.perfect_matching.proofs.Powers.{Shares, shares}
 use Rattle.words.proofs.PowersOfTwo.{log-up-law}
-use Rattle.matching.proofs.Powers.{Shares, shares}
-use Rattle.matching.proofs.Diagonal.{diagonal, diagonal-names, diagonal-le, weigh-add-times, weigh-add-diagonal, Between-sides, between-add-times, between-add-diagonal}
+use Rattle.perfect_matching.proofs.Diagonal.{diagonal, diagonal-names, diagonal-le, weigh-add-times, weigh-add-diagonal, Between-sides, between-add-times, between-add-diagonal}
 
 -- 1 where the graph has no copy between the two parties, else 0
 abbrev pub lacks : Graph → ℕ → ℕ → ℕ

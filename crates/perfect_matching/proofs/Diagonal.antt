@@ -10,7 +10,7 @@ use Rattle.multigraph.specs.Multigraph.{pair, Graph, add-edge}
 use Rattle.multigraph.specs.Regular.{weigh, names, Apart, Across, Symmetric}
 use Rattle.multigraph.proofs.Weights.{weigh-none, weigh-cons}
 use Rattle.multigraph.proofs.Adding.{weigh-add-edge, across-add-edge, apart-add-edge}
-use Rattle.matching.specs.Matching.{add-times, add-diagonal}
+use Rattle.perfect_matching.specs.Matching.{add-times, add-diagonal}
 
 -- the weight of left i with right i, over all i
 unfoldable pub diagonal : (ℕ → ℕ → ℕ) → List ℕ → List ℕ → ℕ

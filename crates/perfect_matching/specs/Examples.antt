@@ -5,9 +5,9 @@ use mathlib.Core.Path.{_≡_, refl}
 use mathlib.Core.List.{List, [], _∷_, map}
 use Rattle.words.specs.Basics.{ran}
 use Rattle.multigraph.specs.Multigraph.{pair, Graph}
+use Rattle.perfect_matching.specs.Matching.{flagged-pairs, halve, search-graph, rbmg-find-perfect-matching}
 use Rattle.words.specs.PowersOfTwo.{log-up}
-use Rattle.matching.specs.Matching.{flagged-pairs, halve, search-graph, rbmg-find-perfect-matching}
-use Rattle.matching.specs.Computing.{computing}
+use Rattle.perfect_matching.specs.Computing.{computing}
 
 -- 2^e is the least power of two not below m, for m from 0 to 9: a power of two is its own.
 pub powers :

@@ -13,9 +13,9 @@ use Rattle.multigraph.specs.Stored.{matching-at, matchings-at}
 use Rattle.multigraph.proofs.Ends.{names-symmetric}
 use Rattle.multigraph.proofs.Matchings.{weigh-add-matching, Sound, add-matching-sound}
 use Rattle.multigraph.proofs.SideBySide.{add-side-by-side}
-use Rattle.matching.specs.Perfect.{Full, Perfect}
-use Rattle.matching.proofs.MatchingLaws.{perfect-weigh}
-use Rattle.edge_color.specs.EdgeColor.{add-matchings}
+use Rattle.perfect_matching.specs.Perfect.{Full, Perfect}
+use Rattle.perfect_matching.proofs.MatchingLaws.{perfect-weigh}
+use Rattle.coloring.specs.EdgeColor.{add-matchings}
 
 -- each party has as many copies in perfect matchings as there are matchings
 pub perfect-degrees :

@@ -3,7 +3,7 @@ use Prim.Native.Nat.{ℕ, _≤_}
 use mathlib.Core.Path.{_≡_}
 use Rattle.multigraph.specs.Multigraph.{Graph}
 use Rattle.multigraph.specs.Regular.{copies-between, Regular, Positive}
-use Rattle.matching.specs.Matching.{flagged-pairs}
+use Rattle.perfect_matching.specs.Matching.{flagged-pairs}
 
 -- a regular graph in which every pair has a copy
 pub record Full (N : ℕ) (side : ℕ → ℕ) (d : ℕ) (g : Graph) : Type 0 where

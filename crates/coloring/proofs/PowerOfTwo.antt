@@ -12,11 +12,11 @@ use Rattle.multigraph.specs.Multigraph.{Graph}
 use Rattle.multigraph.specs.Regular.{weigh, Symmetric}
 use Rattle.euler.specs.Split.{Halves, rbmg-split-into-two}
 use Rattle.euler.specs.Halved.{Split-of}
-use Rattle.matching.specs.Perfect.{Full, Perfect}
-use Rattle.matching.proofs.Halving.{split-power}
-use Rattle.edge_color.specs.EdgeColor.{rbmg-edge-color-when-power-of-two}
-use Rattle.edge_color.specs.Coloring.{Coloring}
-use Rattle.edge_color.proofs.Moving.{full}
+use Rattle.perfect_matching.specs.Perfect.{Full, Perfect}
+use Rattle.perfect_matching.proofs.Halving.{split-power}
+use Rattle.coloring.specs.EdgeColor.{rbmg-edge-color-when-power-of-two}
+use Rattle.coloring.specs.Coloring.{Coloring}
+use Rattle.coloring.proofs.Moving.{full}
 
 -- a graph of degree 1 is its own colouring
 pub coloring-one : (N : ℕ) (side : ℕ → ℕ) (g : Graph) → Perfect N side g → Coloring N side 1 g (g ∷ [])

@@ -17,12 +17,12 @@ use Rattle.multigraph.specs.Multigraph.{Pair, Graph}
 use Rattle.multigraph.specs.Regular.{weigh, between, copies-between, pairs-between, Regular, Positive, Partition, Agrees}
 use Rattle.multigraph.proofs.Weights.{apart-le, copies-in-weight}
 use Rattle.multigraph.proofs.Matchings.{weigh-ends, single-copies, single-weigh}
+use Rattle.perfect_matching.specs.Matching.{flagged-pairs, flagged-copies, halve, search-graph, rbmg-find-perfect-matching}
 use Rattle.words.specs.PowersOfTwo.{log-up}
-use Rattle.matching.specs.Matching.{flagged-pairs, flagged-copies, halve, search-graph, rbmg-find-perfect-matching}
-use Rattle.matching.specs.Perfect.{Perfect, Matching-of}
+use Rattle.perfect_matching.specs.Perfect.{Perfect, Matching-of}
 use Rattle.words.proofs.PowersOfTwo.{log-up-law}
-use Rattle.matching.proofs.Searching.{lacks, lacks-symmetric, Search-of, search-law}
-use Rattle.matching.proofs.Halving.{Left-of, halve-law, alon-halving}
+use Rattle.perfect_matching.proofs.Searching.{lacks, lacks-symmetric, Search-of, search-law}
+use Rattle.perfect_matching.proofs.Halving.{Left-of, halve-law, alon-halving}
 
 -- a perfect matching weighs what its pairs weigh, each once
 pub perfect-weigh :

@@ -7,8 +7,8 @@ use lib.ListN.{take, drop}
 use Rattle.words.specs.Basics.{pick, Run, ran, failed, and-then}
 use Rattle.multigraph.specs.Multigraph.{Pair, Graph, add-matching, remove-matching}
 use Rattle.euler.specs.Split.{Halves, rbmg-split-into-two}
+use Rattle.perfect_matching.specs.Matching.{rbmg-find-perfect-matching}
 use Rattle.words.specs.PowersOfTwo.{log-up}
-use Rattle.matching.specs.Matching.{rbmg-find-perfect-matching}
 
 -- `rbmg_edge_color_when_power_of_two`, for degree 2^e. Degree 1: one matching, pairs in number order. Otherwise the first half's
 -- matchings, then the second's.

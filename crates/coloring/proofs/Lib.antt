@@ -1,0 +1,4 @@
+pub mod Moving
+pub mod PowerOfTwo
+pub mod SettingAside
+pub mod ColorLaws

@@ -1,0 +1,4 @@
+pub mod EdgeColor
+pub mod Coloring
+pub mod Computing
+pub mod Examples

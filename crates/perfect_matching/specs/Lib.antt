@@ -1,0 +1,4 @@
+pub mod Matching
+pub mod Perfect
+pub mod Computing
+pub mod Examples
