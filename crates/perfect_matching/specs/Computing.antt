@@ -2,8 +2,7 @@
 -- Assumes nothing.
 use Rattle.euler.specs.Computing as Euler
 use Rattle.perfect_matching.specs.Matching.{flagged-pairs, flagged-copies, fewer-flagged, halve, add-times, add-diagonal, search-graph, rbmg-find-perfect-matching}
-use Rattle.words.specs.PowersOfTwo.{log-up}
 
 unfoldable pub computing : Unit {0}
-unfolding Euler.computing log-up flagged-pairs flagged-copies fewer-flagged halve add-times add-diagonal search-graph rbmg-find-perfect-matching
+unfolding Euler.computing flagged-pairs flagged-copies fewer-flagged halve add-times add-diagonal search-graph rbmg-find-perfect-matching
 computing = tt
