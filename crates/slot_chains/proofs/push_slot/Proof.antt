@@ -1,4 +1,5 @@
 -- `slot_chains::push_slot` meets its contract: it does what its model does. Assumes nothing.
+use Prim.Native.Nat.{_+_, _*_}
 use borrow.Author.Needs.{needs}
 use Rattle.slot_chains.proofs.StepLaws.{push-is}
 use Rattle.slot_chains.proofs.push_slot.Statement.{statement}
@@ -10,7 +11,9 @@ returns c =
     let held = linked .before .before .before .before in
     let first = held .before .before in
     let number = first .before .before in
-    push-is _ _ _ _ _ (number .pair-in .ensures) (first .first-link .ensures) (held .put .ensures) (linked .set-first-link .ensures)
+    let a = number .before .before .before .args in
+    push-is (a .out) (a .links) (a .slot) (a .n * a .slot + a .j) (a .s .now) (number .pair-in .ensures) (first .first-link .ensures)
+    (held .put .ensures) (linked .set-first-link .ensures)
 
 pub push-slot-spec : {M : Type 1} → statement M
 push-slot-spec =
