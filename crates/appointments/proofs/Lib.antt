@@ -7,6 +7,5 @@ pub mod ChecksLaws
 pub mod Causes
 pub mod Enough
 pub mod Flat
-pub mod Answering
 pub mod AnswerLaws
 pub mod LentLaws

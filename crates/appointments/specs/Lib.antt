@@ -6,6 +6,5 @@ pub mod Checks
 pub mod Answers
 pub mod Lent
 pub mod Needed
-pub mod Checked
 pub mod Computing
 pub mod Examples

@@ -8,11 +8,11 @@ use lib.Dec.{leb}
 use Rattle.words.specs.Basics.{count}
 use Rattle.appointments.specs.Appointments.{appts, largest-load}
 use Rattle.appointments.specs.Checks.{passed, bar, checks-1-to-5}
-use Rattle.appointments.specs.Checked.{checked}
+use Rattle.checking.specs.Checked.{checked}
 use Rattle.appointments.specs.Answers.{answered-of}
 use Rattle.appointments.specs.declared.Answered.{Answered}
 use Rattle.appointments.specs.declared.Answered.the-variants as answered
-use Rattle.appointments.proofs.Answering.{checked-passed, checked-figure, checked-number, refused-first}
+use Rattle.checking.proofs.Answering.{checked-passed, checked-figure, checked-number, refused-first}
 use Rattle.appointments.proofs.Flat.{load-count}
 use Rattle.appointments.proofs.Loads.{load-le-largest}
 use Rattle.appointments.proofs.ChecksLaws.{Good-list, good-goes-on, passed-good}

@@ -36,7 +36,7 @@ pub fn waiting_of(d: usize, list: &[u16], party: u16) -> usize
 pub fn waiting(p: u16, list: &[u16], party: u16) -> Answered
     ensures { λ r. ⌜ r ≡ answered-of (waiting-answer p (now (list .entry)) party) ⌝ }
 {
-    let listed = appointments::check_list(p as usize, list);
+    let listed = checking::check_list(p as usize, list);
     match listed {
         Answered::Refused(number, place) => Answered::Refused(number, place),
         Answered::Accepted(d) => {

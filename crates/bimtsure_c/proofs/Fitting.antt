@@ -10,7 +10,7 @@ use lib.ListN.{length}
 use Rattle.appointments.specs.Appointments.{Appt, appts}
 use Rattle.appointments.specs.Checks.{at, Check, first-from, has-blank, has-unlisted, bar, checks-1-to-5}
 use Rattle.appointments.specs.Needed.{needing, needs-answer}
-use Rattle.appointments.proofs.Answering.{d-small, needs-small, needs-refusal-small}
+use Rattle.checking.proofs.Answering.{d-small, needs-small, needs-refusal-small}
 use Rattle.appointments.proofs.AnswerLaws.{refused-checked}
 use Rattle.appointments.proofs.Causes.{bar-cause, bar-at-cause, never-refused}
 use Rattle.appointments.proofs.ChecksLaws.{good-goes-on}

@@ -5,7 +5,7 @@ use native.Mathlib.Omega.{arith}
 use Rattle.appointments.specs.Checks.{passed}
 use Rattle.appointments.specs.Answers.{Answer, accepted, refused}
 use Rattle.appointments.specs.Lent.{Lent}
-use Rattle.appointments.proofs.Answering.{d-small}
+use Rattle.checking.proofs.Answering.{d-small}
 use Rattle.appointments.proofs.ChecksLaws.{good-goes-on}
 use Rattle.appointments.proofs.LentLaws.{lent-passes}
 use Rattle.planning.specs.Planning.{plan-answer}

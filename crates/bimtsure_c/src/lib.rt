@@ -111,7 +111,7 @@ pub extern "C" fn bimtsure_needs(p: u16, list: &[u16]) -> BimtsureNeeds
     ensures d { λ r. ⌜ r .d ≡ d-of (needs-answer p (now (list .entry))) ⌝ }
     ensures words { λ r. ⌜ r .words ≡ words-of (needs-answer p (now (list .entry))) ⌝ }
 {
-    let needed = appointments::needs(p as usize, list);
+    let needed = checking::needs(p as usize, list);
     match needed {
         Needed::Words(d, words) => BimtsureNeeds {
             number: 0,

@@ -9,7 +9,7 @@ use lib.ListN.{length, take, drop, replicate, length-take, length-replicate, dro
 use Rattle.words.specs.Basics.{All}
 use Rattle.appointments.specs.Appointments.{Appt, appts}
 use Rattle.appointments.specs.Checks.{Check, passed}
-use Rattle.appointments.specs.Checked.{checked}
+use Rattle.checking.specs.Checked.{checked}
 use Rattle.appointments.specs.Answers.{Answer, accepted, refused}
 use Rattle.appointments.specs.Lent.{Lent, lent-appts, lent-d, lent-words, lent-checks}
 use Rattle.appointments.specs.declared.Answered.{Answered}
@@ -17,7 +17,7 @@ use Rattle.appointments.specs.declared.Answered.the-variants.{Accepted, Refused
 use Rattle.appointments.proofs.Loads.{Listed, largest-load-empty}
 use Rattle.appointments.proofs.ChecksLaws.{Passes, passes-passed, good-goes-on}
 use Rattle.appointments.proofs.LentLaws.{lent-passes, lent-goes-on}
-use Rattle.appointments.proofs.Answering.{checked-passed, checked-figure, checked-number, d-small}
+use Rattle.checking.proofs.Answering.{checked-passed, checked-figure, checked-number, d-small}
 use Rattle.bipartition.specs.TwoColor.{sides, not-bipartite, two-color}
 use Rattle.two_color.specs.Contract.{Colored}
 use Rattle.two_color.specs.declared.TwoColoring.the-variants.{Sides, NotBipartite}

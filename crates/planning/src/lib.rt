@@ -65,7 +65,7 @@ pub fn bipartite_edge_color(p: u16, list: &[u16], slots: &mut [u16], scratch: &m
     ensures demand_3 { λ r. ⌜ Demand-3 (lent p (now (list .entry)) (now (slots .entry)) (now (scratch .entry))) (answer-of r) (now (slots .exit)) ⌝ }
 {
     let parties = p as usize;
-    let checked = appointments::check_all(parties, list, slots.len(), scratch.len());
+    let checked = checking::check_all(parties, list, slots.len(), scratch.len());
     match checked {
         Answered::Refused(number, place) => Answer::Refused(number, place),
         Answered::Accepted(d) => {

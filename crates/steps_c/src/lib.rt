@@ -34,7 +34,7 @@ pub extern "C" fn bimtsure_two_color(p: u16, list: &[u16], scratch: &mut [u32]) 
     ensures { λ r. ⌜ Two-colored p (now (list .entry)) (now (scratch .entry)) (now (scratch .exit)) (r .number) (r .left) ⌝ }
 {
     let parties = p as usize;
-    let checked = appointments::check_all(parties, list, list.len(), scratch.len());
+    let checked = checking::check_all(parties, list, list.len(), scratch.len());
     let Answered::Accepted(d) = checked else {
         return refused(checked);
     };

@@ -1,4 +1,4 @@
--- `bimtsure_needs` meets its contract: its numbers are those of the answer that `appointments::needs` told. Assumes nothing.
+-- `bimtsure_needs` meets its contract: its numbers are those of the answer that `checking::needs` told. Assumes nothing.
 use mathlib.Core.Path.{_≡_, sym, _∙_}
 use native.Mathlib.Omega.{arith}
 use Rattle.appointments.specs.Answers.{accepted, refused}

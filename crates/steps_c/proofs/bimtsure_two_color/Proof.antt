@@ -5,7 +5,7 @@ use native.Mathlib.Omega.{arith}
 use lib.ListN.{length}
 use Rattle.appointments.specs.Appointments.{appts, largest-load}
 use Rattle.appointments.specs.Checks.{checks}
-use Rattle.appointments.proofs.Answering.{checked-number, checked-passed, checked-figure}
+use Rattle.checking.proofs.Answering.{checked-number, checked-passed, checked-figure}
 use Rattle.steps_c.proofs.Answering.{sides-say, not-bipartite-says, barred-says}
 use Rattle.steps_c.specs.Compared.{refusal-number}
 use Rattle.two_color.specs.Contract.{Answers}

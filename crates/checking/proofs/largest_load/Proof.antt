@@ -1,13 +1,13 @@
--- `appointments::largest_load` meets its contract: the counters hold the loads, and the largest of them is D. Assumes nothing.
+-- `checking::largest_load` meets its contract: the counters hold the loads, and the largest of them is D. Assumes nothing.
 use Prim.Native.Nat.{ℕ, _+_, _-_, _≤_}
 use mathlib.Core.Path.{_≡_, refl, sym, _∙_, ap}
 use native.Mathlib.Omega.{arith}
 use Rattle.appointments.specs.Appointments.{appts}
 use Rattle.appointments.proofs.Flat.{load-count}
-use Rattle.appointments.proofs.Answering.{zeros, largest-is}
+use Rattle.checking.proofs.Answering.{zeros, largest-is}
 use borrow.Author.Needs.{needs}
-use Rattle.appointments.proofs.largest_load.Statement.{statement}
-use Rattle.appointments.proofs.largest_load.Tie as tie
+use Rattle.checking.proofs.largest_load.Statement.{statement}
+use Rattle.checking.proofs.largest_load.Tie as tie
 
 count-loads-requires : tie.Need-count-loads-requires
 count-loads-requires c κs = (c .before .before .pre .1, zeros 1024)

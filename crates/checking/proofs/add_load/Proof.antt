@@ -1,7 +1,7 @@
--- `appointments::add_load` meets its contract: one word read and put. Assumes nothing.
+-- `checking::add_load` meets its contract: one word read and put. Assumes nothing.
 use borrow.Author.Needs.{needs}
-use Rattle.appointments.proofs.add_load.Statement.{statement}
-use Rattle.appointments.proofs.add_load.Tie as tie
+use Rattle.checking.proofs.add_load.Statement.{statement}
+use Rattle.checking.proofs.add_load.Tie as tie
 
 returns : tie.Need-returns
 returns c = cc (c .before .before .put .ensures, c .before .before .before .before .get .ensures .0)

@@ -1,4 +1,4 @@
--- `appointments::first_not_below` meets its contract: no appointment passed has such an end; the measure is what is left of
+-- `checking::first_not_below` meets its contract: no appointment passed has such an end; the measure is what is left of
 -- them. Assumes nothing.
 use Prim.Native.Nat.{ℕ, _+_, _*_, _-_, _≤_, _<_}
 use mathlib.Core.Path.{_≡_, refl, sym, _∙_, ap}
@@ -6,13 +6,13 @@ use mathlib.Core.List.{[]}
 use native.Mathlib.Omega.{arith}
 use lib.ListN.{length, drop}
 use Rattle.words.specs.Words.{word}
 use Rattle.appointments.specs.Appointments.{appts}
 use Rattle.appointments.specs.Checks.{first-from, has-unlisted}
-use Rattle.appointments.specs.Checked.{found}
+use Rattle.checking.specs.Checked.{found}
 use Rattle.appointments.proofs.Flat.{appts-count, rest-none, search-first, search-second, search-on}
 use borrow.Author.Needs.{needs}
-use Rattle.appointments.proofs.first_not_below.Statement.{statement}
-use Rattle.appointments.proofs.first_not_below.Tie as tie
+use Rattle.checking.proofs.first_not_below.Statement.{statement}
+use Rattle.checking.proofs.first_not_below.Tie as tie
 
 abbrev Inv-loop : tie.InvT-loop
 Inv-loop list bound a i₀ i =

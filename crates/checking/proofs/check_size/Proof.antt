@@ -1,13 +1,13 @@
--- `appointments::check_size` meets its contract: check 6 after the list's own, each refusal by the tests that led to it.
+-- `checking::check_size` meets its contract: check 6 after the list's own, each refusal by the tests that led to it.
 -- Assumes nothing.
 use mathlib.Core.Path.{sym, _∙_, ap}
 use native.Mathlib.Omega.{arith}
 use Rattle.appointments.specs.Checks.{passed, checks-1-to-5}
 use Rattle.appointments.specs.declared.Answered.the-variants.{Accepted}
-use Rattle.appointments.proofs.Answering.{checked-number, still-refused, refuses-6, passes-6, listed}
+use Rattle.checking.proofs.Answering.{checked-number, still-refused, refuses-6, passes-6, listed}
 use borrow.Author.Needs.{needs}
-use Rattle.appointments.proofs.check_size.Statement.{statement}
-use Rattle.appointments.proofs.check_size.Tie as tie
+use Rattle.checking.proofs.check_size.Statement.{statement}
+use Rattle.checking.proofs.check_size.Tie as tie
 
 returns : tie.Need-returns
 returns c =

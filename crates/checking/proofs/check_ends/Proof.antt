@@ -1,13 +1,13 @@
--- `appointments::check_ends` meets its contract: a 16-bit number is blank exactly if it is not below 65,535. Assumes nothing.
+-- `checking::check_ends` meets its contract: a 16-bit number is blank exactly if it is not below 65,535. Assumes nothing.
 use Prim.Native.Nat.{ℕ, _+_, _-_, _≤_}
 use mathlib.Core.Path.{_≡_, refl, sym, _∙_, ap}
 use native.Mathlib.Omega.{arith}
 use Rattle.appointments.specs.Appointments.{appts}
 use Rattle.appointments.specs.Checks.{first-from, has-unlisted}
-use Rattle.appointments.proofs.Answering.{blank-first, found-at, found-nowhere}
+use Rattle.checking.proofs.Answering.{blank-first, found-at, found-nowhere}
 use borrow.Author.Needs.{needs}
-use Rattle.appointments.proofs.check_ends.Statement.{statement}
-use Rattle.appointments.proofs.check_ends.Tie as tie
+use Rattle.checking.proofs.check_ends.Statement.{statement}
+use Rattle.checking.proofs.check_ends.Tie as tie
 
 returns : tie.Need-returns
 returns c =

@@ -1,15 +1,15 @@
--- `appointments::largest` meets its contract: the number so far is the largest of the counters passed; the measure is what is
+-- `checking::largest` meets its contract: the number so far is the largest of the counters passed; the measure is what is
 -- left of them. Assumes nothing.
 use Prim.Native.Nat.{ℕ, _+_, _-_, _≤_}
 use mathlib.Core.Path.{_≡_, refl, _∙_, ap}
 use mathlib.Core.Logic.{⊎-elim}
 use native.Mathlib.Omega.{arith}
 use Rattle.words.specs.Words.{word}
-use Rattle.appointments.specs.Checked.{largest-word}
-use Rattle.appointments.proofs.Answering.{largest-more}
+use Rattle.checking.specs.Checked.{largest-word}
+use Rattle.checking.proofs.Answering.{largest-more}
 use borrow.Author.Needs.{needs}
-use Rattle.appointments.proofs.largest.Statement.{statement}
-use Rattle.appointments.proofs.largest.Tie as tie
+use Rattle.checking.proofs.largest.Statement.{statement}
+use Rattle.checking.proofs.largest.Tie as tie
 
 abbrev Inv-loop : tie.InvT-loop
 Inv-loop loads p d₀ v₀ d v = (v ≤ p) × (d ≡ largest-word v loads)

@@ -1,13 +1,13 @@
--- `appointments::check_all` meets its contract: checks 7 and 8 after the first six, each refusal by the tests that led to it.
+-- `checking::check_all` meets its contract: checks 7 and 8 after the first six, each refusal by the tests that led to it.
 -- Assumes nothing.
 use mathlib.Core.Path.{sym, _∙_, ap}
 use native.Mathlib.Omega.{arith}
 use Rattle.appointments.specs.Checks.{passed, checks-1-to-6}
 use Rattle.appointments.specs.declared.Answered.the-variants.{Accepted}
-use Rattle.appointments.proofs.Answering.{checked-number, all-refused, refuses-7, refuses-8, passes-all, sized}
+use Rattle.checking.proofs.Answering.{checked-number, all-refused, refuses-7, refuses-8, passes-all, sized}
 use borrow.Author.Needs.{needs}
-use Rattle.appointments.proofs.check_all.Statement.{statement}
-use Rattle.appointments.proofs.check_all.Tie as tie
+use Rattle.checking.proofs.check_all.Statement.{statement}
+use Rattle.checking.proofs.check_all.Tie as tie
 
 returns : tie.Need-returns
 returns c =

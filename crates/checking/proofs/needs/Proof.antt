@@ -1,10 +1,10 @@
--- `appointments::needs` meets its contract: a refusal is that of checks 1 to 6, and W is computed from D. Assumes nothing.
+-- `checking::needs` meets its contract: a refusal is that of checks 1 to 6, and W is computed from D. Assumes nothing.
 use mathlib.Core.Path.{sym, _∙_}
 use Rattle.appointments.specs.Checks.{passed, checks-1-to-6}
-use Rattle.appointments.proofs.Answering.{checked-number, needs-refused, needs-words, sized}
+use Rattle.checking.proofs.Answering.{checked-number, needs-refused, needs-words, sized}
 use borrow.Author.Needs.{needs}
-use Rattle.appointments.proofs.needs.Statement.{statement}
-use Rattle.appointments.proofs.needs.Tie as tie
+use Rattle.checking.proofs.needs.Statement.{statement}
+use Rattle.checking.proofs.needs.Tie as tie
 
 scratch-words-requires : tie.Need-scratch-words-requires
 scratch-words-requires c κs =

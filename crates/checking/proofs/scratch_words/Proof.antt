@@ -1,8 +1,8 @@
--- `appointments::scratch_words` meets its contract: no product on the way is above W. Assumes nothing.
+-- `checking::scratch_words` meets its contract: no product on the way is above W. Assumes nothing.
 use mathlib.Core.Path.{refl}
 use borrow.Author.Needs.{needs}
-use Rattle.appointments.proofs.scratch_words.Statement.{statement}
-use Rattle.appointments.proofs.scratch_words.Tie as tie
+use Rattle.checking.proofs.scratch_words.Statement.{statement}
+use Rattle.checking.proofs.scratch_words.Tie as tie
 
 returns : tie.Need-returns
 returns c = refl

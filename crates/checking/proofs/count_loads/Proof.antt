@@ -1,4 +1,4 @@
--- `appointments::count_loads` meets its contract: the counters hold how often the part of the list that was passed names each
+-- `checking::count_loads` meets its contract: the counters hold how often the part of the list that was passed names each
 -- party; the measure is what is left of it. Assumes nothing.
 use Prim.Native.Nat.{ℕ, _+_, _-_, _≤_, _<_}
 use mathlib.Core.Path.{_≡_, refl, _∙_, ap}
@@ -8,10 +8,10 @@ use lib.Seq.{take-all}
 use Rattle.words.specs.Basics.{count}
 use Rattle.words.specs.Words.{word, put-word}
 use Rattle.words.proofs.Frames.{length-put}
 use Rattle.appointments.proofs.Flat.{Counted, counted-more}
 use borrow.Author.Needs.{needs}
-use Rattle.appointments.proofs.count_loads.Statement.{statement}
-use Rattle.appointments.proofs.count_loads.Tie as tie
+use Rattle.checking.proofs.count_loads.Statement.{statement}
+use Rattle.checking.proofs.count_loads.Tie as tie
 
 abbrev Inv-loop : tie.InvT-loop
 Inv-loop list loads₀ i₀ loads i =

@@ -1,16 +1,16 @@
--- `appointments::check_list` meets its contract: checks 1 to 3, then those of the ends, each refusal by the tests that led to
+-- `checking::check_list` meets its contract: checks 1 to 3, then those of the ends, each refusal by the tests that led to
 -- it. Assumes nothing.
 use Prim.Native.Nat.{ℕ, _+_, _-_, _≤_}
 use mathlib.Core.Path.{_≡_, refl, sym, _∙_, ap}
 use native.Mathlib.Omega.{arith}
 use Rattle.appointments.specs.Appointments.{appts, largest-load}
 use Rattle.appointments.specs.Checks.{passed, checks-1-to-5, check-ends}
-use Rattle.appointments.specs.Checked.{checked}
+use Rattle.checking.specs.Checked.{checked}
 use Rattle.appointments.specs.declared.Answered.the-variants.{Accepted}
-use Rattle.appointments.proofs.Answering.{refuses-1, refuses-2, refuses-3, goes-on, checked-refused, checked-passed}
+use Rattle.checking.proofs.Answering.{refuses-1, refuses-2, refuses-3, goes-on, checked-refused, checked-passed}
 use borrow.Author.Needs.{needs}
-use Rattle.appointments.proofs.check_list.Statement.{statement}
-use Rattle.appointments.proofs.check_list.Tie as tie
+use Rattle.checking.proofs.check_list.Statement.{statement}
+use Rattle.checking.proofs.check_list.Tie as tie
 
 returns : tie.Need-returns
 returns c =

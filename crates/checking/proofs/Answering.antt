@@ -14,23 +14,23 @@ use lib.ListN.{length, replicate}
 use Rattle.words.specs.Basics.{count}
 use Rattle.words.specs.Words.{word}
 use Rattle.words.proofs.Sums.{count-le}
 use Rattle.appointments.specs.Appointments.{Appt, appt, appts, load, largest-load, scratch-words}
 use Rattle.appointments.specs.Checks.{First, at, nowhere, first-from, has-blank, has-unlisted, Check, passed, refused, bar, bar-at, check-slots, checks-1-to-5, checks-1-to-6, checks-1-to-8, checks, check-ends}
 use Rattle.appointments.specs.Answers.{accepted}
 use Rattle.appointments.specs.Answers as answers
 use Rattle.appointments.specs.Needed.{needing, needs-answer, needed-of, scratch-enough}
-use Rattle.appointments.specs.Checked.{found, checked, largest-word, Words-fit}
-use Rattle.appointments.specs.declared.Found.{Found}
-use Rattle.appointments.specs.declared.Found.the-variants.{At, Nowhere}
+use Rattle.checking.specs.Checked.{found, checked, largest-word, Words-fit}
+use Rattle.checking.specs.declared.Found.{Found}
+use Rattle.checking.specs.declared.Found.the-variants.{At, Nowhere}
 use Rattle.appointments.specs.declared.Answered.{Answered}
 use Rattle.appointments.specs.declared.Answered.the-variants.{Accepted, Refused}
 use Rattle.appointments.specs.declared.Needed.the-variants as needs
 use Rattle.appointments.proofs.Loads.{largest-load-le, appts-length}
 use Rattle.appointments.proofs.ChecksLaws.{good-goes-on, sized-goes-on, passed-good, passed-sized}
 use Rattle.appointments.proofs.Causes.{never-refused, refused-cause, cause-number}
 use Rattle.appointments.proofs.Enough.{words-enough, enough, needed-words}
 use Rattle.appointments.proofs.AnswerLaws.{refused-checked}
 use Rattle.appointments.proofs.Flat.{appts-count, load-count}
 
 pub zeros : (n v : ℕ) → word (replicate n 0) v ≡ 0
 zeros zero zero = refl

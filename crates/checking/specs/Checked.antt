@@ -2,13 +2,13 @@
 use Prim.Native.Nat.{ℕ, zero, suc, max, _≤_}
 use mathlib.Core.List.{List}
 use Rattle.words.specs.Words.{word}
 use Rattle.appointments.specs.Appointments.{scratch-words}
 use Rattle.appointments.specs.Checks.{First, at, nowhere, Check}
 use Rattle.appointments.specs.Answers.{answer, answered-of}
 use Rattle.appointments.specs.Needed.{scratch-enough}
-use Rattle.appointments.specs.declared.Found.{Found}
-use Rattle.appointments.specs.declared.Found.the-variants.{At, Nowhere}
+use Rattle.checking.specs.declared.Found.{Found}
+use Rattle.checking.specs.declared.Found.the-variants.{At, Nowhere}
 use Rattle.appointments.specs.declared.Answered.{Answered}
 
 -- a first position as the code answers it
 abbrev pub found : First → Found
