@@ -1,7 +1,7 @@
 // `bipartite_edge_color_given_partition`: from a list on two sides, as `two_color` wrote them, by the evened graph and its matchings
 // to a slot for each appointment.
 //
-// Scratch is counted in units of q = P·(D + 1) words, of which W has 128; specs/Steps.antt says where things lie.
+// Scratch is counted in units of q = P·(D + 1) words, of which W has 128.
 //
 // Ported from rustworkx-core, `bipartite_edge_color_given_partition` in bipartite_coloring.rs (Apache License 2.0, see NOTICE).
 ghost use mathlib.Core.Path.{_≡_};
@@ -14,13 +14,19 @@ use list_pairs::Bases;
 use mark::Mark;
 use matching::Table;
 
-// Where things lie, in units of q words.
-const ENDS: usize = 3; // the ends of the pairs
-const PLACES: usize = 7; // the map of places
-const APAIR: usize = 9; // each appointment's pair
-const OUT: usize = 10; // the matchings
+// Where things lie, in units of q words (specs/Steps.antt): the ends of the pairs, the map of places, each appointment's pair, the
+// matchings, the graph, and above all this the first mark.
+const ENDS: usize = 3;
+
+const PLACES: usize = 7;
+
+const APAIR: usize = 9;
+
+const OUT: usize = 10;
+
 const GRAPH: usize = 11;
-const FIRST_MARK: usize = 15; // above all this
+
+const FIRST_MARK: usize = 15;
 
 // The list's pairs on two equally long sides, evened out, with the numbers of the pairs on the diagonal. Gives how many parties
 // each side has. The mark is made above all that lies at a fixed place, and each step gives back what it takes.
@@ -74,14 +80,16 @@ pub fn bipartite_edge_color_given_partition(
     ensures { λ r. ⌜ Slots-planned p left (now (list .entry)) (now (slots .entry)) (now (slots .exit)) (now (s .entry)) (now (s .exit)) ⌝ }
 {
     let q = p * (d + 1);
+    let g = GRAPH * q;
+    let out = OUT * q;
     let n = prepare(s, list, p, d, q, left);
-    let pairs = words::get(s, GRAPH * q + 1);
+    let pairs = words::get(s, g + 1);
     let t = Table {
         ends: ENDS * q,
         places: PLACES * q,
         diag: 2 * p,
         pairs,
     };
-    color(s, FIRST_MARK * q, t, GRAPH * q, n, d, OUT * q);
-    slots::give_slots(s, slots, list.len() / 2, n, d, OUT * q, APAIR * q, GRAPH * q);
+    color(s, FIRST_MARK * q, t, g, n, d, out);
+    slots::give_slots(s, slots, list.len() / 2, n, d, out, APAIR * q, g);
 }

@@ -39,13 +39,7 @@ fn work_out(s: &mut [u32], slots: &mut [u16], list: &[u16], p: usize, d: usize) 
 }
 
 // The same, and all of scratch is cleared.
-fn work_out_cleanly(
-    s: &mut [u32],
-    slots: &mut [u16],
-    list: &[u16],
-    p: usize,
-    d: usize,
-) -> Answer
+fn work_out_cleanly(s: &mut [u32], slots: &mut [u16], list: &[u16], p: usize, d: usize) -> Answer
     requires { ⌜ Ready p d (p * (d + 1)) (now list) (now s) ⌝ }
     requires { ⌜ length (appts (now list)) ≤ length (now slots) ⌝ }
     ensures { λ r. ⌜ Worked-out p d (now (list .entry)) (now (slots .entry)) (now (slots .exit)) (answer-of r) (now (s .entry)) (now (s .exit)) ⌝ }

@@ -32,19 +32,16 @@ bipartite-edge-color-given-partition-spec =
     (tie.spec
     add-q
     (λ c. search needs)
-    (λ c κs. search needs)
     (λ c. search needs)
     (λ c. search needs)
     (λ c κs. search needs)
     (λ c. search needs)
-    (λ c. search needs)
+    (λ c κs. search needs)
     (λ c. search needs)
     (λ c. search needs)
     (λ c. search needs)
     (λ c. search needs)
     color-requires
-    (λ c. search needs)
-    (λ c. search needs)
     (λ c. search needs)
     give-slots-requires
     (λ c. search needs)
