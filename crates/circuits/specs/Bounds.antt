@@ -4,7 +4,7 @@ use Prim.Native.Nat.{ℕ, zero, suc, _+_, _*_, _-_, _/_, _<_, _≤_}
 use mathlib.Core.Path.{_≡_}
 use mathlib.Core.List.{List}
 use lib.ListN.{length}
-use Rattle.words.specs.Words.{word}
+use Rattle.words.specs.Words.{word, word-limit}
 use Rattle.circuits.specs.declared.Two.{Two}
 use Rattle.circuits.specs.declared.Sifted.{Sifted}
 use Rattle.circuits.specs.Model.{Told, pushOneM, halfEdgeM, twoNoteM, twoStartM, twoSiftAllM, twoFillM, twoFilledM, otherM, twoStepM, twoPairM, twoWalkM}
@@ -58,7 +58,7 @@ pub record Two-froms (l : Two) (m : ℕ) (t : Told) (v : ℕ) : Type 0 where
 -- the circuits from all parties can
 pub record Two-walks (l : Two) (m parties : ℕ) (t : Told) : Type 0 where
   pub froms : (v : ℕ) → v < parties → Two-froms l m (twoWalkM l m v t) v
-  pub few : (v : ℕ) → v < parties → twoWalkM l m v t .number + m < 4294967296
+  pub few : (v : ℕ) → v < parties → twoWalkM l m v t .number + m < word-limit
 
 -- all of it can
 pub record Two-splits (l : Two) (m parties : ℕ) (s : List ℕ) : Type 0 where

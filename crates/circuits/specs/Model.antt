@@ -4,19 +4,19 @@ use Prim.Native.Nat.{ℕ, zero, suc, _+_, _*_, _-_, _/_, _%_, _<_}
 use mathlib.Core.List.{List}
 use lib.Dec.{eqb, ltb}
 use Rattle.words.specs.Basics.{pick}
-use Rattle.words.specs.Words.{word, put-word}
+use Rattle.words.specs.Words.{word, put-word, word-limit}
 use Rattle.circuits.specs.declared.Two.{Two}
 use Rattle.circuits.specs.declared.Sifted.{Sifted}
 use Rattle.euler.specs.Entries.{pushM, manyM, headM}
 
 -- bases that leave room for sums of them
 pub record Lies (l : Two) : Type 0 where
-  pub graph : l .g < 4294967296
-  pub table : l .ends < 4294967296
-  pub first : l .first < 4294967296
-  pub second : l .second < 4294967296
-  pub parties : l .b < 4294967296
-  pub notes : l .notes < 4294967296
+  pub graph : l .g < word-limit
+  pub table : l .ends < word-limit
+  pub first : l .first < word-limit
+  pub second : l .second < word-limit
+  pub parties : l .b < word-limit
+  pub notes : l .notes < word-limit
 
 -- the words, and a number
 pub record Told : Type 0 where
@@ -87,7 +87,7 @@ twoStepM l h s at y =
     let z = l .b + 2 * word t (l .ends + otherM y) in
     record {
       words = put-word t z 0;
-      number = (word t (z + 1) + 4294967296 - otherM y) % 4294967296;
+      number = (word t (z + 1) + word-limit - otherM y) % word-limit;
     }
 
 -- two steps, one for each half

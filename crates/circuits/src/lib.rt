@@ -8,6 +8,7 @@
 ghost use mathlib.Core.Path.{_≡_};
 ghost use Prim.Native.Nat.{ℕ, _+_, _*_, _-_, _/_, _<_, _≤_};
 ghost use lib.ListN.{length};
+ghost use Rattle.words.specs.Words.{«word-limit»};
 ghost use Rattle.circuits.specs.Model.{Lies, twoStartM, twoSiftM, twoSiftAllM, twoNoteM, twoFillM};
 ghost use Rattle.circuits.specs.Model.{twoStepM, twoCircuitM, twoFromM, twoWalkM, splitTwoM, fewSumM};
 ghost use Rattle.circuits.specs.Bounds.{«Two-sifts», «Two-sifts-all», «Two-notes», «Two-fills», «Two-steps», «Two-circuits»};
@@ -42,7 +43,7 @@ pub struct Sifted {
 
 // No party has a half-edge yet.
 fn two_start(s: &mut [u32], l: Two, parties: usize)
-    requires { ⌜ Lies l × (parties < 4294967296) × (l .b + 2 * parties ≤ length (now s)) ⌝ }
+    requires { ⌜ Lies l × (parties < word-limit) × (l .b + 2 * parties ≤ length (now s)) ⌝ }
     ensures { λ r. ⌜ now (s .exit) ≡ twoStartM l parties (now (s .entry)) ⌝ }
 {
     let mut v = 0;
@@ -56,7 +57,7 @@ fn two_start(s: &mut [u32], l: Two, parties: usize)
 // Entry i: of 2 copies each half gets one, and of one copy the pair is noted. Both are written in any case; what doesn't count is
 // written over by the next.
 fn two_sift(s: &mut [u32], l: Two, i: usize, n: Sifted) -> Sifted
-    requires { ⌜ Lies l × (i < 4294967296) × (n .even ≤ i) × (n .odd ≤ i) × Two-sifts l (now s) n i ⌝ }
+    requires { ⌜ Lies l × (i < word-limit) × (n .even ≤ i) × (n .odd ≤ i) × Two-sifts l (now s) n i ⌝ }
     ensures { λ r. ⌜ record { words = now (s .exit); sifted = r } ≡ twoSiftM l (record { words = now (s .entry); sifted = n }) i ⌝ }
 {
     let e = word_at(s, l.g + 2 + 2 * i);
@@ -73,7 +74,7 @@ fn two_sift(s: &mut [u32], l: Two, i: usize, n: Sifted) -> Sifted
 
 // All m entries, in order.
 fn two_sift_all(s: &mut [u32], l: Two, m: usize) -> Sifted
-    requires { ⌜ Lies l × (m < 4294967296) × Two-sifts-all l m (now s) ⌝ }
+    requires { ⌜ Lies l × (m < word-limit) × Two-sifts-all l m (now s) ⌝ }
     ensures { λ r. ⌜ (record { words = now (s .exit); sifted = r } ≡ twoSiftAllM l m (now (s .entry))) × (r .even ≤ m) × (r .odd ≤ m) ⌝ }
 {
     let mut n = Sifted { even: 0, odd: 0 };
@@ -87,7 +88,7 @@ fn two_sift_all(s: &mut [u32], l: Two, m: usize) -> Sifted
 
 // The half-edge, on one side, of the pair noted at the place j becomes its party's last.
 fn two_note(s: &mut [u32], l: Two, side: usize, j: usize)
-    requires { ⌜ Lies l × (side < 2) × (j < 4294967296) × Two-notes l side (now s) j ⌝ }
+    requires { ⌜ Lies l × (side < 2) × (j < word-limit) × Two-notes l side (now s) j ⌝ }
     ensures { λ r. ⌜ now (s .exit) ≡ twoNoteM l side (now (s .entry)) j ⌝ }
 {
     let e = word_at(s, l.notes + j);
@@ -101,7 +102,7 @@ fn two_note(s: &mut [u32], l: Two, side: usize, j: usize)
 
 // From the newest of the noted pairs down.
 fn two_fill(s: &mut [u32], l: Two, side: usize, odd: usize)
-    requires { ⌜ Lies l × (side < 2) × (odd < 4294967296) × Two-fills l side odd (now s) ⌝ }
+    requires { ⌜ Lies l × (side < 2) × (odd < word-limit) × Two-fills l side odd (now s) ⌝ }
     ensures { λ r. ⌜ now (s .exit) ≡ twoFillM l side odd (now (s .entry)) ⌝ }
 {
     let mut k = odd;
@@ -113,8 +114,8 @@ fn two_fill(s: &mut [u32], l: Two, side: usize, odd: usize)
 
 // The pair of the half-edge y goes to the half h. The party to which y leads is visited, and its other half-edge is next.
 fn two_step(s: &mut [u32], l: Two, h: usize, at: usize, y: usize) -> usize
-    requires { ⌜ Lies l × (h < 4294967296) × (at < 4294967296) × (y < 4294967296) × Two-steps l h (now s) at y ⌝ }
-    ensures { λ r. ⌜ (record { words = now (s .exit); number = r } ≡ twoStepM l h (now (s .entry)) at y) × (r < 4294967296) ⌝ }
+    requires { ⌜ Lies l × (h < word-limit) × (at < word-limit) × (y < word-limit) × Two-steps l h (now s) at y ⌝ }
+    ensures { λ r. ⌜ (record { words = now (s .exit); number = r } ≡ twoStepM l h (now (s .entry)) at y) × (r < word-limit) ⌝ }
 {
     push(s, h, at, y / 2, 1);
     let other = y + 1 - 2 * (y % 2);
@@ -127,7 +128,7 @@ fn two_step(s: &mut [u32], l: Two, h: usize, at: usize, y: usize) -> usize
 
 // The circuit that begins with the half-edge y0: its pairs go to the first half and the second in turn.
 fn two_circuit(s: &mut [u32], l: Two, at: usize, y0: usize, bound: usize) -> usize
-    requires { ⌜ Lies l × (at + bound < 4294967296) × (y0 < 4294967296) × Two-circuits l y0 bound (now s) at y0 ⌝ }
+    requires { ⌜ Lies l × (at + bound < word-limit) × (y0 < word-limit) × Two-circuits l y0 bound (now s) at y0 ⌝ }
     ensures { λ r. ⌜ record { words = now (s .exit); number = r } ≡ twoCircuitM l y0 bound (now (s .entry)) at y0 ⌝ }
 {
     let mut n = at;
@@ -147,7 +148,7 @@ fn two_circuit(s: &mut [u32], l: Two, at: usize, y0: usize, bound: usize) -> usi
 
 // The circuit from the party w, unless it has no pairs or was visited.
 fn two_from(s: &mut [u32], l: Two, m: usize, at: usize, w: NodeIndex) -> usize
-    requires { ⌜ Lies l × (at + m < 4294967296) × Two-froms l m (record { words = now s; number = at }) (w .0) ⌝ }
+    requires { ⌜ Lies l × (at + m < word-limit) × Two-froms l m (record { words = now s; number = at }) (w .0) ⌝ }
     ensures { λ r. ⌜ record { words = now (s .exit); number = r } ≡ twoFromM l m (record { words = now (s .entry); number = at }) (w .0) ⌝ }
 {
     let v = w.0 as usize;
@@ -160,7 +161,7 @@ fn two_from(s: &mut [u32], l: Two, m: usize, at: usize, w: NodeIndex) -> usize
 
 // The circuits from all parties, in number order.
 fn two_walk(s: &mut [u32], l: Two, m: usize, even: usize, parties: usize) -> usize
-    requires { ⌜ Lies l × (parties < 4294967296) × Two-walks l m parties (record { words = now s; number = even }) ⌝ }
+    requires { ⌜ Lies l × (parties < word-limit) × Two-walks l m parties (record { words = now s; number = even }) ⌝ }
     ensures { λ r. ⌜ record { words = now (s .exit); number = r } ≡ twoWalkM l m parties (record { words = now (s .entry); number = even }) ⌝ }
 {
     let mut n = even;
@@ -174,7 +175,7 @@ fn two_walk(s: &mut [u32], l: Two, m: usize, even: usize, parties: usize) -> usi
 
 // Both halves of a graph of degree 2.
 pub fn split_two(s: &mut [u32], l: Two, m: usize, parties: usize)
-    requires { ⌜ Lies l × (m < 4294967296) × (parties < 4294967296) × Two-splits l m parties (now s) ⌝ }
+    requires { ⌜ Lies l × (m < word-limit) × (parties < word-limit) × Two-splits l m parties (now s) ⌝ }
     ensures { λ r. ⌜ now (s .exit) ≡ splitTwoM l m parties (now (s .entry)) ⌝ }
 {
     two_start(s, l, parties);
@@ -188,7 +189,7 @@ pub fn split_two(s: &mut [u32], l: Two, m: usize, parties: usize)
 
 // The copies of all m entries of the graph at g, or 0 if there are more entries than parties.
 pub fn copies_sum(s: &[u32], g: usize, m: usize, parties: usize) -> usize
-    requires { ⌜ (g < 4294967296) × (parties < 4294967296) × (g + 3 + 2 * m ≤ length (now s)) ⌝ }
+    requires { ⌜ (g < word-limit) × (parties < word-limit) × (g + 3 + 2 * m ≤ length (now s)) ⌝ }
     ensures { λ r. ⌜ r ≡ fewSumM g m parties (now (s .entry)) ⌝ }
 {
     if parties < m {

@@ -5,7 +5,7 @@ use mathlib.Core.Path.{_≡_}
 use mathlib.Core.List.{List}
 use mathlib.Core.Logic.{_⊎_}
 use lib.ListN.{length}
-use Rattle.words.specs.Words.{word, region}
+use Rattle.words.specs.Words.{word, region, word-limit}
 use Rattle.words.specs.Frames.{Changes-three}
 use Rattle.multigraph.specs.Regular.{Partition}
 use Rattle.multigraph.specs.Places.{size, Has-ends}
@@ -19,9 +19,9 @@ pub record Can-diagonal (n left right ends g diag u : ℕ) (s : List ℕ) : Type
   pub after-right : right + n ≤ diag
   pub after-diag : diag + n ≤ ends
   pub after-ends : ends + 2 * (size s g + n) ≤ u
-  pub graph-small : g < 4294967296
+  pub graph-small : g < word-limit
   pub room : u + (n + n) ≤ length s
-  pub low : u + (n + n) < 4294967296
+  pub low : u + (n + n) < word-limit
 
 -- The pair of left i and right i has a number: that of a pair of the table with these ends, either way round, if there is one,
 -- else the one i rows after the last pair's; a row with these ends stands there.

@@ -5,7 +5,7 @@ use mathlib.Core.List.{List}
 use mathlib.Core.Logic.{_⊎_}
 use lib.ListN.{length}
 use Rattle.words.specs.Frames.{Changes-three}
-use Rattle.words.specs.Words.{word, put-word}
+use Rattle.words.specs.Words.{word, put-word, word-limit}
 use Rattle.multigraph.specs.Places.{number, Has-ends}
 use Rattle.list_pairs.specs.Rows.{row}
 use Rattle.list_pairs.specs.declared.Bases.{Bases}
@@ -33,15 +33,15 @@ pub record Diag-room (n : ℕ) (at : Bases) (diag b m : ℕ) (s : List ℕ) : Ty
   pub after-diag : diag + n ≤ at .ends
   pub after-ends : at .ends + 2 * (m + n) ≤ b
   pub room : b + (n + n) ≤ length s
-  pub low : b + (n + n) < 4294967296
+  pub low : b + (n + n) < word-limit
 
 -- all these places are small numbers
 pub record Diag-small (at : Bases) (diag b : ℕ) : Type 0 where
-  pub left : at .left < 4294967296
-  pub right : at .right < 4294967296
-  pub ends : at .ends < 4294967296
-  pub numbers : diag < 4294967296
-  pub places : b < 4294967296
+  pub left : at .left < word-limit
+  pub right : at .right < word-limit
+  pub ends : at .ends < word-limit
+  pub numbers : diag < word-limit
+  pub places : b < word-limit
 
 -- all 2·n parties are different numbers below n + n
 pub record Diag-fit (n : ℕ) (at : Bases) (diag b m : ℕ) (s : List ℕ) : Type 0 where

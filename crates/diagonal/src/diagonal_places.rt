@@ -3,7 +3,7 @@
 // the numbers from m on are free: the row m + i of the table of ends is place i's own.
 ghost use mathlib.Core.Path.{_≡_};
 ghost use Prim.Native.Nat.{_+_, _<_};
-ghost use Rattle.words.specs.Words.{word};
+ghost use Rattle.words.specs.Words.{word, «word-limit»};
 ghost use Rattle.diagonal.specs.Contract.{«Can-diagonal», «Diagonal-set»};
 ghost use Rattle.diagonal.specs.DiagonalPlaces.{begun, Begins, «Diag-small», «Diag-fit», Begun, Looks, «Looked-at», «Diag-ready», Looked};
 use list_pairs::Bases;
@@ -14,7 +14,7 @@ use words::word_at;
 
 // Place `i` begins: both parties learn it, its number is `m + i` for now, and the row of that number has its ends.
 fn begin_place(s: &mut [u32], at: Bases, diag: usize, b: usize, m: usize, i: usize)
-    requires { ⌜ Diag-small at diag b × (m < 4294967296) × (i < 4294967296) ⌝ }
+    requires { ⌜ Diag-small at diag b × (m < word-limit) × (i < word-limit) ⌝ }
     requires { ⌜ Begins at diag b m i (now s) ⌝ }
     ensures { λ x. ⌜ now (s .exit) ≡ begun (at .ends) diag b m i (word (now (s .entry)) (at .left + i)) (word (now (s .entry)) (at .right + i)) (now (s .entry)) ⌝ }
 {
@@ -42,7 +42,7 @@ fn begin_places(s: &mut [u32], at: Bases, diag: usize, b: usize, m: usize, n: us
 // Pair `e` gives its number to a place whose two parties are its ends. The place is read with a test: that an end of a pair is
 // below n + n isn't asked for.
 fn look_at(s: &mut [u32], at: Bases, diag: usize, b: usize, n: usize, e: usize)
-    requires { ⌜ Diag-small at diag b × (e < 4294967296) ⌝ }
+    requires { ⌜ Diag-small at diag b × (e < word-limit) ⌝ }
     requires { ⌜ Looks n at diag e (now s) ⌝ }
     ensures { λ x. ⌜ Looked-at n at diag b e (now (s .entry)) (now (s .exit)) ⌝ }
 {

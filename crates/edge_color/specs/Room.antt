@@ -4,7 +4,7 @@ use mathlib.Core.Path.{_≡_}
 use mathlib.Core.List.{List}
 use lib.ListN.{length}
 use Rattle.words.specs.Basics.{ran}
-use Rattle.words.specs.Words.{word}
+use Rattle.words.specs.Words.{word, word-limit}
 use Rattle.words.specs.Frames.{Stays, Spares}
 use Rattle.multigraph.specs.Regular.{Regular, Positive, Partition}
 use Rattle.multigraph.specs.Stored.{graph-at, matchings-at}
@@ -25,7 +25,7 @@ pub record Colorable (side : ℕ → ℕ) (pairs : ℕ) (s : List ℕ) (mark end
   pub after-table : ends + 2 * pairs ≤ out
   pub after-out : out + n * d ≤ g
   pub below : g + 3 + 2 * size s g ≤ mark
-  pub short : length s ≤ 4294967296
+  pub short : length s ≤ word-limit
 
 -- every bound on the graph's numbers holds of the w words at `out`
 abbrev pub Bounds-pass : List ℕ → List ℕ → ℕ → ℕ → ℕ → Type 0

@@ -6,6 +6,7 @@
 // Ported from rustworkx-core, `rbmg_edge_color_when_power_of_two` and `rbmg_edge_color` in bipartite_coloring.rs (Apache License 2.0, see NOTICE).
 ghost use mathlib.Core.Path.{_≡_};
 ghost use Prim.Native.Nat.{_+_, _*_, _-_, _^_, _<_, _≤_};
+ghost use Rattle.words.specs.Words.{«word-limit»};
 ghost use Rattle.multigraph.specs.Places.{«Adds-matching», «Removes-matching»};
 ghost use Rattle.words.specs.PowersOfTwo.{«log-up»};
 ghost use Rattle.edge_color.specs.Room.{«Power-fits», «Power-colored», «Color-fits», «Aside-stored», Colored};
@@ -43,7 +44,7 @@ pub fn rbmg_edge_color_when_power_of_two(
 // Writes at `to` the graph at `g` without the matching of `n` numbers at `at`. Nothing but `multigraph::remove_matching` with its
 // conditions in one `requires`: `set_aside` is proved by a walk, and there a callee has one (docs/MARK-PROOFS.md).
 fn take_out(s: &mut [u32], places: usize, g: usize, to: usize, at: usize, n: usize)
-    requires { ⌜ (places < 4294967296) × (g < 4294967296) × (to < 4294967296) × (at < 4294967296) × (n < 4294967296) ⌝ }
+    requires { ⌜ (places < word-limit) × (g < word-limit) × (to < word-limit) × (at < word-limit) × (n < word-limit) ⌝ }
     ensures { λ r. ⌜ Removes-matching places g to at n (now (s .entry)) (now (s .exit)) ⌝ }
 {
     multigraph::remove_matching(s, places, g, to, at, n);
@@ -83,7 +84,7 @@ fn move_earliest(
     n: usize,
     h: usize,
 ) -> usize
-    requires { ⌜ (h < 4294967296) × (n * (2 ^ log-up h - h) < 4294967296) × (places < 4294967296) × (second < 4294967296) × (from < 4294967296) ⌝ }
+    requires { ⌜ (h < word-limit) × (n * (2 ^ log-up h - h) < word-limit) × (places < word-limit) × (second < word-limit) × (from < word-limit) ⌝ }
     ensures { λ r. ⌜ (r ≡ 2 ^ log-up h) × Adds-matching places second from (n * (r - h)) (now (s .entry)) (now (s .exit)) ⌝ }
 {
     let r = matching::next_power_of_two(h);

@@ -4,7 +4,7 @@ use mathlib.Core.Path.{_≡_}
 use mathlib.Core.List.{List}
 use lib.ListN.{length}
 use Rattle.words.specs.Basics.{total, ran}
-use Rattle.words.specs.Words.{word}
+use Rattle.words.specs.Words.{word, word-limit}
 use Rattle.words.specs.Frames.{Keeps}
 use Rattle.multigraph.specs.Multigraph.{Pair}
 use Rattle.multigraph.specs.Regular.{names, Regular}
@@ -28,7 +28,7 @@ pub record Splits (s : List ℕ) (used ends g n width : ℕ) : Type 0 where
   pub base : ends ≤ used
   pub table : (i : ℕ) → i < word s (g + 1) → ends + 2 * word s (g + 2 + 2 * i) + 1 < used
   pub room : used + 16 * (n * (width + 1)) ≤ length s
-  pub short : length s ≤ 4294967296
+  pub short : length s ≤ word-limit
 
 -- every pair number of the graph at h is one of the graph at g
 pub record Numbers-from (s t : List ℕ) (g h : ℕ) : Type 0 where

@@ -6,6 +6,7 @@
 ghost use mathlib.Core.Path.{_≡_};
 ghost use Prim.Native.Nat.{ℕ, _+_, _*_, _<_, _≤_};
 ghost use lib.ListN.{length};
+ghost use Rattle.words.specs.Words.{«word-limit»};
 ghost use Rattle.euler.specs.Entries.{manyM, pushM, headM};
 use words::set_word;
 
@@ -18,7 +19,7 @@ pub fn many(copies: usize) -> usize
 
 // An entry of a half, at its place `at`.
 pub fn push(s: &mut [u32], h: usize, at: usize, e: usize, copies: usize)
-    requires { ⌜ (h < 4294967296) × (at < 137438953472) × (h + 3 + 2 * at < length (now s)) ⌝ }
+    requires { ⌜ (h < word-limit) × (at < 137438953472) × (h + 3 + 2 * at < length (now s)) ⌝ }
     ensures { λ r. ⌜ now (s .exit) ≡ pushM h (now (s .entry)) at e copies ⌝ }
 {
     set_word(s, h + 2 + 2 * at, e);
@@ -27,7 +28,7 @@ pub fn push(s: &mut [u32], h: usize, at: usize, e: usize, copies: usize)
 
 // The head of a half: its base and the number of its entries.
 pub fn head(s: &mut [u32], h: usize, n: usize)
-    requires { ⌜ h < 4294967296 ⌝ }
+    requires { ⌜ h < word-limit ⌝ }
     ensures { λ r. ⌜ now (s .exit) ≡ headM h (now (s .entry)) n ⌝ }
 {
     words::put(s, h, h);

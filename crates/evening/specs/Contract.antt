@@ -5,7 +5,7 @@ use mathlib.Core.Path.{_≡_}
 use mathlib.Core.List.{List}
 use lib.ListN.{length}
 use Rattle.words.specs.Basics.{All, ran}
-use Rattle.words.specs.Words.{word, region}
+use Rattle.words.specs.Words.{word, region, word-limit}
 use Rattle.words.specs.Frames.{Changes, Changes-three}
 use Rattle.appointments.specs.Appointments.{appts, load}
 use Rattle.multigraph.specs.Multigraph.{pair}
@@ -19,10 +19,10 @@ use Rattle.list_pairs.specs.Contract.{Plain, first-of, second-of, Paired}
 
 -- l parties stand at `left` and r at `right`; each side has room for as many as the longer one.
 pub record Can-pad (p left l right r : ℕ) (s : List ℕ) : Type 0 where
-  pub few : p + max l r ≤ 4294967296
+  pub few : p + max l r ≤ word-limit
   pub before-right : left + max l r ≤ right
   pub room : right + max l r ≤ length s
-  pub small : right + max l r ≤ 4294967296
+  pub small : right + max l r ≤ word-limit
 
 -- Both sides now have n parties, the longer one's number: new ones, numbered on from p, come after those of the shorter side.
 pub record Sides-padded (p left l right r n : ℕ) (s t : List ℕ) : Type 0 where
@@ -50,7 +50,7 @@ pub record Can-even (list : List ℕ) (d n left right ends apair g u : ℕ) (s :
   pub after-apair : apair + length list / 2 ≤ g
   pub after-graph : g + 2 + 2 * (n * d + n) ≤ u
   pub room : u + (n + n) + d * (n + n) ≤ length s
-  pub low : u + (n + n) + d * (n + n) < 4294967296
+  pub low : u + (n + n) + d * (n + n) < word-limit
 
 -- The graph at g is evened out; no pair has more than d copies, and each appointment's pair is the one that it was.
 pub record Evened-out (list : List ℕ) (d n left right ends apair g u : ℕ) (s : List ℕ) (u' : ℕ) (t : List ℕ) : Type 0 where

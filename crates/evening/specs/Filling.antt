@@ -3,7 +3,7 @@ use Prim.Native.Nat.{ℕ, _+_, _-_, _/_, _<_, _≤_, min}
 use mathlib.Core.Path.{_≡_}
 use mathlib.Core.List.{List}
 use mathlib.Core.Logic.{_⊎_}
-use Rattle.words.specs.Words.{word, put-word}
+use Rattle.words.specs.Words.{word, put-word, word-limit}
 use Rattle.multigraph.specs.Places.{size, number}
 use Rattle.evening.specs.Contract.{Can-even}
 use Rattle.list_pairs.specs.Adding.{Adds-pair}
@@ -14,13 +14,13 @@ use Rattle.list_pairs.specs.declared.rows.RowBases.{RowBases}
 
 -- every place is a small number
 pub record Fill-small (at : Bases) (rs : RowBases) : Type 0 where
-  pub left : at .left < 4294967296
-  pub right : at .right < 4294967296
-  pub ends : at .ends < 4294967296
-  pub apair : at .apair < 4294967296
-  pub graph : at .g < 4294967296
-  pub counts : rs .counts < 4294967296
-  pub rows : rs .rows < 4294967296
+  pub left : at .left < word-limit
+  pub right : at .right < word-limit
+  pub ends : at .ends < word-limit
+  pub apair : at .apair < word-limit
+  pub graph : at .g < word-limit
+  pub counts : rs .counts < word-limit
+  pub rows : rs .rows < word-limit
   pub degree : rs .d < 2147483648
 
 -- `Can-even` for these bases

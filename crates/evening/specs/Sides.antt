@@ -3,15 +3,15 @@ use Prim.Native.Nat.{ℕ, _+_, _-_, _<_, _≤_}
 use mathlib.Core.Path.{_≡_}
 use mathlib.Core.List.{List, _++_}
 use lib.ListN.{length}
-use Rattle.words.specs.Words.{word, region}
+use Rattle.words.specs.Words.{word, region, word-limit}
 use Rattle.regular_graph.specs.Evening.{new-parties}
 
 -- k parties stand at `at`, which has room for n
 pub record Can-pad-side (at k n p : ℕ) (s : List ℕ) : Type 0 where
   pub le : k ≤ n
-  pub few : p + n ≤ 4294967296
+  pub few : p + n ≤ word-limit
   pub room : at + n ≤ length s
-  pub small : at + n ≤ 4294967296
+  pub small : at + n ≤ word-limit
 
 -- up to place i
 pub record Padding (at k i p : ℕ) (s t : List ℕ) : Type 0 where

@@ -2,6 +2,7 @@
 // a party is full". A party's degree stands in its counter of the rows: at first that is how many half-edges it has.
 ghost use mathlib.Core.Path.{_≡_};
 ghost use Prim.Native.Nat.{_+_, _-_, _<_, min};
+ghost use Rattle.words.specs.Words.{«word-limit»};
 ghost use Rattle.evening.specs.Contract.{«Can-even», «Evened-out»};
 ghost use Rattle.list_pairs.specs.Adding.{«Has-place»};
 ghost use Rattle.evening.specs.Filling.{«Fill-small», «Pair-found», Filled, «Step-taken»};
@@ -100,7 +101,7 @@ fn even_step(
     n: usize,
     passed: Passed,
 ) -> Passed
-    requires { ⌜ Fill-small at rows × (n < 4294967296) ⌝ }
+    requires { ⌜ Fill-small at rows × (n < word-limit) ⌝ }
     requires { ⌜ (passed .l < n → Has-place (at .ends) (at .g) (now s)) ⌝ }
     ensures { λ x. ⌜ Step-taken (now (list .entry)) at rows n (now (s .entry)) (now (s .exit)) (passed .l) (passed .r) (x .l) (x .r) ⌝ }
 {

@@ -5,7 +5,7 @@ use mathlib.Core.List.{List}
 use mathlib.Core.Logic.{_⊎_}
 use lib.ListN.{length}
 use Rattle.words.specs.Frames.{Changes}
-use Rattle.words.specs.Words.{word, put-word}
+use Rattle.words.specs.Words.{word, put-word, word-limit}
 use Rattle.multigraph.specs.Multigraph.{Pair, pair, Graph, add-edge}
 use Rattle.multigraph.specs.Places.{size, copies-of, Has-ends}
 use Rattle.multigraph.specs.Steps.{span}
@@ -44,11 +44,11 @@ pub record Pair-fits (ends g e l r copies : ℕ) (s : List ℕ) : Type 0 where
   pub its : Its-number ends g e l r s
   pub after-ends : ends + 2 * (size s g + 1) ≤ g
   pub inside : g + 2 + 2 * (size s g + 1) ≤ length s
-  pub small : g + 2 + 2 * (size s g + 1) ≤ 4294967296
-  pub left-small : l < 4294967296
-  pub right-small : r < 4294967296
-  pub light : (f : ℕ) → f < size s g → copies-of s g f + copies < 4294967296
-  pub few : copies < 4294967296
+  pub small : g + 2 + 2 * (size s g + 1) ≤ word-limit
+  pub left-small : l < word-limit
+  pub right-small : r < word-limit
+  pub light : (f : ℕ) → f < size s g → copies-of s g f + copies < word-limit
+  pub few : copies < word-limit
 
 -- Copies have been added to the pair with the ends l and r, which has number e.
 pub record Pair-added (ends g e l r copies : ℕ) (s t : List ℕ) : Type 0 where

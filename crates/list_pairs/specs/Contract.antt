@@ -5,7 +5,7 @@ use mathlib.Core.Path.{_≡_}
 use mathlib.Core.List.{List, []}
 use lib.ListN.{length}
 use Rattle.words.specs.Basics.{All}
-use Rattle.words.specs.Words.{word}
+use Rattle.words.specs.Words.{word, word-limit}
 use Rattle.words.specs.Frames.{Changes-three}
 use Rattle.appointments.specs.Appointments.{appts, load}
 use Rattle.multigraph.specs.Stored.{graph-at}
@@ -37,7 +37,7 @@ pub record Can-pair (list : List ℕ) (p d ends apair g u : ℕ) (s : List ℕ) 
   pub after-apair : apair + length list / 2 ≤ g
   pub after-graph : g + 2 + 2 * (length list / 2) ≤ u
   pub room : u + p + d * p + p ≤ length s
-  pub low : u + p + d * p + p < 4294967296
+  pub low : u + p + d * p + p < word-limit
 
 -- The graph at g has the pairs of the list, and at `apair` stands the number of each appointment's pair.
 pub record Paired (list : List ℕ) (ends apair g : ℕ) (s : List ℕ) : Type 0 where

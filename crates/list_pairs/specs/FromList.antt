@@ -6,7 +6,7 @@ use lib.Dec.{ltb}
 use lib.ListN.{length, take}
 use Rattle.words.specs.Basics.{pick}
 use Rattle.words.specs.Frames.{Changes-three}
-use Rattle.words.specs.Words.{word}
+use Rattle.words.specs.Words.{word, word-limit}
 use Rattle.appointments.specs.Appointments.{appts}
 use Rattle.multigraph.specs.Places.{size, Has-ends}
 use Rattle.regular_graph.specs.Evening.{add-appointments}
@@ -32,7 +32,7 @@ pub record Building (list : List ℕ) (at : Bases) (k : ℕ) (s : List ℕ) : Ty
   pub after-ends : at .ends + 2 * (length list / 2) ≤ at .apair
   pub after-apair : at .apair + length list / 2 ≤ at .g
   pub inside : at .g + 2 + 2 * (length list / 2) ≤ length s
-  pub small : at .g + 2 + 2 * (length list / 2) < 4294967296
+  pub small : at .g + 2 + 2 * (length list / 2) < word-limit
   pub short : length list ≤ 8192
 
 -- below the mark nothing changes but the table of ends, the appointments' pairs and the graph, as long as the list can make them

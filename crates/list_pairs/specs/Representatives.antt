@@ -5,7 +5,7 @@ use mathlib.Core.List.{List}
 use mathlib.Core.Logic.{_⊎_}
 use lib.ListN.{length}
 use Rattle.words.specs.Frames.{Changes}
-use Rattle.words.specs.Words.{word, put-word}
+use Rattle.words.specs.Words.{word, put-word, word-limit}
 use Rattle.multigraph.specs.Regular.{Same-ends}
 use Rattle.list_pairs.specs.Contract.{first-of, second-of}
 use Rattle.list_pairs.specs.declared.rows.RowBases.{RowBases}
@@ -57,7 +57,7 @@ pub record Reps-fit (list : List ℕ) (rs : RowBases) (map apair : ℕ) (s : Lis
   pub after : rs .counts + rs .parties ≤ rs .rows
   pub after-rows : rs .rows + rs .d * rs .parties ≤ map
   pub inside : map + rs .parties ≤ length s
-  pub small : map + rs .parties < 4294967296
+  pub small : map + rs .parties < word-limit
 
 -- the half-edges of party v
 pub record Row-done (list : List ℕ) (p map apair v : ℕ) (s t : List ℕ) : Type 0 where

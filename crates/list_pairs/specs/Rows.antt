@@ -6,7 +6,7 @@ use mathlib.Core.List.{List}
 use lib.ListN.{length, take}
 use Rattle.words.specs.Basics.{count}
 use Rattle.words.specs.Frames.{Keeps}
-use Rattle.words.specs.Words.{word, put-word}
+use Rattle.words.specs.Words.{word, put-word, word-limit}
 use Rattle.list_pairs.specs.declared.rows.RowBases.{RowBases}
 
 -- A position h of the flat list is a half-edge of the party that stands there. The t-th half-edge in the row of party v:
@@ -42,7 +42,7 @@ pub record Rows-fit (list : List ℕ) (rs : RowBases) (s : List ℕ) : Type 0 wh
   pub loads : (v : ℕ) → v < rs .parties → count v list ≤ rs .d
   pub after : rs .counts + rs .parties ≤ rs .rows
   pub inside : rs .rows + rs .d * rs .parties ≤ length s
-  pub small : rs .rows + rs .d * rs .parties < 4294967296
+  pub small : rs .rows + rs .d * rs .parties < word-limit
   pub short : length list ≤ 8192
 
 -- The first k half-edges are in the rows of their parties, in order.

@@ -3,7 +3,7 @@
 ghost use mathlib.Core.Path.{_≡_};
 ghost use Prim.Native.Nat.{_+_, _*_, _<_};
 ghost use lib.ListN.{length};
-ghost use Rattle.words.specs.Words.{word, «put-word»};
+ghost use Rattle.words.specs.Words.{word, «put-word», «word-limit»};
 ghost use Rattle.list_pairs.specs.Adding.{pushed, «Has-place», «Adds-pair»};
 use words::EdgeIndex;
 use words::NodeIndex;
@@ -12,7 +12,7 @@ use words::word_at;
 
 // Adds `more` to the word at `at`.
 fn add_to(s: &mut [u32], at: usize, more: usize)
-    requires { ⌜ more < 4294967296 ⌝ }
+    requires { ⌜ more < word-limit ⌝ }
     requires { ⌜ at < length (now s) ⌝ }
     ensures { λ r. ⌜ now (s .exit) ≡ put-word (now (s .entry)) at (word (now (s .entry)) at + more) ⌝ }
 {
@@ -31,8 +31,8 @@ fn push_pair(
     r: NodeIndex,
     copies: usize,
 )
-    requires { ⌜ ends < 4294967296 ⌝ }
-    requires { ⌜ g < 4294967296 ⌝ }
+    requires { ⌜ ends < word-limit ⌝ }
+    requires { ⌜ g < word-limit ⌝ }
     requires { ⌜ (ends + 2 * e .0 + 1 < length (now s)) × (g + 3 + 2 * e .0 < length (now s)) ⌝ }
     ensures { λ x. ⌜ now (s .exit) ≡ pushed ends g (e .0) (l .0) (r .0) copies (now (s .entry)) ⌝ }
 {
@@ -56,9 +56,9 @@ pub fn add_pair(
     r: NodeIndex,
     copies: usize,
 )
-    requires { ⌜ ends < 4294967296 ⌝ }
-    requires { ⌜ g < 4294967296 ⌝ }
-    requires { ⌜ copies < 4294967296 ⌝ }
+    requires { ⌜ ends < word-limit ⌝ }
+    requires { ⌜ g < word-limit ⌝ }
+    requires { ⌜ copies < word-limit ⌝ }
     requires { ⌜ Has-place ends g (now s) ⌝ }
     ensures { λ x. ⌜ Adds-pair ends g (e .0) (l .0) (r .0) copies (now (s .entry)) (now (s .exit)) ⌝ }
 {

@@ -1,6 +1,7 @@
 // Has an appointment, or a pair, two given ends, whichever way round? The answer is 1 or 0.
 ghost use Prim.Native.Nat.{_+_, _*_, _<_};
 ghost use lib.ListN.{length};
+ghost use Rattle.words.specs.Words.{«word-limit»};
 ghost use Rattle.multigraph.specs.Regular.{«Same-ends»};
 ghost use Rattle.list_pairs.specs.Ends.{Says, Earlier, Joins};
 use words::get16;
@@ -8,7 +9,7 @@ use words::word16_at;
 
 // Are `x` and `y` the ends `a` and `b`, one way round or the other?
 pub fn same_ends(a: usize, b: usize, x: usize, y: usize) -> usize
-    requires { ⌜ (a < 4294967296) × (b < 4294967296) × (x < 4294967296) × (y < 4294967296) ⌝ }
+    requires { ⌜ (a < word-limit) × (b < word-limit) × (x < word-limit) × (y < word-limit) ⌝ }
     ensures { λ r. ⌜ Says r (Same-ends a b x y) ⌝ }
 {
     if x + y != a + b {
@@ -26,7 +27,7 @@ pub fn same_ends(a: usize, b: usize, x: usize, y: usize) -> usize
 // Has appointment `i` the ends `v` and `w`? Read with a test: the search that asks goes on past the half-edges of a row, where
 // any number may stand.
 pub fn joins(list: &[u16], i: usize, v: usize, w: usize) -> usize
-    requires { ⌜ (i < 4294967296) × (v < 4294967296) × (w < 4294967296) ⌝ }
+    requires { ⌜ (i < word-limit) × (v < word-limit) × (w < word-limit) ⌝ }
     ensures { λ r. ⌜ Says r (Joins (now (list .entry)) i v w) ⌝ }
 {
     let x = get16(list, 2 * i);
@@ -36,7 +37,7 @@ pub fn joins(list: &[u16], i: usize, v: usize, w: usize) -> usize
 
 // Is appointment `j` not later than `i`, with the ends `v` and `w`?
 pub(crate) fn earlier(list: &[u16], j: usize, i: usize, v: usize, w: usize) -> usize
-    requires { ⌜ (v < 4294967296) × (w < 4294967296) ⌝ }
+    requires { ⌜ (v < word-limit) × (w < word-limit) ⌝ }
     requires { ⌜ 2 * i + 1 < length (now list) ⌝ }
     ensures { λ r. ⌜ Says r (Earlier (now (list .entry)) j i v w) ⌝ }
 {

@@ -2,7 +2,7 @@
 ghost use mathlib.Core.Path.{_≡_};
 ghost use Prim.Native.Nat.{_+_, _/_, _<_};
 ghost use lib.ListN.{length};
-ghost use Rattle.words.specs.Words.{«put-word»};
+ghost use Rattle.words.specs.Words.{«put-word», «word-limit»};
 ghost use Rattle.list_pairs.specs.Contract.{«Can-pair», «Pairs-made»};
 ghost use Rattle.list_pairs.specs.FromList.{«pair-of», Building, Built};
 use crate::Bases;
@@ -21,7 +21,7 @@ use words::word16_at;
 // The number of appointment `i`'s pair, for which its representative stands at `apair`: that of an earlier appointment, or the
 // next number.
 fn pair_of(s: &[u32], g: usize, apair: usize, i: usize) -> EdgeIndex
-    requires { ⌜ (g < 4294967296) × (apair < 4294967296) × (i < 4294967296) ⌝ }
+    requires { ⌜ (g < word-limit) × (apair < word-limit) × (i < word-limit) ⌝ }
     requires { ⌜ (apair + i < length (now s)) × (g + 1 < length (now s)) ⌝ }
     ensures { λ r. ⌜ r .0 ≡ pair-of g apair i (now (s .entry)) ⌝ }
 {
@@ -71,7 +71,7 @@ fn add_appointments(s: &mut [u32], list: &[u16], at: Bases)
 
 // A graph without pairs.
 fn no_pairs(s: &mut [u32], g: usize)
-    requires { ⌜ g < 4294967296 ⌝ }
+    requires { ⌜ g < word-limit ⌝ }
     ensures { λ r. ⌜ now (s .exit) ≡ put-word (put-word (now (s .entry)) g g) (g + 1) 0 ⌝ }
 {
     put(s, g, g);

@@ -4,6 +4,7 @@
 // it is looked at. The representative of appointment i goes to `apair + i`, where later its pair's number will stand.
 ghost use mathlib.Core.Path.{_≡_};
 ghost use Prim.Native.Nat.{_<_};
+ghost use Rattle.words.specs.Words.{«word-limit»};
 ghost use Rattle.list_pairs.specs.Representatives.{mate, Finds, «Rep-found», «Reps-fit», «Row-done», «Reps-done»};
 use crate::ends::earlier;
 use crate::rows::RowBases;
@@ -14,7 +15,7 @@ use words::word16_at;
 
 // The half-edge at the other end of the same appointment.
 fn other_half(h: usize) -> usize
-    requires { ⌜ h < 4294967296 ⌝ }
+    requires { ⌜ h < word-limit ⌝ }
     ensures { λ r. ⌜ r ≡ mate h ⌝ }
 {
     2 * (h / 2) + (1 - h % 2)
@@ -23,7 +24,7 @@ fn other_half(h: usize) -> usize
 // The representative of the appointment of half-edge `h`: what the map has for the other end, if that is an earlier appointment with
 // its ends; else itself, and the map has it from now on.
 fn find_rep(s: &mut [u32], list: &[u16], map: usize, apair: usize, h: usize)
-    requires { ⌜ (map < 4294967296) × (apair < 4294967296) × (h < 4294967296) ⌝ }
+    requires { ⌜ (map < word-limit) × (apair < word-limit) × (h < word-limit) ⌝ }
     requires { ⌜ Finds (now list) map apair h (now s) ⌝ }
     ensures { λ r. ⌜ Rep-found (now (list .entry)) map apair h (now (s .entry)) (now (s .exit)) ⌝ }
 {

@@ -3,7 +3,7 @@
 ghost use mathlib.Core.Path.{_≡_};
 ghost use Prim.Native.Nat.{_+_, _*_, _<_, _≤_};
 ghost use lib.ListN.{length};
-ghost use Rattle.words.specs.Words.{word, «put-word»};
+ghost use Rattle.words.specs.Words.{word, «put-word», «word-limit»};
 ghost use Rattle.list_pairs.specs.Rows.{Cleared, Pushes, «row-pushed», «Rows-fit», «Rows-filled»};
 use words::NodeIndex;
 use words::set_word;
@@ -33,7 +33,7 @@ pub fn clear_words(s: &mut [u32], b: usize, n: usize)
 
 // Half-edge `h` goes to the end of the row of party `w`.
 fn push_row(s: &mut [u32], at: RowBases, w: NodeIndex, h: usize)
-    requires { ⌜ (at .counts < 4294967296) × (at .rows + at .d * w .0 < 4294967296) ⌝ }
+    requires { ⌜ (at .counts < word-limit) × (at .rows + at .d * w .0 < word-limit) ⌝ }
     requires { ⌜ Pushes at (w .0) (now s) ⌝ }
     ensures { λ r. ⌜ now (s .exit) ≡ row-pushed at (w .0) h (now (s .entry)) ⌝ }
 {

@@ -6,7 +6,7 @@ use mathlib.Core.List.{List}
 use lib.Dec.{leb}
 use lib.ListN.{length}
 use Rattle.words.specs.Basics.{pick}
-use Rattle.words.specs.Words.{word}
+use Rattle.words.specs.Words.{word, word-limit}
 use Rattle.multigraph.specs.Multigraph.{Graph}
 use Rattle.multigraph.specs.Stored.{graph-at}
 use Rattle.multigraph.specs.Places.{size, number, copies-of}
@@ -41,9 +41,9 @@ Chooses first room pairs by s r =
 pub record Can-copy (from to α : ℕ) (s : List ℕ) : Type 0 where
   pub apart : (i j : ℕ) → i < 2 + 2 * size s from → j < 2 + 2 * size s from → from + i ≡ to + j → ⊥
   pub inside : to + 2 + 2 * size s from ≤ length s
-  pub small : to + 2 + 2 * size s from ≤ 4294967296
-  pub numbers : (i : ℕ) → i < size s from → number s from i < 4294967296
-  pub copies : (i : ℕ) → i < size s from → α * copies-of s from i < 4294967296
+  pub small : to + 2 + 2 * size s from ≤ word-limit
+  pub numbers : (i : ℕ) → i < size s from → number s from i < word-limit
+  pub copies : (i : ℕ) → i < size s from → α * copies-of s from i < word-limit
 
 -- the first i entries are copied
 pub record Copying (from to α i : ℕ) (s t : List ℕ) : Type 0 where

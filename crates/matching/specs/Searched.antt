@@ -6,7 +6,7 @@ use mathlib.Core.List.{List, [], _∷_}
 use mathlib.Core.Logic.{_⊎_}
 use lib.ListN.{length}
 use Rattle.words.specs.Basics.{total, ran}
-use Rattle.words.specs.Words.{word}
+use Rattle.words.specs.Words.{word, word-limit}
 use Rattle.words.specs.Frames.{Keeps, Stays, Spares, Changes}
 use Rattle.multigraph.specs.Multigraph.{Pair}
 use Rattle.multigraph.specs.Regular.{names, Apart, Regular, Positive, Partition}
@@ -52,7 +52,7 @@ pub record Diagonal-fits (most : ℕ) (t : Table) (h n β : ℕ) (s : List ℕ) 
   pub mappable : Mappable (t .ends) (t .pairs + n) most n (t .places) h (t .diag) n s
   pub same : (i : ℕ) → i < n → Alike s (t .ends) (word s (t .diag + i)) (t .pairs + i)
   pub low : t .diag + n ≤ t .places
-  pub fits : most + n * β < 4294967296
+  pub fits : most + n * β < word-limit
 
 pub record Diagonal-added (most : ℕ) (t : Table) (h n β : ℕ) (s u : List ℕ) : Type 0 where
   pub graph :
@@ -72,11 +72,11 @@ pub record Can-build (most : ℕ) (t : Table) (g h n α β : ℕ) (s : List ℕ)
   pub apart : Apart (graph-at s (t .ends) (t .pairs) g)
   pub numbers : (i : ℕ) → i < size s g → number s g i < t .pairs
   pub copies : (i : ℕ) → i < size s g → α * copies-of s g i ≤ most
-  pub fits : most + n * β < 4294967296
+  pub fits : most + n * β < word-limit
   pub after-places : t .places + (t .pairs + n) ≤ g
   pub below : g + 2 + 2 * size s g ≤ h
   pub inside : h + 2 + 2 * (size s g + n) ≤ length s
-  pub short : length s ≤ 4294967296
+  pub short : length s ≤ word-limit
 
 -- The graph of a search: copies times α, and β copies of left i with right i.
 pub record Graph-built (t : Table) (g h n α β : ℕ) (s u : List ℕ) : Type 0 where
@@ -96,7 +96,7 @@ pub record Search-laid (t : Table) (h n width mark : ℕ) (s : List ℕ) : Type 
   pub table : t .ends + 2 * (t .pairs + n) ≤ h
   pub behind : mark ≡ h + 2 * (n * (width + 1))
   pub room : mark + 16 * (n * (width + 1)) ≤ length s
-  pub short : length s ≤ 4294967296
+  pub short : length s ≤ word-limit
   pub some : 0 < n
   pub few : 2 * n ≤ 2048
   pub two : 2 ≤ width
@@ -116,7 +116,7 @@ pub record Can-halve (t : Table) (h n width mark : ℕ) (s : List ℕ) : Type 0 
   pub half : ℕ
   pub laid : Search-laid t h n width mark s
   pub graph : Searching t h n width side (2 * half) s
-  pub light : half < 4294967296
+  pub light : half < word-limit
 
 -- The graph at h has become the half that goes on.
 pub record Halved (t : Table) (h n : ℕ) (by : Bool) (mark new : ℕ) (s u : List ℕ) : Type 0 where
@@ -134,7 +134,7 @@ pub record Can-halve-all (t : Table) (h n width x mark : ℕ) (s : List ℕ) : T
   pub power : x ≡ 2 ^ exponent
   pub laid : Search-laid t h n width mark s
   pub graph : Searching t h n width side x s
-  pub light : x < 4294967296
+  pub light : x < word-limit
 
 -- The graph at h has become what so many halvings leave of it.
 pub record Halved-all (t : Table) (h n width x : ℕ) (by : Bool) (mark new : ℕ) (s u : List ℕ) : Type 0 where
@@ -164,7 +164,7 @@ pub record Can-search (t : Table) (g n k mark : ℕ) (s : List ℕ) : Type 0 whe
   pub after-places : t .places + (t .pairs + n) ≤ g
   pub below : g + 2 + 2 * size s g ≤ mark
   pub room : mark + 18 * (n * (k + 2)) ≤ length s
-  pub short : length s ≤ 4294967296
+  pub short : length s ≤ word-limit
 
 -- What a search leaves stands at the mark; below it only the map has changed.
 pub record Search-done (t : Table) (g n k : ℕ) (by : Bool) (mark new flagged : ℕ) (s u : List ℕ) : Type 0 where
@@ -196,7 +196,7 @@ pub record Can-read (ends rows h n out : ℕ) (s : List ℕ) : Type 0 where
   pub after-ends : ends + 2 * rows ≤ out
   pub before-graph : out + n ≤ h
   pub inside : h + 2 + 2 * n ≤ length s
-  pub short : length s ≤ 4294967296
+  pub short : length s ≤ word-limit
 
 pub record Matching-read (ends pairs h n out : ℕ) (s u : List ℕ) : Type 0 where
   pub matching : matching-at u ends pairs out n ≡ graph-at s ends pairs h

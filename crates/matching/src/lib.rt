@@ -6,7 +6,7 @@
 ghost use mathlib.Core.Path.{_≡_};
 ghost use Prim.Native.Nat.{ℕ, _+_, _*_, _-_, _/_, _^_, _<_, _≤_};
 ghost use lib.ListN.{length};
-ghost use Rattle.words.specs.Words.{word, «put-word»};
+ghost use Rattle.words.specs.Words.{word, «put-word», «word-limit»};
 ghost use Rattle.multigraph.specs.Stored.{«graph-at»};
 ghost use Rattle.multigraph.specs.Places.{size, «Adds-edge»};
 ghost use Rattle.perfect_matching.specs.Matching.{«flagged-pairs»};
@@ -32,7 +32,7 @@ pub struct Table {
 
 // The least power of two not below `m`.
 pub fn next_power_of_two(m: usize) -> usize
-    requires { ⌜ m < 4294967296 ⌝ }
+    requires { ⌜ m < word-limit ⌝ }
     ensures { λ r. ⌜ r ≡ 2 ^ log-up m ⌝ }
 {
     let mut t: usize = 1;
@@ -44,8 +44,8 @@ pub fn next_power_of_two(m: usize) -> usize
 
 // What entry `i` of a graph's own words counts: nothing if it isn't flagged, else 1, or its copies.
 fn flagged_at(g: &[u32], pairs: usize, by_copies: bool, i: usize) -> usize
-    requires { ⌜ (i < 4294967296) × (3 + 2 * i < length (now g)) ⌝ }
-    ensures { λ r. ⌜ (r ≡ flagged-entry «by_copies» (now (g .entry)) pairs 0 i) × (r < 4294967296) ⌝ }
+    requires { ⌜ (i < word-limit) × (3 + 2 * i < length (now g)) ⌝ }
+    ensures { λ r. ⌜ (r ≡ flagged-entry «by_copies» (now (g .entry)) pairs 0 i) × (r < word-limit) ⌝ }
 {
     let e = word_at(g, 2 + 2 * i);
     if e < pairs {
@@ -93,7 +93,7 @@ pub fn fewer_flagged<'a>(
 // The base of the half that goes on, where the two lie side by side.
 fn chosen(s: &[u32], first: usize, room: usize, pairs: usize, by_copies: bool) -> usize
     requires { ⌜ (0 < room) × (first + room + room ≤ length (now s)) × (2 + 2 * size (now s) first ≤ room) × (2 + 2 * size (now s) (first + room) ≤ room) ⌝ }
-    ensures { λ r. ⌜ Chooses first room pairs «by_copies» (now (s .entry)) r × (r < 4294967296) ⌝ }
+    ensures { λ r. ⌜ Chooses first room pairs «by_copies» (now (s .entry)) r × (r < word-limit) ⌝ }
 {
     let middle = first + room;
     let end = middle + room;
@@ -104,10 +104,10 @@ fn chosen(s: &[u32], first: usize, room: usize, pairs: usize, by_copies: bool) -
 
 // Copies entry `i`, its copies times `alpha`.
 fn copy_entry(s: &mut [u32], from: usize, to: usize, alpha: usize, i: usize)
-    requires { ⌜ from < 4294967296 ⌝ }
-    requires { ⌜ to < 4294967296 ⌝ }
-    requires { ⌜ alpha < 4294967296 ⌝ }
-    requires { ⌜ i < 4294967296 ⌝ }
+    requires { ⌜ from < word-limit ⌝ }
+    requires { ⌜ to < word-limit ⌝ }
+    requires { ⌜ alpha < word-limit ⌝ }
+    requires { ⌜ i < word-limit ⌝ }
     requires { ⌜ Inside-both from to (i + 1) (now s) ⌝ }
     ensures { λ r. ⌜ now (s .exit) ≡ put-word (put-word (now (s .entry)) (to + 2 + 2 * i) (word (now (s .entry)) (from + 2 + 2 * i))) (to + 3 + 2 * i) (alpha * word (now (s .entry)) (from + 3 + 2 * i)) ⌝ }
 {
@@ -119,10 +119,10 @@ fn copy_entry(s: &mut [u32], from: usize, to: usize, alpha: usize, i: usize)
 
 // Copies `m` entries.
 fn copy_entries(s: &mut [u32], from: usize, to: usize, alpha: usize, m: usize)
-    requires { ⌜ from < 4294967296 ⌝ }
-    requires { ⌜ to < 4294967296 ⌝ }
-    requires { ⌜ alpha < 4294967296 ⌝ }
-    requires { ⌜ m < 4294967296 ⌝ }
+    requires { ⌜ from < word-limit ⌝ }
+    requires { ⌜ to < word-limit ⌝ }
+    requires { ⌜ alpha < word-limit ⌝ }
+    requires { ⌜ m < word-limit ⌝ }
     requires { ⌜ Inside-both from to m (now s) ⌝ }
     ensures { λ r. ⌜ (m ≡ size (now (s .entry)) from → Can-copy from to alpha (now (s .entry)) → Copying from to alpha m (now (s .entry)) (now (s .exit))) ⌝ }
 {
@@ -135,9 +135,9 @@ fn copy_entries(s: &mut [u32], from: usize, to: usize, alpha: usize, m: usize)
 
 // Copies the graph at `from` to `to`, every pair's copies times `alpha`.
 fn copy_times(s: &mut [u32], from: usize, to: usize, alpha: usize)
-    requires { ⌜ from < 4294967296 ⌝ }
-    requires { ⌜ to < 4294967296 ⌝ }
-    requires { ⌜ alpha < 4294967296 ⌝ }
+    requires { ⌜ from < word-limit ⌝ }
+    requires { ⌜ to < word-limit ⌝ }
+    requires { ⌜ alpha < word-limit ⌝ }
     requires { ⌜ Inside-both from to (size (now s) from) (now s) ⌝ }
     ensures { λ r. ⌜ Copies from to alpha (now (s .entry)) (now (s .exit)) ⌝ }
 {
@@ -149,11 +149,11 @@ fn copy_times(s: &mut [u32], from: usize, to: usize, alpha: usize)
 
 // `beta` copies of left `i` with right `i`: the pair that has these ends, or a new one with the number of their row.
 fn add_pair(s: &mut [u32], t: Table, h: usize, beta: usize, i: usize)
-    requires { ⌜ t .places < 4294967296 ⌝ }
-    requires { ⌜ t .diag < 4294967296 ⌝ }
-    requires { ⌜ t .pairs + i < 4294967296 ⌝ }
-    requires { ⌜ h < 4294967296 ⌝ }
-    requires { ⌜ beta < 4294967296 ⌝ }
+    requires { ⌜ t .places < word-limit ⌝ }
+    requires { ⌜ t .diag < word-limit ⌝ }
+    requires { ⌜ t .pairs + i < word-limit ⌝ }
+    requires { ⌜ h < word-limit ⌝ }
+    requires { ⌜ beta < word-limit ⌝ }
     ensures { λ r. ⌜ Adds-edge (t .places) h (word (now (s .entry)) (t .diag + i)) (t .pairs + i) beta (now (s .entry)) (now (s .exit)) ⌝ }
 {
     let e = get(s, t.diag + i);
@@ -164,11 +164,11 @@ fn add_pair(s: &mut [u32], t: Table, h: usize, beta: usize, i: usize)
 
 // `beta` copies of each left party with the right party of the same place, in order.
 fn add_diagonal(s: &mut [u32], t: Table, h: usize, n: usize, beta: usize)
-    requires { ⌜ t .places < 4294967296 ⌝ }
-    requires { ⌜ t .diag < 4294967296 ⌝ }
-    requires { ⌜ t .pairs + n < 4294967296 ⌝ }
-    requires { ⌜ h < 4294967296 ⌝ }
-    requires { ⌜ beta < 4294967296 ⌝ }
+    requires { ⌜ t .places < word-limit ⌝ }
+    requires { ⌜ t .diag < word-limit ⌝ }
+    requires { ⌜ t .pairs + n < word-limit ⌝ }
+    requires { ⌜ h < word-limit ⌝ }
+    requires { ⌜ beta < word-limit ⌝ }
     ensures { λ r. ⌜ Adds-diagonal t h n beta (now (s .entry)) (now (s .exit)) ⌝ }
 {
     multigraph::map_places(s, t.places, h, t.diag, n);
@@ -181,7 +181,7 @@ fn add_diagonal(s: &mut [u32], t: Table, h: usize, n: usize, beta: usize)
 
 // The graph that a search splits, built at `h` from the graph at `g`.
 fn search_graph(s: &mut [u32], t: Table, g: usize, h: usize, n: usize, alpha: usize, beta: usize)
-    requires { ⌜ (t .places < 4294967296) × (t .diag < 4294967296) × (t .pairs + n < 4294967296) × (g < 4294967296) × (h < 4294967296) × (alpha < 4294967296) × (beta < 4294967296) × Inside-both g h (size (now s) g) (now s) ⌝ }
+    requires { ⌜ (t .places < word-limit) × (t .diag < word-limit) × (t .pairs + n < word-limit) × (g < word-limit) × (h < word-limit) × (alpha < word-limit) × (beta < word-limit) × Inside-both g h (size (now s) g) (now s) ⌝ }
     ensures { λ r. ⌜ Builds-graph t g h n alpha beta (now (s .entry)) (now (s .exit)) ⌝ }
 {
     copy_times(s, g, h, alpha);
@@ -190,7 +190,7 @@ fn search_graph(s: &mut [u32], t: Table, g: usize, h: usize, n: usize, alpha: us
 
 // Of the two halves at `first`, side by side, the one that goes on is copied down to `h`.
 fn go_on(s: &mut [u32], first: usize, room: usize, pairs: usize, h: usize, by_copies: bool)
-    requires { ⌜ (0 < room) × (h < 4294967296) × Side-by-side first room h (now s) ⌝ }
+    requires { ⌜ (0 < room) × (h < word-limit) × Side-by-side first room h (now s) ⌝ }
     ensures { λ r. ⌜ Goes-on first room pairs h «by_copies» (now (s .entry)) (now (s .exit)) ⌝ }
 {
     let from = chosen(s, first, room, pairs, by_copies);
@@ -293,7 +293,7 @@ fn searches(s: &mut [u32], m: &mut Mark, t: Table, g: usize, n: usize, k: usize)
 
 // Writes the numbers of the `n` pairs of the graph at `h` to `out`.
 pub fn read_matching(s: &mut [u32], h: usize, n: usize, out: usize)
-    requires { ⌜ (h < 4294967296) × (n < 4294967296) × (out < 4294967296) ⌝ }
+    requires { ⌜ (h < word-limit) × (n < word-limit) × (out < word-limit) ⌝ }
     ensures { λ r. ⌜ Reads-matching h n out (now (s .entry)) (now (s .exit)) ⌝ }
 {
     let mut i = 0;

@@ -6,7 +6,7 @@ use mathlib.Core.List.{List}
 use lib.Dec.{leb}
 use lib.ListN.{length}
 use Rattle.words.specs.Basics.{pick}
-use Rattle.words.specs.Words.{word}
+use Rattle.words.specs.Words.{word, word-limit}
 use Rattle.words.specs.Frames.{Changes}
 use Rattle.multigraph.specs.Multigraph.{add-edge, add-matching, remove-matching}
 use Rattle.multigraph.specs.Regular.{Same-ends, Apart, Positive}
@@ -48,8 +48,8 @@ pub record Stored (rows most room : ℕ) (s : List ℕ) (g : ℕ) : Type 0 where
   pub numbers : (i : ℕ) → i < size s g → number s g i < rows
   pub copies : (i : ℕ) → i < size s g → copies-of s g i ≤ most
   pub inside : g + 2 + 2 * (size s g + room) ≤ length s
-  pub small : g + 2 + 2 * (size s g + room) ≤ 4294967296
-  pub light : most < 4294967296
+  pub small : g + 2 + 2 * (size s g + room) ≤ word-limit
+  pub light : most < word-limit
 
 -- What the map is while n keys are looked up: no two keys have the same ends; and a key's word is i + 1 exactly if entry i of
 -- the graph has the key's ends (so it is 0 if no entry has them).
@@ -96,7 +96,7 @@ pub record Edge-fits (ends rows most room : ℕ) (keys : ℕ → ℕ) (n places 
   pub asked : (j : ℕ) × (j < n) × (keys j ≡ key)
   pub number-below : e < rows
   pub same : Alike s ends key e
-  pub fits : most + copies < 4294967296
+  pub fits : most + copies < word-limit
 
 pub record Edge-added (ends pairs rows most room : ℕ) (keys : ℕ → ℕ) (n places g e copies : ℕ) (s t : List ℕ) : Type 0 where
   pub graph :
@@ -123,7 +123,7 @@ pub record Matching-fits (ends pairs most places g m n : ℕ) (s : List ℕ) : T
   pub before-graph : m + n ≤ g
   pub stored : Stored pairs most n s g
   pub below : (i : ℕ) → i < n → word s (m + i) < pairs
-  pub fits : most + n < 4294967296
+  pub fits : most + n < word-limit
 
 pub record Matching-added (ends pairs most places g m n : ℕ) (s t : List ℕ) : Type 0 where
   pub graph : graph-at t ends pairs g ≡ add-matching (graph-at s ends pairs g) (matching-at s ends pairs m n)
@@ -148,7 +148,7 @@ pub record Removable (ends pairs most places g to m n : ℕ) (s : List ℕ) : Ty
   pub after-places : places + pairs ≤ m
   pub matching-below : m + n ≤ to
   pub inside : to + 2 + 2 * size s g ≤ length s
-  pub small : to + 2 + 2 * size s g ≤ 4294967296
+  pub small : to + 2 + 2 * size s g ≤ word-limit
   pub once : (i j : ℕ) → i < n → j < n → word s (m + i) ≡ word s (m + j) → i ≡ j
   pub present : (i : ℕ) → i < n → (j : ℕ) × (j < size s g) × (number s g j ≡ word s (m + i))
 

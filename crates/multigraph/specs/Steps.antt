@@ -6,7 +6,7 @@ use mathlib.Core.Logic.{_⊎_}
 use lib.Dec.{ltb}
 use lib.ListN.{length}
 use Rattle.words.specs.Basics.{pick}
-use Rattle.words.specs.Words.{word, put-word}
+use Rattle.words.specs.Words.{word, put-word, word-limit}
 use Rattle.multigraph.specs.Multigraph.{Pair, Graph, with-copies}
 use Rattle.multigraph.specs.Stored.{entry}
 use Rattle.multigraph.specs.Places.{size, number, copies-of, Laid, Stored}
@@ -29,7 +29,7 @@ pub record Writable (at value : ℕ → ℕ) (n rows places : ℕ) (s : List ℕ
   pub outside : (i e : ℕ) → i < n → e < rows → at i ≡ places + e → ⊥
   pub below : (i : ℕ) → i < n → word s (at i) < rows
   pub inside : places + rows ≤ length s
-  pub fits : (i : ℕ) → i < n → value i < 4294967296
+  pub fits : (i : ℕ) → i < n → value i < word-limit
 
 abbrev pub Writes : (ℕ → ℕ) → (ℕ → ℕ) → ℕ → ℕ → List ℕ → List ℕ → Type 0
 Writes at value n places s t =

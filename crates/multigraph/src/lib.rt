@@ -8,7 +8,7 @@
 ghost use mathlib.Core.Path.{_≡_};
 ghost use Prim.Native.Nat.{ℕ, _+_, _*_, _-_, _<_, _≤_};
 ghost use lib.ListN.{length, take, drop};
-ghost use Rattle.words.specs.Words.{word, «put-word»};
+ghost use Rattle.words.specs.Words.{word, «put-word», «word-limit»};
 ghost use Rattle.multigraph.specs.Places.{size, «copies-of», «Maps-places», «Adds-edge», «Adds-matching», «Removes-matching»};
 ghost use Rattle.multigraph.specs.Steps.{Writes, «less-of», «rest-words», «rest-next», «Copies-rest»};
 use words::EdgeIndex;
@@ -18,7 +18,7 @@ use words::put;
 
 // The end of pair `e` on one side: the first end (0) or the second (1).
 pub fn end_of(s: &[u32], ends: usize, side: usize, e: EdgeIndex) -> NodeIndex
-    requires { ⌜ (ends < 4294967296) × (side < 2) × (ends + 2 * e .0 + side < length (now s)) ⌝ }
+    requires { ⌜ (ends < word-limit) × (side < 2) × (ends + 2 * e .0 + side < length (now s)) ⌝ }
     ensures { λ r. ⌜ r .0 ≡ word (now (s .entry)) (ends + 2 * e .0 + side) ⌝ }
 {
     let i = e.0 as usize;
@@ -27,7 +27,7 @@ pub fn end_of(s: &[u32], ends: usize, side: usize, e: EdgeIndex) -> NodeIndex
 
 // Puts `x` into the map for the pair whose number stands at `at`.
 fn write_place(s: &mut [u32], places: usize, at: usize, x: usize)
-    requires { ⌜ places < 4294967296 ⌝ }
+    requires { ⌜ places < word-limit ⌝ }
     ensures { λ r. ⌜ now (s .exit) ≡ put-word (now (s .entry)) (places + word (now (s .entry)) at) x ⌝ }
 {
     let e = get(s, at);
@@ -36,9 +36,9 @@ fn write_place(s: &mut [u32], places: usize, at: usize, x: usize)
 
 // The `n` pairs whose numbers stand at `from` are absent.
 fn write_absent(s: &mut [u32], places: usize, from: usize, n: usize)
-    requires { ⌜ places < 4294967296 ⌝ }
-    requires { ⌜ from < 4294967296 ⌝ }
-    requires { ⌜ n < 4294967296 ⌝ }
+    requires { ⌜ places < word-limit ⌝ }
+    requires { ⌜ from < word-limit ⌝ }
+    requires { ⌜ n < word-limit ⌝ }
     ensures { λ r. ⌜ Writes (λ (i : ℕ). from + i) (λ (i : ℕ). 0) n places (now (s .entry)) (now (s .exit)) ⌝ }
 {
     let mut i = 0;
@@ -50,8 +50,8 @@ fn write_absent(s: &mut [u32], places: usize, from: usize, n: usize)
 
 // Each entry of the graph at `g` gets its place plus 1.
 fn write_places(s: &mut [u32], places: usize, g: usize)
-    requires { ⌜ places < 4294967296 ⌝ }
-    requires { ⌜ g < 4294967296 ⌝ }
+    requires { ⌜ places < word-limit ⌝ }
+    requires { ⌜ g < word-limit ⌝ }
     ensures { λ r. ⌜ Writes (λ (i : ℕ). g + 2 + 2 * i) (λ (i : ℕ). i + 1) (size (now (s .entry)) g) places (now (s .entry)) (now (s .exit)) ⌝ }
 {
     let m = get(s, g + 1);
@@ -65,10 +65,10 @@ fn write_places(s: &mut [u32], places: usize, g: usize)
 // Makes the map ready for the `n` keys at `keys`: each is absent, or stands at its place in the graph at `g`. Nothing else of
 // the map is cleared.
 pub fn map_places(s: &mut [u32], places: usize, g: usize, keys: usize, n: usize)
-    requires { ⌜ places < 4294967296 ⌝ }
-    requires { ⌜ g < 4294967296 ⌝ }
-    requires { ⌜ keys < 4294967296 ⌝ }
-    requires { ⌜ n < 4294967296 ⌝ }
+    requires { ⌜ places < word-limit ⌝ }
+    requires { ⌜ g < word-limit ⌝ }
+    requires { ⌜ keys < word-limit ⌝ }
+    requires { ⌜ n < word-limit ⌝ }
     ensures { λ r. ⌜ Maps-places places g keys n (now (s .entry)) (now (s .exit)) ⌝ }
 {
     write_absent(s, places, keys, n);
@@ -77,7 +77,7 @@ pub fn map_places(s: &mut [u32], places: usize, g: usize, keys: usize, n: usize)
 
 // Adds to the word at `at`.
 fn add_to(s: &mut [u32], at: usize, copies: usize)
-    requires { ⌜ copies < 4294967296 ⌝ }
+    requires { ⌜ copies < word-limit ⌝ }
     ensures { λ r. ⌜ now (s .exit) ≡ put-word (now (s .entry)) at (word (now (s .entry)) at + copies) ⌝ }
 {
     let c = get(s, at);
@@ -86,8 +86,8 @@ fn add_to(s: &mut [u32], at: usize, copies: usize)
 
 // A new entry, the last one of the graph at `g`, of which `m` stand there.
 fn push_entry(s: &mut [u32], g: usize, m: usize, e: EdgeIndex, copies: usize)
-    requires { ⌜ g < 4294967296 ⌝ }
-    requires { ⌜ m < 4294967296 ⌝ }
+    requires { ⌜ g < word-limit ⌝ }
+    requires { ⌜ m < word-limit ⌝ }
     ensures { λ r. ⌜ now (s .exit) ≡ put-word (put-word (put-word (now (s .entry)) (g + 2 + 2 * m) (e .0)) (g + 3 + 2 * m) copies) (g + 1) (m + 1) ⌝ }
 {
     let x = e.0 as usize;
@@ -105,9 +105,9 @@ pub fn add_edge(
     number: EdgeIndex,
     copies: usize,
 )
-    requires { ⌜ places < 4294967296 ⌝ }
-    requires { ⌜ g < 4294967296 ⌝ }
-    requires { ⌜ copies < 4294967296 ⌝ }
+    requires { ⌜ places < word-limit ⌝ }
+    requires { ⌜ g < word-limit ⌝ }
+    requires { ⌜ copies < word-limit ⌝ }
     ensures { λ r. ⌜ Adds-edge places g (key .0) (number .0) copies (now (s .entry)) (now (s .exit)) ⌝ }
 {
     let k = key.0 as usize;
@@ -123,8 +123,8 @@ pub fn add_edge(
 
 // One more copy of the pair whose number stands at `at`.
 fn add_number(s: &mut [u32], places: usize, g: usize, at: usize)
-    requires { ⌜ places < 4294967296 ⌝ }
-    requires { ⌜ g < 4294967296 ⌝ }
+    requires { ⌜ places < word-limit ⌝ }
+    requires { ⌜ g < word-limit ⌝ }
     ensures { λ r. ⌜ Adds-edge places g (word (now (s .entry)) at) (word (now (s .entry)) at) 1 (now (s .entry)) (now (s .exit)) ⌝ }
 {
     let e = get(s, at);
@@ -134,10 +134,10 @@ fn add_number(s: &mut [u32], places: usize, g: usize, at: usize)
 
 // `add_matching`: one copy more of each of the `n` pairs whose numbers stand at `m`.
 pub fn add_matching(s: &mut [u32], places: usize, g: usize, m: usize, n: usize)
-    requires { ⌜ places < 4294967296 ⌝ }
-    requires { ⌜ g < 4294967296 ⌝ }
-    requires { ⌜ m < 4294967296 ⌝ }
-    requires { ⌜ n < 4294967296 ⌝ }
+    requires { ⌜ places < word-limit ⌝ }
+    requires { ⌜ g < word-limit ⌝ }
+    requires { ⌜ m < word-limit ⌝ }
+    requires { ⌜ n < word-limit ⌝ }
     ensures { λ r. ⌜ Adds-matching places g m n (now (s .entry)) (now (s .exit)) ⌝ }
 {
     map_places(s, places, g, m, n);
@@ -150,9 +150,9 @@ pub fn add_matching(s: &mut [u32], places: usize, g: usize, m: usize, n: usize)
 
 // How many copies of entry `i`, whose number is `e`, stay: one goes where the map says absent.
 fn left_over(s: &[u32], places: usize, g: usize, i: usize, e: EdgeIndex) -> usize
-    requires { ⌜ places < 4294967296 ⌝ }
-    requires { ⌜ g < 4294967296 ⌝ }
-    requires { ⌜ i < 4294967296 ⌝ }
+    requires { ⌜ places < word-limit ⌝ }
+    requires { ⌜ g < word-limit ⌝ }
+    requires { ⌜ i < word-limit ⌝ }
     ensures { λ r. ⌜ r ≡ copies-of (now (s .entry)) g i - less-of (word (now (s .entry)) (places + e .0)) ⌝ }
 {
     let x = e.0 as usize;
@@ -170,11 +170,11 @@ fn left_over(s: &[u32], places: usize, g: usize, i: usize, e: EdgeIndex) -> usiz
 // Copies entry `i` of the graph at `g` to place `at` of the one at `to`, with what is left of it. Gives the next place: the
 // same one where nothing is left.
 fn rest_step(s: &mut [u32], places: usize, g: usize, to: usize, at: usize, i: usize) -> usize
-    requires { ⌜ places < 4294967296 ⌝ }
-    requires { ⌜ g < 4294967296 ⌝ }
-    requires { ⌜ to < 4294967296 ⌝ }
+    requires { ⌜ places < word-limit ⌝ }
+    requires { ⌜ g < word-limit ⌝ }
+    requires { ⌜ to < word-limit ⌝ }
     requires { ⌜ at ≤ i ⌝ }
-    requires { ⌜ i < 4294967296 ⌝ }
+    requires { ⌜ i < word-limit ⌝ }
     ensures { λ r. ⌜ (now (s .exit) ≡ rest-words places g to at i (now (s .entry))) × (r ≡ rest-next places g at i (now (s .entry))) ⌝ }
 {
     let e = get(s, g + 2 + 2 * i);
@@ -189,9 +189,9 @@ fn rest_step(s: &mut [u32], places: usize, g: usize, to: usize, at: usize, i: us
 
 // Copies the entries of the graph at `g` to `to`, each with what is left of it; gives how many there are then.
 fn copy_rest(s: &mut [u32], places: usize, g: usize, to: usize) -> usize
-    requires { ⌜ places < 4294967296 ⌝ }
-    requires { ⌜ g < 4294967296 ⌝ }
-    requires { ⌜ to < 4294967296 ⌝ }
+    requires { ⌜ places < word-limit ⌝ }
+    requires { ⌜ g < word-limit ⌝ }
+    requires { ⌜ to < word-limit ⌝ }
     ensures { λ r. ⌜ Copies-rest places g to (size (now (s .entry)) g) r (now (s .entry)) (now (s .exit)) ⌝ }
 {
     let m = get(s, g + 1);
@@ -206,11 +206,11 @@ fn copy_rest(s: &mut [u32], places: usize, g: usize, to: usize) -> usize
 
 // `remove_matching`: writes at `to` the graph at `g` without the `n` pairs whose numbers stand at `m`.
 pub fn remove_matching(s: &mut [u32], places: usize, g: usize, to: usize, m: usize, n: usize)
-    requires { ⌜ places < 4294967296 ⌝ }
-    requires { ⌜ g < 4294967296 ⌝ }
-    requires { ⌜ to < 4294967296 ⌝ }
-    requires { ⌜ m < 4294967296 ⌝ }
-    requires { ⌜ n < 4294967296 ⌝ }
+    requires { ⌜ places < word-limit ⌝ }
+    requires { ⌜ g < word-limit ⌝ }
+    requires { ⌜ to < word-limit ⌝ }
+    requires { ⌜ m < word-limit ⌝ }
+    requires { ⌜ n < word-limit ⌝ }
     ensures { λ r. ⌜ Removes-matching places g to m n (now (s .entry)) (now (s .exit)) ⌝ }
 {
     write_places(s, places, g);

@@ -1,16 +1,16 @@
 -- The functions of rings on the list of words, each with the same steps in the same order. Assumes nothing.
 use Prim.Native.Nat.{ℕ, zero, suc, _+_, _*_, _-_, _%_, _<_}
 use mathlib.Core.List.{List}
-use Rattle.words.specs.Words.{word, put-word}
+use Rattle.words.specs.Words.{word, put-word, word-limit}
 use Rattle.rings.specs.declared.Rings.{Rings}
 
 -- bases and sizes that leave room for sums of them
 pub record Fits (l : Rings) : Type 0 where
-  pub graph : l .g < 4294967296
-  pub table : l .ends < 4294967296
-  pub rings : l .b < 4294967296
+  pub graph : l .g < word-limit
+  pub table : l .ends < word-limit
+  pub rings : l .b < word-limit
   pub parties : l .top < 8589934592
-  pub columns : l .col < 4294967296
+  pub columns : l .col < word-limit
 
 -- the words, and how many of what is being written stand there
 pub record Counted : Type 0 where

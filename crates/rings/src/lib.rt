@@ -4,6 +4,7 @@
 // Ported from rustworkx-core, `euler_cycles` in bipartite_coloring.rs (Apache License 2.0, see NOTICE).
 ghost use mathlib.Core.Path.{_≡_};
 ghost use Prim.Native.Nat.{ℕ, _<_, _≤_};
+ghost use Rattle.words.specs.Words.{«word-limit»};
 ghost use Rattle.rings.specs.Model.{Fits, appendM, startRingM, startM, siftM, siftAllM, ringEndM, endsM, fillM};
 ghost use Rattle.rings.specs.Bounds.{Appends, Sifts, «Sifts-all», «Rings-end», «Fills-ends», Fills};
 use multigraph::end_of;
@@ -39,7 +40,7 @@ fn start_ring(s: &mut [u32], l: Rings, w: NodeIndex)
 
 // An empty ring for every party.
 fn start_rings(s: &mut [u32], l: Rings, parties: usize)
-    requires { ⌜ Fits l × (parties < 4294967296) ⌝ }
+    requires { ⌜ Fits l × (parties < word-limit) ⌝ }
     ensures { λ r. ⌜ now (s .exit) ≡ startM l parties (now (s .entry)) ⌝ }
 {
     let mut v = 0;
@@ -66,7 +67,7 @@ fn append(s: &mut [u32], l: Rings, w: NodeIndex, x: usize)
 // Entry i is noted in the stack's column, which the walk doesn't use yet, and its mark is cleared. The place counts on only
 // past an entry of odd copies, so that the next entry writes over the note of an even one: there is no branch on the parity.
 fn sift(s: &mut [u32], l: Rings, i: usize, odd: usize) -> usize
-    requires { ⌜ Fits l × (i < 4294967296) × (odd ≤ i) × Sifts l (now s) i odd ⌝ }
+    requires { ⌜ Fits l × (i < word-limit) × (odd ≤ i) × Sifts l (now s) i odd ⌝ }
     ensures { λ r. ⌜ record { words = now (s .exit); count = r } ≡ siftM l (record { words = now (s .entry); count = odd }) i ⌝ }
 {
     let c = word_at(s, l.g + 3 + 2 * i);
@@ -77,7 +78,7 @@ fn sift(s: &mut [u32], l: Rings, i: usize, odd: usize) -> usize
 
 // The entries of odd copies, oldest first; how many they are is returned.
 fn sift_all(s: &mut [u32], l: Rings, m: usize) -> usize
-    requires { ⌜ Fits l × (m < 4294967296) × Sifts-all l m (now s) ⌝ }
+    requires { ⌜ Fits l × (m < word-limit) × Sifts-all l m (now s) ⌝ }
     ensures { λ r. ⌜ (record { words = now (s .exit); count = r } ≡ siftAllM l m (now (s .entry))) × (r ≤ m) ⌝ }
 {
     let mut odd = 0;
@@ -91,7 +92,7 @@ fn sift_all(s: &mut [u32], l: Rings, m: usize) -> usize
 
 // The entry noted at the place j gets its half-edge in the ring of its end on one side.
 fn ring_end(s: &mut [u32], l: Rings, side: usize, j: usize)
-    requires { ⌜ Fits l × (side < 2) × (j < 4294967296) × Rings-end l side (now s) j ⌝ }
+    requires { ⌜ Fits l × (side < 2) × (j < word-limit) × Rings-end l side (now s) j ⌝ }
     ensures { λ r. ⌜ now (s .exit) ≡ ringEndM l side (now (s .entry)) j ⌝ }
 {
     let i = word_at(s, l.col + 2 * j);
@@ -104,7 +105,7 @@ fn ring_end(s: &mut [u32], l: Rings, side: usize, j: usize)
 
 // From the newest of the noted entries down.
 fn fill_ends(s: &mut [u32], l: Rings, side: usize, odd: usize)
-    requires { ⌜ Fits l × (side < 2) × (odd < 4294967296) × Fills-ends l side odd (now s) ⌝ }
+    requires { ⌜ Fits l × (side < 2) × (odd < word-limit) × Fills-ends l side odd (now s) ⌝ }
     ensures { λ r. ⌜ now (s .exit) ≡ endsM l side odd (now (s .entry)) ⌝ }
 {
     let mut k = odd;
@@ -116,7 +117,7 @@ fn fill_ends(s: &mut [u32], l: Rings, side: usize, odd: usize)
 
 // The rings of all parties: pairs where the party is first end, newest first, then those where it is second end.
 pub fn fill_rings(s: &mut [u32], l: Rings, m: usize, parties: usize)
-    requires { ⌜ Fits l × (m < 4294967296) × (parties < 4294967296) × Fills l m parties (now s) ⌝ }
+    requires { ⌜ Fits l × (m < word-limit) × (parties < word-limit) × Fills l m parties (now s) ⌝ }
     ensures { λ r. ⌜ now (s .exit) ≡ fillM l m parties (now (s .entry)) ⌝ }
 {
     start_rings(s, l, parties);

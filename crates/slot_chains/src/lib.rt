@@ -13,7 +13,7 @@
 ghost use mathlib.Core.Path.{_≡_};
 ghost use Prim.Native.Nat.{_+_, _*_, _<_, _≤_};
 ghost use lib.ListN.{length};
-ghost use Rattle.words.specs.Words.{word, «put-word»};
+ghost use Rattle.words.specs.Words.{word, «put-word», «word-limit»};
 ghost use Rattle.slot_chains.specs.Steps.{pushed, «matching-pushed», «all-pushed»};
 use multigraph::matching;
 use words::EdgeIndex;
@@ -22,7 +22,7 @@ use words::put;
 
 // The first link of pair `e`.
 pub fn first_link(s: &[u32], links: usize, e: EdgeIndex) -> usize
-    requires { ⌜ links < 4294967296 ⌝ }
+    requires { ⌜ links < word-limit ⌝ }
     ensures { λ r. ⌜ r ≡ word (now (s .entry)) (links + e .0) ⌝ }
 {
     let i = e.0 as usize;
@@ -31,7 +31,7 @@ pub fn first_link(s: &[u32], links: usize, e: EdgeIndex) -> usize
 
 // Makes `link` the first link of pair `e`.
 pub fn set_first_link(s: &mut [u32], links: usize, e: EdgeIndex, link: usize)
-    requires { ⌜ links < 4294967296 ⌝ }
+    requires { ⌜ links < word-limit ⌝ }
     ensures { λ r. ⌜ now (s .exit) ≡ put-word (now (s .entry)) (links + e .0) link ⌝ }
 {
     let i = e.0 as usize;
@@ -51,10 +51,10 @@ fn pair_in(s: &[u32], n: usize, out: usize, slot: usize, j: usize) -> EdgeIndex
 // Pair `j` of matching `slot` has this slot, too: a new first link, which leads to the pair's lower slots. The word that held its
 // number holds the next link from now on.
 fn push_slot(s: &mut [u32], n: usize, out: usize, links: usize, slot: usize, j: usize)
-    requires { ⌜ out < 4294967296 ⌝ }
-    requires { ⌜ links < 4294967296 ⌝ }
-    requires { ⌜ slot < 4294967296 ⌝ }
-    requires { ⌜ n * slot + n < 4294967296 ⌝ }
+    requires { ⌜ out < word-limit ⌝ }
+    requires { ⌜ links < word-limit ⌝ }
+    requires { ⌜ slot < word-limit ⌝ }
+    requires { ⌜ n * slot + n < word-limit ⌝ }
     requires { ⌜ out + n * slot + n ≤ length (now s) ⌝ }
     requires { ⌜ j < n ⌝ }
     ensures { λ r. ⌜ now (s .exit) ≡ pushed out links slot (n * slot + j) (now (s .entry)) ⌝ }
@@ -68,10 +68,10 @@ fn push_slot(s: &mut [u32], n: usize, out: usize, links: usize, slot: usize, j: 
 
 // This slot for each pair of its matching.
 fn push_matching(s: &mut [u32], n: usize, out: usize, links: usize, slot: usize)
-    requires { ⌜ out < 4294967296 ⌝ }
-    requires { ⌜ links < 4294967296 ⌝ }
-    requires { ⌜ slot < 4294967296 ⌝ }
-    requires { ⌜ n * slot + n < 4294967296 ⌝ }
+    requires { ⌜ out < word-limit ⌝ }
+    requires { ⌜ links < word-limit ⌝ }
+    requires { ⌜ slot < word-limit ⌝ }
+    requires { ⌜ n * slot + n < word-limit ⌝ }
     requires { ⌜ out + n * slot + n ≤ length (now s) ⌝ }
     ensures { λ r. ⌜ now (s .exit) ≡ matching-pushed n out links slot n (now (s .entry)) ⌝ }
 {
@@ -84,10 +84,10 @@ fn push_matching(s: &mut [u32], n: usize, out: usize, links: usize, slot: usize)
 
 // The matchings from the lowest slot up, so that each pair's highest slot comes to stand first.
 pub fn push_all(s: &mut [u32], n: usize, d: usize, out: usize, links: usize)
-    requires { ⌜ out < 4294967296 ⌝ }
-    requires { ⌜ links < 4294967296 ⌝ }
-    requires { ⌜ d < 4294967296 ⌝ }
-    requires { ⌜ n * d < 4294967296 ⌝ }
+    requires { ⌜ out < word-limit ⌝ }
+    requires { ⌜ links < word-limit ⌝ }
+    requires { ⌜ d < word-limit ⌝ }
+    requires { ⌜ n * d < word-limit ⌝ }
     requires { ⌜ out + n * d ≤ length (now s) ⌝ }
     ensures { λ r. ⌜ now (s .exit) ≡ all-pushed n out links d (now (s .entry)) ⌝ }
 {

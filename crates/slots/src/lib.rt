@@ -8,7 +8,7 @@
 ghost use mathlib.Core.Path.{_≡_};
 ghost use Prim.Native.Nat.{_+_, _*_, _<_, _≤_};
 ghost use lib.ListN.{length};
-ghost use Rattle.words.specs.Words.{word};
+ghost use Rattle.words.specs.Words.{word, «word-limit»};
 ghost use Rattle.slots.specs.Stored.{«Gives-slots»};
 ghost use Rattle.slot_chains.specs.Steps.{«taken-words», «taken-slots», «given-words», «given-slots»};
 use slot_chains::first_link;
@@ -28,8 +28,8 @@ fn pair_at(s: &[u32], at: usize) -> EdgeIndex
 
 // The pair whose number stands at `at` gives its first link's slot to appointment `i`, and goes on to its next link.
 fn take_slot(s: &mut [u32], slots: &mut [u16], out: usize, links: usize, at: usize, i: usize)
-    requires { ⌜ out < 4294967296 ⌝ }
-    requires { ⌜ links < 4294967296 ⌝ }
+    requires { ⌜ out < word-limit ⌝ }
+    requires { ⌜ links < word-limit ⌝ }
     ensures { λ r. ⌜ (now (s .exit) ≡ taken-words out links at (now (s .entry))) × (now (slots .exit) ≡ taken-slots links at i (now (s .entry)) (now (slots .entry))) ⌝ }
 {
     let e = pair_at(s, at);
@@ -48,9 +48,9 @@ fn take_all(
     pair_numbers: usize,
     links: usize,
 )
-    requires { ⌜ out < 4294967296 ⌝ }
-    requires { ⌜ «pair_numbers» + a < 4294967296 ⌝ }
-    requires { ⌜ links < 4294967296 ⌝ }
+    requires { ⌜ out < word-limit ⌝ }
+    requires { ⌜ «pair_numbers» + a < word-limit ⌝ }
+    requires { ⌜ links < word-limit ⌝ }
     ensures { λ r. ⌜ (now (s .exit) ≡ given-words out «pair_numbers» links 0 a (now (s .entry))) × (now (slots .exit) ≡ given-slots out «pair_numbers» links 0 a (now (s .entry)) (now (slots .entry))) ⌝ }
 {
     let mut i = 0;
@@ -73,12 +73,12 @@ pub fn give_slots(
     pair_numbers: usize,
     links: usize,
 )
-    requires { ⌜ d < 4294967296 ⌝ }
-    requires { ⌜ n * d < 4294967296 ⌝ }
+    requires { ⌜ d < word-limit ⌝ }
+    requires { ⌜ n * d < word-limit ⌝ }
     requires { ⌜ out + n * d ≤ length (now s) ⌝ }
-    requires { ⌜ out < 4294967296 ⌝ }
-    requires { ⌜ «pair_numbers» + a < 4294967296 ⌝ }
-    requires { ⌜ links < 4294967296 ⌝ }
+    requires { ⌜ out < word-limit ⌝ }
+    requires { ⌜ «pair_numbers» + a < word-limit ⌝ }
+    requires { ⌜ links < word-limit ⌝ }
     ensures { λ r. ⌜ Gives-slots a n d out «pair_numbers» links (now (s .entry)) (now (slots .entry)) (now (s .exit)) (now (slots .exit)) ⌝ }
 {
     push_all(s, n, d, out, links);

@@ -4,6 +4,7 @@
 // Ported from rustworkx-core, `rbmg_split_into_two` in bipartite_coloring.rs (Apache License 2.0, see NOTICE).
 ghost use mathlib.Core.Path.{_≡_};
 ghost use Prim.Native.Nat.{ℕ, _+_, _*_, _<_, _≤_};
+ghost use Rattle.words.specs.Words.{«word-limit»};
 ghost use Rattle.rings.specs.Model.{Fits};
 ghost use Rattle.splitting.specs.Model.{splitM};
 ghost use Rattle.splitting.specs.Bounds.{«Split-fits»};
@@ -17,7 +18,7 @@ mod halves; // halves.rt: what the walk gives to each half
 
 // The rings, the walk along them, and both halves from what it has written.
 fn split_words(s: &mut [u32], l: Rings, first: usize, second: usize, m: usize, parties: usize)
-    requires { ⌜ Fits l × (first < 4294967296) × (second < 4294967296) × (m < 4294967296) × (parties < 4294967296)
+    requires { ⌜ Fits l × (first < word-limit) × (second < word-limit) × (m < word-limit) × (parties < word-limit)
         × Split-fits l first second m parties (now s) ⌝ }
     ensures { λ r. ⌜ now (s .exit) ≡ splitM l first second m parties (now (s .entry)) ⌝ }
 {

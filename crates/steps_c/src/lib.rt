@@ -1,6 +1,7 @@
 // Single steps of the planner, exported so that the host can hold them beside the Rust's. No part of the product.
 ghost use mathlib.Core.Path.{_≡_};
 ghost use Prim.Native.Nat.{_%_, _+_, _*_};
+ghost use Rattle.words.specs.Words.{«word-limit»};
 ghost use Rattle.steps_c.specs.Compared.{«Two-colored», «refusal-number»};
 ghost use Rattle.euler.specs.Room.{Splits, «Halves-stored»};
 use appointments::Answered;
@@ -16,7 +17,7 @@ pub struct TwoColorAnswer {
 
 // The answer to a list that a check refuses: its number.
 fn refused(checked: Answered) -> TwoColorAnswer
-    ensures { λ r. ⌜ (r .left ≡ 0) × (r .number ≡ refusal-number checked % 4294967296) ⌝ }
+    ensures { λ r. ⌜ (r .left ≡ 0) × (r .number ≡ refusal-number checked % word-limit) ⌝ }
 {
     match checked {
         Answered::Accepted(_) => TwoColorAnswer { number: 0, left: 0 },

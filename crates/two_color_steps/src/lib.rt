@@ -16,7 +16,7 @@
 ghost use mathlib.Core.Path.{_≡_};
 ghost use Prim.Native.Nat.{_+_, _*_, _/_, _<_, _≤_};
 ghost use lib.ListN.{length};
-ghost use Rattle.words.specs.Words.{word};
+ghost use Rattle.words.specs.Words.{word, «word-limit»};
 ghost use Rattle.two_color_steps.specs.Model.{Small, appendM, clearStateM, startPartyM, startPartiesM, pushEndM, fillRowsM, colorPartyM, touchM, lookM, touchAllM, takeOffM, nextPartyM, stepM, stepsM, prepareM};
 ghost use Rattle.two_color_steps.specs.Bounds.{«Can-append», «Can-push», «Can-fill», «Can-prepare», «Can-color-party», «Can-touch», «Can-look», «Can-look-all», «Can-take-off», «Can-go-on», «Can-step», «Can-step-all»};
 use words::NodeIndex;
@@ -51,7 +51,7 @@ fn clear_state(s: &mut [u32], u: usize, p: usize)
 // A party without a colour and with an empty row.
 fn start_party(s: &mut [u32], u: usize, p: usize, d: usize, w: NodeIndex)
     requires { ⌜ Small u p ⌝ }
-    requires { ⌜ d * w .0 < 4294967296 ⌝ }
+    requires { ⌜ d * w .0 < word-limit ⌝ }
     ensures { λ r. ⌜ now (s .exit) ≡ startPartyM u p d (w .0) (now (s .entry)) ⌝ }
 {
     let v = w.0 as usize;
@@ -170,7 +170,7 @@ fn touch_all(s: &mut [u32], u: usize, p: usize, w: NodeIndex)
 // The last party on a stack of `h` comes off.
 fn take_off(s: &mut [u32], u: usize, p: usize, h: usize)
     requires { ⌜ Small u p ⌝ }
-    requires { ⌜ (0 < h) × (h < 4294967296) ⌝ }
+    requires { ⌜ (0 < h) × (h < word-limit) ⌝ }
     requires { ⌜ Can-take-off u p h (now s) ⌝ }
     ensures { λ r. ⌜ now (s .exit) ≡ takeOffM u p h (now (s .entry)) ⌝ }
 {

@@ -3,7 +3,7 @@ use Prim.Native.Nat.{ℕ, _+_, _*_, _-_, _/_, _%_, _≤_}
 use mathlib.Core.List.{List}
 use lib.Dec.{eqb, ltb, leb}
 use Rattle.words.specs.Basics.{pick, iterate}
-use Rattle.words.specs.Words.{word, put-word}
+use Rattle.words.specs.Words.{word, put-word, word-limit}
 use Rattle.words.specs.declared.NodeIndex.{NodeIndex}
 use Rattle.rings.specs.declared.Rings.{Rings}
 use Rattle.walking.specs.declared.Walk.{Walk}
@@ -15,7 +15,7 @@ party v = record { 0 = v }
 -- the numbers of a walk are small
 pub record Small (k : ℕ) (w : Walk) : Type 0 where
   pub next : w .next .0 ≤ k
-  pub at : w .at .0 ≤ k + 4294967296
+  pub at : w .at .0 ≤ k + word-limit
   pub height : w .height ≤ k
   pub written : w .written ≤ k
 

@@ -4,6 +4,7 @@
 // Ported from rustworkx-core, `euler_cycles` in bipartite_coloring.rs (Apache License 2.0, see NOTICE).
 ghost use mathlib.Core.Path.{_≡_};
 ghost use Prim.Native.Nat.{ℕ, _+_, _*_, _<_};
+ghost use Rattle.words.specs.Words.{«word-limit»};
 ghost use Rattle.rings.specs.Model.{Fits};
 ghost use Rattle.walking.specs.Model.{Stage, Small, popM, unlinkM, takeM, backM, stuckM, stepM, walkM, begun};
 ghost use Rattle.walking.specs.Bounds.{Pops, Unlinks, Takes, Backs, Steps, Walks};
@@ -22,7 +23,7 @@ pub struct Walk {
 
 // The first half-edge x of a ring goes out of it; z is the party's node.
 fn pop(s: &mut [u32], l: Rings, z: usize, x: usize)
-    requires { ⌜ Fits l × (z < 274877906944) × (x < 4294967296) × Pops l (now s) z x ⌝ }
+    requires { ⌜ Fits l × (z < 274877906944) × (x < word-limit) × Pops l (now s) z x ⌝ }
     ensures { λ r. ⌜ now (s .exit) ≡ popM l (now (s .entry)) z x ⌝ }
 {
     let q = word_at(s, l.b + 2 * x);
@@ -43,7 +44,7 @@ fn unlink(s: &mut [u32], l: Rings, x: usize)
 
 // The first half-edge x of the party at which the walk stands is taken and followed; its mate goes too.
 fn take(s: &mut [u32], l: Rings, w: Walk, x: usize) -> Walk
-    requires { ⌜ Fits l × Small 68719476736 w × (x < 4294967296) × Takes l (now s) w x ⌝ }
+    requires { ⌜ Fits l × Small 68719476736 w × (x < word-limit) × Takes l (now s) w x ⌝ }
     ensures { λ r. ⌜ record { words = now (s .exit); walk = r } ≡ takeM l (now (s .entry)) w x ⌝ }
 {
     let v = w.at.0 as usize;
@@ -78,7 +79,7 @@ fn step_back(s: &mut [u32], l: Rings, w: Walk) -> Walk
 
 // Stuck: back, or on to the next party.
 fn stuck(s: &mut [u32], l: Rings, w: Walk) -> Walk
-    requires { ⌜ Fits l × Small 68719476736 w × (w .next .0 + 1 < 4294967296) × (0 < w .height → Backs l (now s) w) ⌝ }
+    requires { ⌜ Fits l × Small 68719476736 w × (w .next .0 + 1 < word-limit) × (0 < w .height → Backs l (now s) w) ⌝ }
     ensures { λ r. ⌜ record { words = now (s .exit); walk = r } ≡ stuckM l (now (s .entry)) w ⌝ }
 {
     if 0 < w.height {
@@ -95,7 +96,7 @@ fn stuck(s: &mut [u32], l: Rings, w: Walk) -> Walk
 
 // One step of the walk; past the last party nothing happens.
 fn walk_step(s: &mut [u32], l: Rings, parties: usize, w: Walk) -> Walk
-    requires { ⌜ Fits l × Small 68719476736 w × (parties < 4294967296) × (w .next .0 < parties → Steps l (now s) w) ⌝ }
+    requires { ⌜ Fits l × Small 68719476736 w × (parties < word-limit) × (w .next .0 < parties → Steps l (now s) w) ⌝ }
     ensures { λ r. ⌜ record { words = now (s .exit); walk = r } ≡ stepM l parties (record { words = now (s .entry); walk = w }) ⌝ }
 {
     let next = w.next.0 as usize;
@@ -114,7 +115,7 @@ fn walk_step(s: &mut [u32], l: Rings, parties: usize, w: Walk) -> Walk
 // `euler_cycles`: the walks from all parties, in number order, their places written one after the other. Each pair is taken
 // and written down once, so two steps for each pair and one for each party suffice.
 pub fn euler_cycles(s: &mut [u32], l: Rings, m: usize, parties: usize) -> usize
-    requires { ⌜ Fits l × (m < 4294967296) × (parties < 4294967296) × Walks l parties (2 * m + parties) (now s) ⌝ }
+    requires { ⌜ Fits l × (m < word-limit) × (parties < word-limit) × Walks l parties (2 * m + parties) (now s) ⌝ }
     ensures { λ r. ⌜ (now (s .exit) ≡ walkM l parties (2 * m + parties) (begun (now (s .entry))) .words)
         × (r ≡ walkM l parties (2 * m + parties) (begun (now (s .entry))) .walk .written) × (r < 68719476736) ⌝ }
 {

@@ -4,13 +4,17 @@ use Prim.Native.Nat.{ℕ, zero, suc, _+_, _%_}
 use mathlib.Core.List.{List, [], _∷_, _++_}
 use lib.ListN.{getD, set}
 
+-- A word is a number below this.
+abbrev pub word-limit : ℕ
+word-limit = 4294967296
+
 -- the word at i, and 0 past the end
 abbrev pub word : List ℕ → ℕ → ℕ
 word s i = getD s i 0
 
 -- x, cut to 32 bits, put at i; past the end nothing happens
 abbrev pub put-word : List ℕ → ℕ → ℕ → List ℕ
-put-word s i x = set s i (x % 4294967296)
+put-word s i x = set s i (x % word-limit)
 
 -- x, cut to 16 bits, put at i; past the end nothing happens
 abbrev pub put-word16 : List ℕ → ℕ → ℕ → List ℕ

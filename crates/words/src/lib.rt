@@ -4,7 +4,7 @@ ghost use mathlib.Core.Path.{_≡_};
 ghost use mathlib.Core.List.{_++_};
 ghost use Prim.Native.Nat.{ℕ, _+_, _<_, _≤_};
 ghost use lib.ListN.{length, replicate, drop};
-ghost use Rattle.words.specs.Words.{word, «put-word», «put-word16»};
+ghost use Rattle.words.specs.Words.{word, «put-word», «put-word16», «word-limit»};
 
 // A party's number.
 pub struct NodeIndex(pub u32);
@@ -14,7 +14,7 @@ pub struct EdgeIndex(pub u32);
 
 // The word at `i`, and 0 past the end.
 pub fn get(s: &[u32], i: usize) -> usize
-    ensures { λ r. ⌜ (r ≡ word (now (s .entry)) i) × (r < 4294967296) ⌝ }
+    ensures { λ r. ⌜ (r ≡ word (now (s .entry)) i) × (r < word-limit) ⌝ }
 {
     if i < s.len() {
         let x = s[i];
@@ -55,7 +55,7 @@ pub fn put16(s: &mut [u16], i: usize, x: usize)
 // The word at `i`, which is a place: no test.
 pub fn word_at(s: &[u32], i: usize) -> usize
     requires { ⌜ i < length (now s) ⌝ }
-    ensures { λ r. ⌜ (r ≡ word (now (s .entry)) i) × (r < 4294967296) ⌝ }
+    ensures { λ r. ⌜ (r ≡ word (now (s .entry)) i) × (r < word-limit) ⌝ }
 {
     let x = s[i];
     x as usize
