@@ -1,10 +1,10 @@
--- The model of `push_slot`; one turn of each loop's model, and where it stops. Assumes nothing.
-use Prim.Native.Nat.{ℕ, suc, _+_, _*_, _-_, _<_, _≤_}
+-- The models of `push_slot` and `take_slot`; one turn of each loop's model, and where it stops. Assumes nothing.
+use Prim.Native.Nat.{ℕ, suc, _+_, _*_, _-_, _/_, _%_, _<_, _≤_}
 use mathlib.Core.Path.{_≡_}
 use mathlib.Core.List.{List}
 use native.Mathlib.Omega.{arith}
 use native.Mathlib.Numerals.{add-one}
-use Rattle.words.specs.Words.{word, put-word}
+use Rattle.words.specs.Words.{word, put-word, put-word16}
 use Rattle.slot_chains.specs.Steps.{pushed, matching-pushed, all-pushed, taken-words, taken-slots, given-words, given-slots}
 
 -- what `push_slot` reads and writes, one after the other, is its model
@@ -13,6 +13,20 @@ pub push-is :
     s₁ ≡ put-word s (out + t) next → s₂ ≡ put-word s₁ (links + e) (slot * 16384 + t) → s₂ ≡ pushed out links slot t s
 unfolding pushed
 push-is out links slot t s number first held linked = rw (linked, held, first, number)
+
+-- and so for `take_slot`: the words
+pub take-is :
+    (out links at : ℕ) (s : List ℕ) {e first next : ℕ} {t : List ℕ} → e ≡ word s at → first ≡ word s (links + e) →
+    next ≡ word s (out + first % 16384) → t ≡ put-word s (links + e) next → t ≡ taken-words out links at s
+unfolding taken-words
+take-is out links at s number linked on put = rw (put, on, linked, number)
+
+-- and the slots
+pub slot-is :
+    (links at i : ℕ) (s slots : List ℕ) {e first : ℕ} {after : List ℕ} → e ≡ word s at → first ≡ word s (links + e) →
+    after ≡ put-word16 slots i (first / 16384) → after ≡ taken-slots links at i s slots
+unfolding taken-slots
+slot-is links at i s slots number linked put = rw (put, linked, number)
 
 pub matching-pushed-more :
     (n out links slot j : ℕ) (s : List ℕ) →

@@ -6,7 +6,11 @@ use Rattle.two_color_steps.proofs.append.Tie as tie
 
 returns : tie.Need-returns
 unfolding appendM
-returns c = cc
+returns c =
+    let counted = c .before .before in
+    let put = counted .before .before .before .before in
+    let count = put .before .before in
+    rw (counted .set-word2 .ensures, put .set-word .ensures, count .word-at .ensures .0)
 
 pub append-spec : {M : Type 1} → statement M
 append-spec =

@@ -23,12 +23,18 @@ append-requires-3 c κs =
 returns : tie.Need-returns
 returns c =
     let a = c .before .before .before .before .before .before .before .before .before .before .before .before .before .before .before .args in
-    cc (color-left (a .u) (a .p) (a .s .now) (a .w .0) (a .color) (c .before .before .before .before .if1 .taken))
+    let sided = c .before .before in
+    let stacked = sided .before .before .before .before .before in
+    let painted = stacked .before .before .before .before in
+    rw (color-left (a .u) (a .p) (a .s .now) (a .w .0) (a .color) (c .before .before .before .before .if1 .taken), sided .append2 .ensures, stacked .append .ensures, painted .set-word .ensures)
 
 returns-2 : tie.Need-returns-2
 returns-2 c =
     let a = c .before .before .before .before .before .before .before .before .before .before .before .before .before .before .before .args in
-    cc (color-right (a .u) (a .p) (a .s .now) (a .w .0) (a .color) (c .before .before .before .before .if1 .left))
+    let sided = c .before .before in
+    let stacked = sided .before .before .before .before .before in
+    let painted = stacked .before .before .before .before in
+    rw (color-right (a .u) (a .p) (a .s .now) (a .w .0) (a .color) (c .before .before .before .before .if1 .left), sided .append3 .ensures, stacked .append .ensures, painted .set-word .ensures)
 
 pub color-party-spec : {M : Type 1} → statement M
 color-party-spec =

@@ -12,7 +12,7 @@ touch-requires c κs =
 
 returns : tie.Need-returns
 unfolding lookM
-returns c = cc
+returns c = rw (c .before .before .touch .ensures, c .before .before .before .before .word-at .ensures .0)
 
 pub look-spec : {M : Type 1} → statement M
 look-spec = tie.close (tie.spec (λ c κs. search needs) (λ c. search needs) touch-requires (λ c. search needs) returns)

@@ -16,7 +16,12 @@ append-requires c κs =
 
 returns : tie.Need-returns
 unfolding pushEndM
-returns c = cc
+returns c =
+    let appended = c .before .before in
+    let row = appended .before .before in
+    let far = row .before .before in
+    let near = far .before in
+    rw (appended .append .ensures, row .word-at .ensures .0, far .word16-at2 .ensures .0, near .word16-at .ensures .0)
 
 pub push-end-spec : {M : Type 1} → statement M
 push-end-spec =

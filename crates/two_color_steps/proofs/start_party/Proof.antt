@@ -6,7 +6,11 @@ use Rattle.two_color_steps.proofs.start_party.Tie as tie
 
 returns : tie.Need-returns
 unfolding startPartyM
-returns c = cc
+returns c =
+    let third = c .before .before in
+    let second = third .before .before .before .before in
+    let first = second .before .before .before .before in
+    rw (third .put3 .ensures, second .put2 .ensures, first .put .ensures)
 
 pub start-party-spec : {M : Type 1} → statement M
 start-party-spec =

@@ -12,7 +12,11 @@ touch-all-requires c κs =
 
 returns : tie.Need-returns
 unfolding takeOffM
-returns c = cc
+returns c =
+    let touched = c .before .before in
+    let shorter = touched .before .before .before .before in
+    let last = shorter .before .before in
+    rw (touched .touch-all .ensures, shorter .put .ensures, last .get .ensures .0)
 
 pub take-off-spec : {M : Type 1} → statement M
 take-off-spec =

@@ -42,8 +42,11 @@ loop-again c =
 returns : tie.Need-returns Inv-loop μ-loop
 unfolding touchAllM
 returns c =
-    let e : c .before .loop .t ≡ c .before .before .before .before .get2 .result = omega arith in
-    cc
+    let row = c .before .before in
+    let n = row .before .before in
+    let color = n .before .before in
+    let e : c .before .loop .t ≡ n .get2 .result = omega arith in
+    rw (c .before .loop .inv .2, e, n .get2 .ensures .0, row .get3 .ensures .0, color .get .ensures .0)
 
 pub touch-all-spec : {M : Type 1} → statement M
 touch-all-spec =

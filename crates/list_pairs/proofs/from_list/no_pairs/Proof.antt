@@ -4,7 +4,7 @@ use Rattle.list_pairs.proofs.from_list.no_pairs.Statement.{statement}
 use Rattle.list_pairs.proofs.from_list.no_pairs.Tie as tie
 
 returns : tie.Need-returns
-returns c = cc
+returns c = rw (c .before .before .put2 .ensures, c .before .before .before .before .before .before .put .ensures)
 
 pub no-pairs-spec : {M : Type 1} → statement M
 no-pairs-spec = tie.close (tie.spec (λ c κs. search needs) (λ c. search needs) (λ c κs. search needs) (λ c. search needs) returns)
