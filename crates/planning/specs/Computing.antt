@@ -7,5 +7,5 @@ use Rattle.planning.specs.LowestFree.{lowest-from, lowest-free}
 use Rattle.planning.specs.Planning.{bipartite-edge-color, plan-answer, plan-slots, plan-scratch}
 
 unfoldable pub computing : Unit {0}
-unfolding TwoColor.computing GivenPartition.computing lowest-from lowest-free bipartite-edge-color plan-answer plan-slots plan-scratch
+unfolding Bipartition.computing GivenPartition.computing lowest-from lowest-free bipartite-edge-color plan-answer plan-slots plan-scratch
 computing = tt
