@@ -111,8 +111,8 @@ module _ (list : List ℕ) where
 pub cancelling-by-positions : Cancelling-by-positions
 cancelling-by-positions l D positions planned chosen =
     cancelling l D (at-positions list positions) planned (even-positions list positions) (
-      rw (entries list positions, ← all-entries list 0 A (omega arith))
-      (kept-map (entry list) (from 0 A) positions (chosen-kept A positions chosen))
+    rw (entries list positions, ← all-entries list 0 A (omega arith))
+    (kept-map (entry list) (from 0 A) positions (chosen-kept A positions chosen))
     )
   where
     list : List ℕ
