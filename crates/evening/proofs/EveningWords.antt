@@ -18,7 +18,7 @@ use Rattle.list_pairs.specs.Contract.{first-of, second-of}
 use Rattle.evening.specs.Contract.{Evened-out}
 use Rattle.list_pairs.specs.Adding.{plain-graph, Has-place}
 use Rattle.list_pairs.specs.Rows.{rows-from, Rows-fit, Rows-filled}
-use Rattle.evening.specs.Filling.{Step-taken, all-passed, left-full, none-right, right-full, both-short}
+use Rattle.evening.specs.Filling.{Step-taken, all-passed, left-full, none-right, right-full, both-short, Evens-at, Fill-small}
 use Rattle.words.proofs.Regions.{region-length}
 use Rattle.regular_graph.proofs.RegularLaws.{Evened, even-out-law}
 use Rattle.multigraph.proofs.TableLaws.{has-ends-new}
@@ -27,7 +27,6 @@ use Rattle.evening.proofs.StageWords.{start-sound, start-most, Stage, s
 use Rattle.evening.proofs.FillStage.{stage-fill}
 use Rattle.list_pairs.proofs.Listed.{listed-half}
 use Rattle.list_pairs.specs.declared.Bases.{Bases}
-use Rattle.evening.specs.Filling.{Evens-at, Fill-small}
 
 -- ── one step ──
 

@@ -20,7 +20,7 @@ use Rattle.list_pairs.specs.Contract.{first-of, second-of}
 use Rattle.list_pairs.specs.Adding.{plain-graph, Its-number, Pair-fits, Pair-added}
 use Rattle.list_pairs.specs.Rows.{rows-from, row, Rows-filled}
 use Rattle.list_pairs.specs.Ends.{Joins}
-use Rattle.evening.specs.Filling.{shortfall, Filled}
+use Rattle.evening.specs.Filling.{shortfall, Filled, Evens-at}
 use Rattle.regular_graph.proofs.StepLaws.{added-left, added-right, added-else, next-fill}
 use Rattle.multigraph.proofs.TableLaws.{Table-same, first-same, second-same, has-ends-new, has-ends-old}
 use Rattle.list_pairs.proofs.PlainLaws.{newest, Graph-kept, graph-kept, plain-kept, graph-kept-by}
@@ -28,7 +28,6 @@ use Rattle.list_pairs.proofs.RepsLaws.{half-of}
 use Rattle.evening.proofs.FillingWords.{Raised, raised}
 use Rattle.evening.proofs.StageWords.{Stage, Known, known}
 use Rattle.list_pairs.specs.declared.Bases.{Bases}
-use Rattle.evening.specs.Filling.{Evens-at}
 
 module _ (list : List ℕ) (d n : ℕ) (at : Bases) (u : ℕ) (first : List ℕ) (h : Evens-at list d n at u first) (s₁ : List ℕ)
     (x : Rows-filled list (rows-from (n + n) d u) (length list) first s₁) (E : Evening) (i j : ℕ) (s : List ℕ)

@@ -9,7 +9,6 @@ use lib.ListN.{length}
 use Rattle.words.specs.Basics.{All, ran}
 use Rattle.words.specs.Words.{word, region}
 use Rattle.appointments.specs.Appointments.{appts}
-use Rattle.words.specs.Words.{region}
 use Rattle.words.proofs.Regions.{region-same, region-length, region-front}
 use Rattle.multigraph.specs.Regular.{Partition}
 use Rattle.multigraph.specs.Stored.{graph-at}
@@ -21,7 +20,6 @@ use Rattle.matching.specs.Searched.{column, lefts, rights, Tabled}
 use Rattle.edge_color.specs.Room.{Colorable, Color-fits}
 use Rattle.regular_graph.specs.Evening.{add-appointments, padded, even-out}
 use Rattle.evening.specs.Contract.{Can-pad, Sides-padded, Can-even, Evened-out}
-use Rattle.multigraph.specs.Places.{Has-ends}
 use Rattle.list_pairs.specs.Contract.{Can-pair, Pairs-made}
 use Rattle.diagonal.specs.Contract.{Can-diagonal, Diagonal-set}
 use Rattle.regular_graph.proofs.Pairs.{Crosses, sound-list, degree-load}

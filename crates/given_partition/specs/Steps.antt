@@ -5,20 +5,18 @@ use mathlib.Core.Path.{_≡_}
 use mathlib.Core.List.{List, []}
 use lib.ListN.{length}
 use Rattle.words.specs.Basics.{ran}
-use Rattle.words.specs.Words.{word}
+use Rattle.words.specs.Words.{word, region}
 use Rattle.appointments.specs.Appointments.{appts, largest-load}
 use Rattle.appointments.specs.Answers.{over}
 use Rattle.appointments.specs.Checks.{passed, checks}
 use Rattle.appointments.specs.TwoSides.{Two-sides}
-use Rattle.words.specs.Words.{region}
 use Rattle.multigraph.specs.Stored.{graph-at}
-use Rattle.multigraph.specs.Places.{size}
+use Rattle.multigraph.specs.Places.{size, Has-ends}
 use Rattle.matching.specs.Searched.{lefts, rights}
 use Rattle.matching.specs.declared.Table.{Table}
 use Rattle.edge_color.specs.Room.{Color-fits}
 use Rattle.regular_graph.specs.Evening.{add-appointments, padded, even-out}
 use Rattle.list_pairs.specs.Contract.{first-of, second-of}
-use Rattle.multigraph.specs.Places.{Has-ends}
 use Rattle.given_partition.specs.GivenPartition.{bipartite-edge-color-given-partition}
 
 -- ── where things lie ──

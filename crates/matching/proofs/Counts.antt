@@ -15,7 +15,7 @@ use lib.Seq.{getD-take, getD-drop}
 use Rattle.words.specs.Basics.{pick, sum-below}
 use Rattle.words.specs.Words.{word}
 use Rattle.words.proofs.Sums.{sum-below-cong}
-use Rattle.words.proofs.PowersOfTwo.{two-pow}
+use Rattle.words.proofs.PowersOfTwo.{two-pow, log-up-law}
 use Rattle.multigraph.specs.Multigraph.{Graph}
 use Rattle.multigraph.specs.Stored.{entry, graph-at}
 use Rattle.multigraph.specs.Places.{size, number, copies-of}
@@ -23,7 +23,6 @@ use Rattle.multigraph.proofs.Spans.{graph-span, total-span}
 use Rattle.perfect_matching.specs.Matching.{flagged-pairs, flagged-copies}
 use Rattle.words.specs.PowersOfTwo.{log-up}
 use Rattle.matching.specs.Choosing.{flagged-by, flagged-entry, Whole, fewer, Chooses, Inside-both, Side-by-side}
-use Rattle.words.proofs.PowersOfTwo.{log-up-law}
 
 -- ── entry by entry ──
 

@@ -1,7 +1,7 @@
 -- `edge_color::rbmg_edge_color` meets its contract: a walk of its MIR, by hand, over the rules of `mark`.
 -- Assumes nothing.
-use mathlib.Core.Path.{_≡_, refl, subst, ap}
-use Prim.Native.Nat.{ℕ, _<_, _≤_, _^_, _+_, _*_, _-_}
+use mathlib.Core.Path.{_≡_, refl, subst, ap, _∙_}
+use Prim.Native.Nat.{ℕ, _<_, _≤_, _^_, _+_, _*_, _-_, _/_}
 use native.Mathlib.Omega.{arith}
 use mathlib.Core.List.{List, [], _∷_}
 use lib.ListN.{length}
@@ -42,7 +42,7 @@ use Rattle.mark.specs.declared.Mark.{Mark}
 use Rattle.mark.specs.Taking.{taken-more, given-back}
 use Rattle.mark.proofs.Lending.{Lent, mark-own, scratch-own, mark-val, scratch-val, calls-scratch-plain, calls-both-plain, both-callee, promise, MeetsAt, scratch-ref, mark-ref}
 use Rattle.mark.proofs.Marking.{Take, GiveBack, takes, gives-back, shown}
-use Rattle.mark.proofs.Walking.{lent-of, leaves, meets-at, Post, at-entry, unless}
+use Rattle.mark.proofs.Walking.{lent-of, leaves, meets-at, Post, at-entry, unless, differ}
 use Rattle.matching.specs.declared.Table.{Table}
 use Rattle.matching.proofs.Table as Table-T
 use Rattle.matching.proofs.Table.Laws as Table-T′
@@ -72,11 +72,8 @@ use Rattle.edge_color.proofs.rbmg_edge_color_when_power_of_two.Met as r
 use Rattle.mark.proofs.give_back.Symbol as give-back-def
 use Rattle.mark.proofs.give_back.Symbol.{name as #mark·give-back}
 use Rattle.mark.proofs.give_back.Met as give-back-thm
-use mathlib.Core.Path.{_∙_}
-use Prim.Native.Nat.{_-_, _/_}
 use native.Mathlib.Nat.{add-zero}
 use lib.Dec.{eqb→eq}
-use Rattle.mark.proofs.Walking.{differ}
 use Rattle.multigraph.specs.Places.{Adds-matching}
 use Rattle.euler.specs.Room.{Halves-stored}
 use Rattle.words.specs.PowersOfTwo.{log-up}

@@ -1,7 +1,7 @@
 -- `edge_color::rbmg_edge_color_when_power_of_two` meets its contract: a walk of its MIR, by hand, over the rules of `mark`.
 -- Assumes nothing.
-use mathlib.Core.Path.{_≡_, refl, subst, ap}
-use Prim.Native.Nat.{ℕ, _<_, _≤_, _^_, _+_, _*_}
+use mathlib.Core.Path.{_≡_, refl, subst, ap, _∙_}
+use Prim.Native.Nat.{ℕ, _<_, _≤_, _^_, _+_, _*_, _/_}
 use native.Mathlib.Omega.{arith}
 use mathlib.Core.List.{List, [], _∷_}
 use lib.ListN.{length}
@@ -40,7 +40,7 @@ use Rattle.mark.specs.declared.Mark.{Mark}
 use Rattle.mark.specs.Taking.{taken-more, given-back}
 use Rattle.mark.proofs.Lending.{Lent, mark-own, scratch-own, mark-val, scratch-val, calls-scratch-plain, calls-both-plain, both-callee, promise, MeetsAt, scratch-ref, mark-ref}
 use Rattle.mark.proofs.Marking.{Take, GiveBack, takes, gives-back, shown}
-use Rattle.mark.proofs.Walking.{lent-of, leaves, meets-at, Post, at-entry, unless}
+use Rattle.mark.proofs.Walking.{lent-of, leaves, meets-at, Post, at-entry, unless, differ}
 use Rattle.matching.proofs.read_matching as read-matching
 use Rattle.matching.proofs.read_matching.Symbol as read-matching-def
 use Rattle.matching.proofs.read_matching.Symbol.{name as #matching·read-matching}
@@ -55,11 +55,8 @@ use Rattle.splitting.proofs.rbmg_split_into_two.Met as rbmg-split-into-two-thm
 use Rattle.mark.proofs.give_back.Symbol as give-back-def
 use Rattle.mark.proofs.give_back.Symbol.{name as #mark·give-back}
 use Rattle.mark.proofs.give_back.Met as give-back-thm
-use mathlib.Core.Path.{_∙_}
-use Prim.Native.Nat.{_/_}
 use native.Mathlib.Nat.{add-zero}
 use lib.Dec.{eqb→eq}
-use Rattle.mark.proofs.Walking.{differ}
 use Rattle.euler.specs.Room.{Halves-stored}
 use Rattle.matching.specs.Searched.{Reads-matching}
 use Rattle.edge_color.specs.Room.{Power-fits, Power-colored}

@@ -1,7 +1,7 @@
 -- `edge_color::set_aside` meets its contract: a walk of its MIR, by hand, over the rules of `mark`.
 -- Assumes nothing.
 use mathlib.Core.Path.{_≡_, refl, ap}
-use Prim.Native.Nat.{ℕ, _<_, _≤_, _^_, _+_, _*_, _-_}
+use Prim.Native.Nat.{ℕ, _<_, _≤_, _^_, _+_, _*_, _-_, _%_}
 use native.Mathlib.Omega.{arith}
 use mathlib.Core.List.{List, [], _∷_}
 use lib.ListN.{length}
@@ -39,7 +39,7 @@ use Rattle.mark.specs.declared.Mark.{Mark}
 use Rattle.mark.specs.Taking.{taken-more}
 use Rattle.mark.proofs.Lending.{Lent, mark-own, scratch-own, mark-val, scratch-val, calls-scratch-plain, calls-both-plain, scratch-ref, mark-ref}
 use Rattle.mark.proofs.Marking.{Take, takes, shown}
-use Rattle.mark.proofs.Walking.{lent-of, leaves, meets, Post, at-entry, unless}
+use Rattle.mark.proofs.Walking.{lent-of, leaves, meets, Post, at-entry, unless, differ}
 use Rattle.matching.specs.declared.Table.{Table}
 use Rattle.matching.proofs.Table as Table-T
 use Rattle.matching.proofs.Table.Laws as Table-T′
@@ -54,9 +54,7 @@ use Rattle.edge_color.proofs.take_out as take-out
 use Rattle.edge_color.proofs.take_out.Symbol as take-out-def
 use Rattle.edge_color.proofs.take_out.Symbol.{name as #edge-color·take-out}
 use Rattle.edge_color.proofs.take_out.Met as take-out-thm
-use Prim.Native.Nat.{_-_, _%_}
 use lib.Dec.{eqb→eq}
-use Rattle.mark.proofs.Walking.{differ}
 use Rattle.multigraph.specs.Places.{Removes-matching}
 use Rattle.matching.specs.Searched.{Matching-found}
 use Rattle.edge_color.specs.Room.{Color-fits}

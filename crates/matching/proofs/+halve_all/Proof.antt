@@ -1,7 +1,7 @@
 -- `matching::halve_all` meets its contract: a walk of its MIR, by hand, over the rules of `mark`.
 -- Assumes nothing.
-use mathlib.Core.Path.{_≡_, refl, subst, ap}
-use Prim.Native.Nat.{ℕ, _<_, _≤_, _^_, _+_, _*_}
+use mathlib.Core.Path.{_≡_, refl, subst, ap, sym, _∙_}
+use Prim.Native.Nat.{ℕ, _<_, _≤_, _^_, _+_, _*_, _/_}
 use native.Mathlib.Omega.{arith}
 use mathlib.Core.List.{List, [], _∷_}
 use lib.ListN.{length}
@@ -49,8 +49,6 @@ use Rattle.matching.proofs.halve_once as halve-once
 use Rattle.matching.proofs.halve_once.Symbol as halve-once-def
 use Rattle.matching.proofs.halve_once.Symbol.{name as #matching·halve-once}
 use Rattle.matching.proofs.halve_once.Met as halve-once-thm
-use mathlib.Core.Path.{sym, _∙_}
-use Prim.Native.Nat.{_/_}
 use lib.Dec.{ltb→lt, nltb→le}
 use Rattle.matching.specs.Searched.{Can-halve-all, Halved, Halved-all}
 use Rattle.matching.proofs.HalvingWords.{halving-stops, halving-first, halving-rest, halving-ends}

@@ -1,7 +1,7 @@
 -- `matching::search` meets its contract: a walk of its MIR, by hand, over the rules of `mark`.
 -- Assumes nothing.
-use mathlib.Core.Path.{_≡_, refl, subst, ap}
-use Prim.Native.Nat.{ℕ, _<_, _≤_, _^_, _+_, _*_, _-_}
+use mathlib.Core.Path.{_≡_, refl, subst, ap, sym}
+use Prim.Native.Nat.{ℕ, _<_, _≤_, _^_, _+_, _*_, _-_, _/_}
 use native.Mathlib.Omega.{arith}
 use mathlib.Core.List.{List, [], _∷_}
 use lib.ListN.{length}
@@ -67,8 +67,6 @@ use Rattle.matching.proofs.flagged_left as flagged-left
 use Rattle.matching.proofs.flagged_left.Symbol as flagged-left-def
 use Rattle.matching.proofs.flagged_left.Symbol.{name as #matching·flagged-left}
 use Rattle.matching.proofs.flagged_left.Met as flagged-left-thm
-use mathlib.Core.Path.{sym}
-use Prim.Native.Nat.{_-_, _/_}
 use native.Mathlib.Nat.{mul-comm}
 use Rattle.multigraph.specs.Stored.{graph-at}
 use Rattle.perfect_matching.specs.Matching.{flagged-pairs}

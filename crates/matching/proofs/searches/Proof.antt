@@ -1,6 +1,6 @@
 -- `matching::searches` meets its contract: a walk of its MIR, by hand, over the rules of `mark`.
 -- Assumes nothing.
-use mathlib.Core.Path.{_≡_, refl, subst, ap}
+use mathlib.Core.Path.{_≡_, refl, subst, ap, sym, _∙_}
 use Prim.Native.Nat.{ℕ, _<_, _≤_, _^_, _+_, _*_}
 use mathlib.Core.List.{List, [], _∷_}
 use lib.ListN.{length}
@@ -38,7 +38,7 @@ use denote.Triple.Walked.{needs}
 use Rattle.mark.specs.declared.Mark.{Mark}
 use Rattle.mark.proofs.Lending.{Lent, mark-own, scratch-own, mark-val, scratch-val, calls-both-plain, scratch-ref, mark-ref}
 use Rattle.mark.proofs.Marking.{shown}
-use Rattle.mark.proofs.Walking.{lent-of, leaves, meets, Post, at-entry, unless}
+use Rattle.mark.proofs.Walking.{lent-of, leaves, meets, Post, at-entry, unless, differ}
 use Rattle.matching.specs.declared.Table.{Table}
 use Rattle.matching.proofs.Table as Table-T
 use Rattle.matching.proofs.Table.Laws as Table-T′
@@ -46,10 +46,8 @@ use Rattle.matching.proofs.search as search
 use Rattle.matching.proofs.search.Symbol as search-def
 use Rattle.matching.proofs.search.Symbol.{name as #matching·search}
 use Rattle.matching.proofs.search.Met as search-thm
-use mathlib.Core.Path.{sym, _∙_}
 use mathlib.Core.Bool.{true, false}
 use lib.Dec.{eqb→eq}
-use Rattle.mark.proofs.Walking.{differ}
 use Rattle.matching.specs.Searched.{Can-search, Search-done}
 use Rattle.matching.proofs.FindWords.{can-search-again, one-search, two-searches}
 use Rattle.matching.proofs.searches.Key.{name as #matching·searches}

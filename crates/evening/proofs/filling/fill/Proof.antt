@@ -1,8 +1,7 @@
 -- `evening::fill` meets its contract: the pair is found, gets the smaller shortfall, and both degrees grow. Assumes nothing.
 use mathlib.Core.Path.{_≡_}
-use Prim.Native.Nat.{_-_}
+use Prim.Native.Nat.{_-_, min}
 use native.Mathlib.Omega.{arith}
-use Prim.Native.Nat.{min}
 use Rattle.evening.proofs.FillingWords.{filled-by}
 use borrow.Author.Needs.{needs}
 use Rattle.evening.proofs.filling.fill.Statement.{statement}

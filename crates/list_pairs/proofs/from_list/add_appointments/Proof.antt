@@ -1,10 +1,9 @@
 -- `list_pairs::add_appointments` meets its contract: the appointments passed have their pairs; the measure is what is left of
 -- them. Assumes nothing.
 use mathlib.Core.Path.{_≡_, refl}
-use Prim.Native.Nat.{_-_, _≤_}
+use Prim.Native.Nat.{_-_, _≤_, _/_}
 use native.Mathlib.Omega.{arith}
 use lib.ListN.{length}
-use Prim.Native.Nat.{_/_}
 use Rattle.list_pairs.specs.FromList.{Building, Built}
 use Rattle.list_pairs.proofs.BuildingLaws.{built-none, built-more}
 use borrow.Author.Needs.{needs}

@@ -1,11 +1,10 @@
 -- `list_pairs::find_rep` meets its contract: the map has an earlier appointment with these ends, or this one is the first.
 -- Assumes nothing.
 use mathlib.Core.Path.{_≡_, _∙_, ap}
-use Prim.Native.Nat.{ℕ, _+_, _<_}
+use Prim.Native.Nat.{ℕ, _+_, _<_, _/_}
 use lib.ListN.{length}
 use Rattle.words.specs.Words.{word, put-word}
 use mathlib.Core.List.{List}
-use Prim.Native.Nat.{_/_}
 use Rattle.list_pairs.specs.Representatives.{mate, Finds}
 use Rattle.words.proofs.Frames.{length-put}
 use Rattle.list_pairs.proofs.RepsLaws.{rep-old, rep-new}
