@@ -5,8 +5,8 @@ use crate::bimtsure::{self, Plan};
 use crate::demand3;
 use crate::format::write_list;
 use crate::known;
-use crate::lent::Lent;
-use crate::list::{List, MOST_APPOINTMENTS, MOST_CELLS, MOST_PARTIES, MOST_WORDS};
+use crate::lent::{self, Lent};
+use crate::list::{List, MOST_APPOINTMENTS, MOST_CELLS, MOST_PARTIES};
 use crate::lists::Lists;
 use crate::random::Random;
 
@@ -55,12 +55,8 @@ pub fn show(count: usize, seed: u64) -> Result<(), String> {
 impl Caller {
     fn new(seed: u64) -> Caller {
         let mut random = Random::new(seed);
-        Caller {
-            slots: Lent::new(MOST_APPOINTMENTS + 1 + MOST_MORE, &mut random, |entry| entry as u16),
-            scratch: Lent::new(MOST_WORDS + MOST_MORE, &mut random, |entry| entry as u32),
-            counts: Counts::default(),
-            random,
-        }
+        let (slots, scratch) = lent::for_planning(MOST_MORE, &mut random);
+        Caller { random, slots, scratch, counts: Counts::default() }
     }
 
     /// Plans the list, and if it is accepted, choices of its appointments.
@@ -178,30 +174,32 @@ impl Counts {
 mod tests {
     use super::*;
 
+    /// A caller with buffers filled for this list, and their lengths.
+    fn filled_for(list: &List) -> (Caller, (usize, usize)) {
+        let (mut caller, lengths) = (Caller::new(1), (list.count(), list.scratch_words()));
+        caller.slots.fill(lengths.0, &mut Random::new(2));
+        caller.scratch.fill(lengths.1, &mut Random::new(3));
+        (caller, lengths)
+    }
+
     /// Document 02's reading: of two equal appointments both may be kept.
     #[test]
     fn equal_appointments_count_apart() {
-        let mut caller = Caller::new(1);
         let list = List::new(2, &[(0, 1), (0, 1)]);
-        let lengths = (2, list.scratch_words());
-        caller.slots.fill(lengths.0, &mut Random::new(2));
-        caller.scratch.fill(lengths.1, &mut Random::new(3));
+        let (mut caller, lengths) = filled_for(&list);
         assert_eq!(caller.plan(&list, lengths).d, 2);
-        for (positions, same_d) in [(vec![1, 0], 1), (vec![1], 1), (vec![], 1)] {
+        for positions in [vec![1, 0], vec![1], vec![]] {
             caller.keep(&list, 2, &positions, lengths).unwrap();
-            assert_eq!(caller.counts.same_d, same_d);
         }
-        assert_eq!((caller.counts.smaller_d, caller.counts.empty, caller.counts.reordered), (2, 1, 1));
+        let Counts { same_d, smaller_d, empty, reordered, .. } = caller.counts;
+        assert_eq!((same_d, smaller_d, empty, reordered), (1, 2, 1, 1));
     }
 
     /// A plan that did become longer would be told.
     #[test]
     fn a_longer_plan_is_told() {
-        let mut caller = Caller::new(1);
         let list = List::new(2, &[(0, 1), (0, 1)]);
-        let lengths = (2, list.scratch_words());
-        caller.slots.fill(lengths.0, &mut Random::new(2));
-        caller.scratch.fill(lengths.1, &mut Random::new(3));
+        let (mut caller, lengths) = filled_for(&list);
         assert!(caller.keep(&list, 1, &[0, 1], lengths).is_err());
     }
 }

@@ -1,5 +1,6 @@
 //! Memory that a call is lent: full of noise before, and held to what it must be afterwards, also behind the lent part.
 
+use crate::list::{MOST_APPOINTMENTS, MOST_WORDS};
 use crate::random::Random;
 
 /// Entries behind the lent ones, which nothing may write.
@@ -13,6 +14,12 @@ pub struct Lent<T> {
     stores: [Vec<T>; 2],
     before: (usize, usize),
     held: Vec<T>,
+}
+
+/// Slots and scratch for the planning call, up to so many entries or words longer than the longest that a list needs.
+pub fn for_planning(more: usize, random: &mut Random) -> (Lent<u16>, Lent<u32>) {
+    let slots = Lent::new(MOST_APPOINTMENTS + 1 + more, random, |entry| entry as u16);
+    (slots, Lent::new(MOST_WORDS + more, random, |entry| entry as u32))
 }
 
 impl<T: Copy + Default + PartialEq> Lent<T> {

@@ -7,8 +7,8 @@ use crate::bimtsure::{self, Plan};
 use crate::demand3;
 use crate::format::write_list;
 use crate::known::{self, Known, Told};
-use crate::lent::Lent;
-use crate::list::{List, Refusal, MOST_APPOINTMENTS, MOST_PARTIES, MOST_WORDS};
+use crate::lent::{self, Lent};
+use crate::list::{List, Refusal, MOST_APPOINTMENTS, MOST_PARTIES};
 use crate::lists::Lists;
 use crate::plan_counts::Counts;
 use crate::random::Random;
@@ -104,12 +104,8 @@ struct Caller {
 impl Caller {
     fn new(seed: u64) -> Caller {
         let mut random = Random::new(seed);
-        Caller {
-            slots: Lent::new(MOST_APPOINTMENTS + 1 + MOST_MORE, &mut random, |entry| entry as u16),
-            scratch: Lent::new(MOST_WORDS + MOST_MORE, &mut random, |entry| entry as u32),
-            counts: Counts::default(),
-            random,
-        }
+        let (slots, scratch) = lent::for_planning(MOST_MORE, &mut random);
+        Caller { random, slots, scratch, counts: Counts::default() }
     }
 
     /// One list with buffers of the exact length, and of other lengths too if asked. An error begins with the list.
