@@ -123,8 +123,7 @@ impl Caller {
 
 impl Counts {
     fn take(&mut self, list: &List, d: usize) {
-        let limit =
-            list.count() == MOST_APPOINTMENTS || list.parties == MOST_PARTIES || d * list.parties == MOST_CELLS;
+        let limit = list.count() == MOST_APPOINTMENTS || list.parties == MOST_PARTIES || d * list.parties == MOST_CELLS;
         self.lists += 1;
         self.at_a_limit += usize::from(limit);
     }
