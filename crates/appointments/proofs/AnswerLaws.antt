@@ -1,11 +1,13 @@
--- What an answer tells of its checks, and what a lent buffer holds after acceptance. Assumes nothing.
+-- What an answer tells of its checks, what a lent buffer holds after acceptance, and an answer of one figure from the enum by which
+-- code tells it to its numbers. Assumes nothing.
 use Prim.Native.Nat.{ℕ}
 use mathlib.Core.Path.{_≡_, refl}
 use mathlib.Core.List.{List, _++_}
 use native.Mathlib.Omega.{arith}
 use lib.ListN.{length, drop}
 use Rattle.appointments.specs.Checks.{Check}
-use Rattle.appointments.specs.Answers.{Answer, accepted, refused, answer, after}
+use Rattle.appointments.specs.Answers.{Answer, accepted, refused, answer, number-of, place-of, figure-of, after, answered-of}
+use Rattle.appointments.specs.declared.Answered.the-variants as answered
 
 module _ {F : Type 0} where
   -- no answer accepts and refuses; figures, number and place are those of the answer
@@ -39,3 +41,19 @@ module _ {F : Type 0} where
   -- and after a refusal
   pub after-refused : (a : Answer F) (number place : ℕ) (new buffer : List ℕ) → a ≡ refused number place → after a new buffer ≡ buffer
   after-refused a number place new buffer e = rw e
+
+-- ── an answer of one figure, from what was told to its numbers ──
+
+pub one-figure : (a : Answer ℕ) (n : ℕ) → answered-of a ≡ answered.Accepted n → a ≡ accepted n
+one-figure (accepted m) n e = cc
+one-figure (refused k i) n e = cc
+
+pub one-refusal : (a : Answer ℕ) (n i : ℕ) → answered-of a ≡ answered.Refused n i → a ≡ refused n i
+one-refusal (accepted m) n i e = cc
+one-refusal (refused k j) n i e = cc
+
+pub accepted-says : (a : Answer ℕ) (n : ℕ) → a ≡ accepted n → (0 ≡ number-of a) × ((0 ≡ place-of a) × (n ≡ figure-of a))
+accepted-says a n e = rw e (refl, (refl, refl))
+
+pub refused-says : (a : Answer ℕ) (n i : ℕ) → a ≡ refused n i → (n ≡ number-of a) × ((i ≡ place-of a) × (0 ≡ figure-of a))
+refused-says a n i e = rw e (refl, (refl, refl))

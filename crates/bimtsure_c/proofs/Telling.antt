@@ -1,28 +1,20 @@
--- From the enum that a call tells to the definitions' answer, and from that to its numbers. Assumes nothing.
+-- From the enum that a call of several figures tells to the definitions' answer, and from that to its numbers. (Of one figure:
+-- `AnswerLaws` of `appointments`.) Assumes nothing.
 use Prim.Native.Nat.{ℕ}
 use mathlib.Core.Path.{_≡_, refl}
 use Rattle.appointments.specs.Needed.{Needs, needing, needed-of, d-of, words-of}
 use Rattle.appointments.specs.declared.Needed.the-variants as needed
-use Rattle.appointments.specs.Answers.{Answer, accepted, refused, number-of, place-of, figure-of, answered-of}
+use Rattle.appointments.specs.Answers.{Answer, accepted, refused, number-of, place-of}
 use Rattle.filing.specs.Filed.{Header, header-of, parties-of, appointments-of}
 use Rattle.viewing.specs.Viewer.{Step, found, end}
 use Rattle.filing.specs.Told.{read-of}
 use Rattle.viewing.specs.Told.{opened-of, shown-of}
-use Rattle.appointments.specs.declared.Answered.the-variants as answered
 use Rattle.filing.specs.declared.Read.the-variants as read
 use Rattle.viewing.specs.declared.Opened.the-variants as opened
 use Rattle.viewing.specs.declared.Shown.{Shown}
 use Rattle.bimtsure_c.specs.Viewed.{if-open, found-of, position-of, slot-of, shown-found, shown-position, shown-slot, shown-next}
 
 -- ── the answer behind what was told ──
-
-pub one-figure : (a : Answer ℕ) (n : ℕ) → answered-of a ≡ answered.Accepted n → a ≡ accepted n
-one-figure (accepted m) n e = cc
-one-figure (refused k i) n e = cc
-
-pub one-refusal : (a : Answer ℕ) (n i : ℕ) → answered-of a ≡ answered.Refused n i → a ≡ refused n i
-one-refusal (accepted m) n i e = cc
-one-refusal (refused k j) n i e = cc
 
 pub needed-words : (a : Answer Needs) (D W : ℕ) → needed-of a ≡ needed.Words D W → a ≡ accepted (needing D W)
 needed-words (accepted h) D W e =
@@ -66,12 +58,6 @@ words-say a D W e = rw e (refl, (refl, (refl, refl)))
 
 pub needs-refused-say : (a : Answer Needs) (n i : ℕ) → a ≡ refused n i → Needs-say a n i 0 0
 needs-refused-say a n i e = rw e (refl, (refl, (refl, refl)))
-
-pub accepted-says : (a : Answer ℕ) (n : ℕ) → a ≡ accepted n → (0 ≡ number-of a) × ((0 ≡ place-of a) × (n ≡ figure-of a))
-accepted-says a n e = rw e (refl, (refl, refl))
-
-pub refused-says : (a : Answer ℕ) (n i : ℕ) → a ≡ refused n i → (n ≡ number-of a) × ((i ≡ place-of a) × (0 ≡ figure-of a))
-refused-says a n i e = rw e (refl, (refl, refl))
 
 pub read-says : (a : Answer Header) (P A : ℕ) → a ≡ accepted (header-of P A) → (0 ≡ number-of a) × (0 ≡ place-of a) × (P ≡ parties-of a) × (A ≡ appointments-of a)
 read-says a P A e = rw e (refl, refl, refl, refl)

@@ -7,7 +7,7 @@ use Rattle.appointments.specs.Lent.{lent}
 use Rattle.planning.specs.Planning.{plan-answer}
 use Rattle.planning.proofs.Demand3.{refusal-small}
 use Rattle.bimtsure_c.proofs.PlanNumbers.{told-planned, told-refused, refusal-by, planned-small}
-use Rattle.bimtsure_c.proofs.Telling.{accepted-says, refused-says}
+use Rattle.appointments.proofs.AnswerLaws.{accepted-says, refused-says}
 use borrow.Author.Needs.{needs}
 use Rattle.bimtsure_c.proofs.bimtsure_plan.Statement.{statement}
 use Rattle.bimtsure_c.proofs.bimtsure_plan.Tie as tie

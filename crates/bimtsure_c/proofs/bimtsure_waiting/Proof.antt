@@ -3,7 +3,7 @@ use mathlib.Core.Path.{_≡_, sym, _∙_}
 use native.Mathlib.Omega.{arith}
 use Rattle.appointments.specs.Answers.{accepted, refused}
 use Rattle.asking.specs.Waiting.{waiting-answer}
-use Rattle.bimtsure_c.proofs.Telling.{one-figure, one-refusal, accepted-says, refused-says}
+use Rattle.appointments.proofs.AnswerLaws.{one-figure, one-refusal, accepted-says, refused-says}
 use Rattle.bimtsure_c.proofs.Fitting.{waiting-fits, waiting-refusal-fits}
 use borrow.Author.Needs.{needs}
 use Rattle.bimtsure_c.proofs.bimtsure_waiting.Statement.{statement}

@@ -1,0 +1,4 @@
+pub mod Rising
+pub mod Numbers
+pub mod Telling
+pub mod ForthAndBack
