@@ -9,7 +9,7 @@ use std::{env, fs};
 const SOURCES: &str = "../docs/src/rustworkx-core/src";
 /// Where `rt staticlib` writes.
 const ARCHIVES: &str = "../target/staticlib";
-const LINKED: [&str; 2] = ["steps_c", "bimtsure_c"];
+const LINKED: [&str; 3] = ["steps_c", "bimtsure_c", "calendar_c"];
 
 /// The use lines of coloring.rs that `two_color` needs, by how they begin.
 const NEEDED_USES: [&str; 4] =

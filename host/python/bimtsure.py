@@ -44,6 +44,9 @@ CAUSES = {
     9: "a closed round of odd length: there are no two sides",
     12: "a filed plan has the wrong length",
     13: "an output is too short",
+    # by bimtsure_calendar.py
+    23: "a slot above 4,095",
+    24: "a time that is none of the sixteen, or a day above 255",
 }
 
 
@@ -182,27 +185,25 @@ _CALLS = {
 }
 
 
-def _load():
+def _load(file, variable, calls):
+    """The library of that name, with its calls declared; or the one that a variable of the environment names."""
     here = os.path.dirname(os.path.abspath(__file__))
-    places = [
-        os.path.join(here, "libbimtsure.so"),
-        os.path.join(here, "..", "..", "target", "staticlib", "libbimtsure.so"),
-    ]
-    named = os.environ.get("BIMTSURE_LIBRARY")
+    places = [os.path.join(here, file), os.path.join(here, "..", "..", "target", "staticlib", file)]
+    named = os.environ.get(variable)
     if named:
         places = [named]
     path = next((place for place in places if os.path.exists(place)), None)
     if path is None:
-        raise ImportError(f"libbimtsure.so is not at {' or '.join(places)}: host/library writes it")
+        raise ImportError(f"{file} is not at {' or '.join(places)}: host/library writes it")
     library = ctypes.CDLL(path)
-    for name, (answer, parameters) in _CALLS.items():
+    for name, (answer, parameters) in calls.items():
         function = getattr(library, name)
         function.restype = answer
         function.argtypes = [kind for _, kind in parameters]
     return library
 
 
-_library = _load()
+_library = _load("libbimtsure.so", "BIMTSURE_LIBRARY", _CALLS)
 
 
 def plan(parties, appointments):

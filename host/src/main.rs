@@ -5,7 +5,9 @@
 mod answer;
 mod bench;
 mod bimtsure;
+mod bimtsure_calendar;
 mod bytes;
+mod calendar;
 mod cancel;
 mod definitions;
 mod demand3;
@@ -93,9 +95,12 @@ bimtsure-host plan COUNT SEED
 bimtsure-host cancel COUNT SEED
     plan the lists that papers name and COUNT random ones, and choices of their appointments in random order, with the same P and
     buffers: each must be accepted with a D that is no larger; from 1000 lists on, fails if a kind of choice never came
+bimtsure-host calendar
+    compare our days and times of slots, and the way back, with calendar.rs: every slot and the sixteen times of every day that
+    16 bits hold, and all bytes of hours and minutes on the days 0 to 300; fails if one of the numbers 0, 23 and 24 never came
 bimtsure-host guard COUNT SEED
-    make every exported call between unreadable pages, and with NULL for slices of no entries, in COUNT rounds of random and
-    of damaged input; from 1000 rounds on, fails if a call never gave one of its numbers
+    make every exported call that is lent slices between unreadable pages, and with NULL for those of no entries, in COUNT
+    rounds of random and of damaged input; from 1000 rounds on, fails if a call never gave one of its numbers
 bimtsure-host bytes SECONDS SEED
     throw bytes, which SEED decides, at the program and at reading a filed plan for so long: lists, damaged ones and noise; each
     must end with the answer of main_text.rs or desk.rs, or its bytes are printed; from 60 seconds on, each kind of answer must
@@ -106,7 +111,7 @@ bimtsure-host pieces
 bimtsure-host bench
     time our planning call beside the Rust on the same lists
 bimtsure-host stack
-    measure how much stack each exported call and the program need; fails if one needs more than host/include/bimtsure.h and
+    measure how much stack each exported call and the program need; fails if one needs more than the headers in host/include and
     docs/PROVED.md promise; from the repository's root, after `rt check bimtsure`
 bimtsure-host stored COUNT SEED [MOST]
     print the small lists that papers name and COUNT random ones of at most MOST (3 to 4096) appointments (if not given, 40),
@@ -131,6 +136,7 @@ fn main() -> ExitCode {
         ["needs", count, seed] => compare(needs::compare, count, seed),
         ["plan", count, seed] => compare(plan::compare, count, seed),
         ["cancel", count, seed] => compare(cancel::show, count, seed),
+        ["calendar"] => calendar::compare(),
         ["guard", count, seed] => compare(guard::run, count, seed),
         ["bytes", seconds, seed] => compare(bytes::throw, seconds, seed),
         ["pieces"] => pieces::check(),

@@ -3,6 +3,7 @@
 //! frames above the call count with it. The program runs with less and less stack, until it no longer answers.
 
 use crate::bimtsure;
+use crate::bimtsure_calendar::{self, LAST_DAY, LAST_SLOT};
 use crate::bytes::PROGRAM;
 use crate::known;
 use crate::list::{List, MOST_APPOINTMENTS, MOST_CELLS, MOST_PARTIES};
@@ -16,7 +17,7 @@ use std::io::Write;
 use std::path::Path;
 use std::process::{Command, Output, Stdio};
 
-/// The exported calls: the KiB of stack that host/include/bimtsure.h promises to be enough for each, and how it is called.
+/// The exported calls: the KiB of stack that the headers in host/include promise to be enough for each, and how it is called.
 const CALLS: &[(&str, usize, fn(&mut Lent))] = &[
     ("bimtsure_plan", 16, |l| done(bimtsure::plan(l.p, &l.list, &mut l.slots, &mut l.scratch))),
     ("bimtsure_needs", 8, |l| done(bimtsure::needs(l.p, &l.list))),
@@ -24,7 +25,17 @@ const CALLS: &[(&str, usize, fn(&mut Lent))] = &[
     ("bimtsure_file_plan", 1, |l| done(bimtsure::file_plan(l.p, &l.list, &l.slots, &mut l.filed))),
     ("bimtsure_read_plan", 1, |l| done(bimtsure::read_plan(&l.filed, &mut l.list, &mut l.slots))),
     ("bimtsure_view", 1, |l| done(bimtsure::view(&l.list, &l.slots, l.party, 0))),
+    // no list matters to these two: they are asked the same for each
+    ("bimtsure_clock", 1, |_| SLOTS.iter().for_each(|&slot| done(bimtsure_calendar::clock(slot)))),
+    ("bimtsure_slot", 1, |_| TIMES.iter().for_each(|&(day, h, m)| done(bimtsure_calendar::slot(day, h, m)))),
 ];
+
+/// The first slot, the last one, and one that is refused.
+const SLOTS: [u16; 3] = [0, LAST_SLOT, LAST_SLOT + 1];
+/// The first time of a day; the last one, the longest way for a search that finds; a time that no search finds; and both on a day
+/// that is refused.
+const TIMES: [(u16, u8, u8); 5] =
+    [(0, 0x08, 0x00), (LAST_DAY, 0x16, 0x30), (0, 0x12, 0x00), (LAST_DAY + 1, 0x16, 0x30), (u16::MAX, 0x12, 0x00)];
 
 /// The KiB of stack that docs/PROVED.md promises to be enough for the program, as many as it never needs, and the steps in which
 /// a system gives them.

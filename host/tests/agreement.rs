@@ -1,10 +1,11 @@
-//! Holds the declarations of the exported calls against each other: the header, the Rust module, the Python module, and the crate
-//! that exports them. Names, parameters and the answer's fields, with their types and in order, since no compiler sees two of
-//! these texts together. Each text is read by the few lines below; then each is changed in a copy, and the change must be seen.
+//! Holds the declarations of the exported calls against each other, for each library: the header, the Rust module, the crate that
+//! exports them, and the Python module. Names, parameters and the answer's fields, with their types and in order, since no compiler
+//! sees two of these texts together. Each text is read by the few lines below; then each is changed in a copy, and the change must
+//! be seen.
 
 use std::collections::{BTreeMap, BTreeSet};
 use std::fs;
-use std::ops::Range;
+use std::ops::{Range, RangeInclusive};
 use std::path::{Path, PathBuf};
 use std::process::Command;
 
@@ -16,13 +17,64 @@ enum Language {
     Python,
 }
 
-/// Each text by its path from the repository's root. The others are held against the first.
-const TEXTS: [(Language, &str); 4] = [
-    (Language::C, "host/include/bimtsure.h"),
-    (Language::Rust, "host/src/bimtsure.rs"),
-    (Language::Rattle, "crates/bimtsure_c/src/lib.rt"),
-    (Language::Python, "host/python/bimtsure.py"),
+const ALL: [Language; 4] = [Language::C, Language::Rust, Language::Rattle, Language::Python];
+
+/// A library that callers link or load, its texts, and what must be found in them, so that none is read as if it were empty.
+struct Library {
+    file: &'static str,
+    /// By their paths from the repository's root, in the languages' order. The others are held against the first.
+    texts: [&'static str; 4],
+    calls: &'static [&'static str],
+    /// Whether a call is lent a slice that it only reads.
+    reads_slices: bool,
+    constants: &'static [&'static str],
+    /// The header's enum, and all the numbers that it holds.
+    numbers: (&'static str, RangeInclusive<u32>),
+}
+
+const LIBRARIES: [Library; 2] = [
+    Library {
+        file: "target/staticlib/libbimtsure.so",
+        texts: [
+            "host/include/bimtsure.h",
+            "host/src/bimtsure.rs",
+            "crates/bimtsure_c/src/lib.rt",
+            "host/python/bimtsure.py",
+        ],
+        calls: &["bimtsure_plan"],
+        reads_slices: true,
+        constants: &["BLANK", "MOST_PARTIES", "MOST_APPOINTMENTS", "MOST_CELLS", "SCRATCH_WORDS"],
+        numbers: ("bimtsure_number", 0..=13),
+    },
+    Library {
+        file: "target/staticlib/libbimtsure_calendar.so",
+        texts: [
+            "host/include/bimtsure_calendar.h",
+            "host/src/bimtsure_calendar.rs",
+            "crates/calendar_c/src/lib.rt",
+            "host/python/bimtsure_calendar.py",
+        ],
+        calls: &["bimtsure_clock", "bimtsure_slot"],
+        reads_slices: false,
+        constants: &["SLOTS_A_DAY", "LAST_SLOT", "LAST_DAY"],
+        numbers: ("bimtsure_calendar_number", 23..=24),
+    },
 ];
+
+impl Library {
+    fn path(&self, language: Language) -> &'static str {
+        self.texts[language as usize]
+    }
+
+    fn text(&self, language: Language) -> String {
+        let path = self.path(language);
+        fs::read_to_string(root().join(path)).unwrap_or_else(|error| panic!("{path}: {error}"))
+    }
+
+    fn read(&self, language: Language) -> Calls {
+        read(language, &self.text(language))
+    }
+}
 
 /// What every exported name begins with.
 const PREFIX: &str = "bimtsure_";
@@ -46,33 +98,37 @@ type Calls = BTreeMap<String, Call>;
 
 #[test]
 fn the_texts_agree() {
-    let header = read(Language::C, &text(TEXTS[0].1));
-    assert!(header.contains_key("bimtsure_plan"), "the header declares {:?}", header.keys());
-    for (language, path) in &TEXTS[1..] {
-        if let Some(difference) = difference(&header, &read(*language, &text(path))) {
-            panic!("{} and {path}: {difference}", TEXTS[0].1);
+    for library in &LIBRARIES {
+        let header = library.read(Language::C);
+        for call in library.calls {
+            assert!(header.contains_key(*call), "{} declares {:?}", library.path(Language::C), header.keys());
+        }
+        for &language in &ALL[1..] {
+            if let Some(difference) = difference(&header, &library.read(language)) {
+                panic!("{} and {}: {difference}", library.path(Language::C), library.path(language));
+            }
         }
     }
 }
 
 #[test]
 fn two_fields_exchanged_are_seen() {
-    change(&TEXTS, |_, text, calls| exchanges(text, calls.values().map(|call| &call.fields)));
+    change(&LIBRARIES, &ALL, |_, text, calls| exchanges(text, calls.values().map(|call| &call.fields)));
 }
 
 #[test]
 fn two_parameters_exchanged_are_seen() {
-    change(&TEXTS, |_, text, calls| exchanges(text, calls.values().map(|call| &call.parameters)));
+    change(&LIBRARIES, &ALL, |_, text, calls| exchanges(text, calls.values().map(|call| &call.parameters)));
 }
 
 #[test]
 fn a_dropped_call_is_seen() {
-    change(&TEXTS, |_, text, calls| calls.values().map(|call| replaced(text, call.at.clone(), "")).collect());
+    change(&LIBRARIES, &ALL, |_, text, calls| calls.values().map(|call| replaced(text, call.at.clone(), "")).collect());
 }
 
 #[test]
 fn a_dropped_field_or_parameter_is_seen() {
-    change(&TEXTS, |_, text, calls| {
+    change(&LIBRARIES, &ALL, |_, text, calls| {
         let named = calls.values().flat_map(|call| call.fields.iter().chain(&call.parameters));
         // what parts it from the next one goes too, if there is one
         let end = |named: &Named| named.at.end + usize::from(text[named.at.end..].starts_with([',', ';']));
@@ -82,7 +138,7 @@ fn a_dropped_field_or_parameter_is_seen() {
 
 #[test]
 fn another_width_is_seen() {
-    change(&TEXTS, |_, text, calls| {
+    change(&LIBRARIES, &ALL, |_, text, calls| {
         let named = calls.values().flat_map(|call| call.fields.iter().chain(&call.parameters));
         let other =
             |was: &str| [("16", "32"), ("32", "8"), ("8", "16")].iter().find(|(old, _)| was.contains(old)).copied();
@@ -93,79 +149,89 @@ fn another_width_is_seen() {
 
 #[test]
 fn a_slice_that_would_be_written_is_seen() {
+    let reads = |named: &&Named| named.kind.starts_with("*const");
+    for library in &LIBRARIES {
+        let header = library.read(Language::C);
+        let any = header.values().flat_map(|call| &call.parameters).any(|named| reads(&named));
+        assert_eq!(any, library.reads_slices, "{}", library.path(Language::C));
+    }
     // Python's pointers don't say it
-    change(&TEXTS[..3], |language, text, calls| {
+    change(LIBRARIES.iter().filter(|library| library.reads_slices), &ALL[..3], |language, text, calls| {
         let (old, new) = match language {
             Language::C => ("const ", ""),
             Language::Rust => ("*const", "*mut"),
             _ => ("[", "mut ["),
         };
-        let named = calls.values().flat_map(|call| &call.parameters).filter(|named| named.kind.starts_with("*const"));
+        let named = calls.values().flat_map(|call| &call.parameters).filter(reads);
         named.map(|named| replaced(text, named.at.clone(), &text[named.at.clone()].replace(old, new))).collect()
     });
 }
 
 #[test]
 fn constants_agree() {
-    let header = constants(Language::C, &text(TEXTS[0].1));
-    let names = ["BLANK", "MOST_PARTIES", "MOST_APPOINTMENTS", "MOST_CELLS", "SCRATCH_WORDS"];
-    for (language, path) in [TEXTS[1], TEXTS[3]] {
-        let own = constants(language, &text(path));
-        for name in names {
-            assert!(own.contains_key(name), "{path} has no {name}");
+    for library in &LIBRARIES {
+        let header = constants(Language::C, &library.text(Language::C));
+        for name in library.constants {
+            assert!(header.contains_key(*name), "{} has no {name}", library.path(Language::C));
         }
-        for (name, value) in own {
-            assert_eq!(header.get(&name), Some(&value), "{name} of {path}");
+        for language in [Language::Rust, Language::Python] {
+            assert_eq!(constants(language, &library.text(language)), header, "{}", library.path(language));
         }
     }
 }
 
-/// The enum counts on from 0, so that no number is left out or given twice.
+/// Each enum counts on, so that no number is left out or given twice.
 #[test]
-fn the_headers_numbers_count_from_0() {
-    let text = without_comments(Language::C, &text(TEXTS[0].1));
-    let tokens = tokens(&text);
-    let open = find(&tokens, &["enum", "bimtsure_number", "{"]).expect("the header has the numbers") + 2;
-    let (items, _) = items(&tokens, open);
-    let values: Vec<&str> = items.iter().map(|item| item.last().expect("an item has a value").text).collect();
-    let counted: Vec<String> = (0..values.len()).map(|number| number.to_string()).collect();
-    assert_eq!(values, counted);
-    assert!(values.len() > 13, "{} numbers", values.len());
+fn the_headers_numbers_count_on() {
+    for library in &LIBRARIES {
+        let (name, numbers) = &library.numbers;
+        let text = without_comments(Language::C, &library.text(Language::C));
+        let tokens = tokens(&text);
+        let open = find(&tokens, &["enum", name, "{"]).expect("the header has the numbers") + 2;
+        let (items, _) = items(&tokens, open);
+        let values: Vec<&str> = items.iter().map(|item| item.last().expect("an item has a value").text).collect();
+        let counted: Vec<String> = numbers.clone().map(|number| number.to_string()).collect();
+        assert_eq!(values, counted, "{name}");
+    }
 }
 
 #[test]
-fn the_library_exports_the_headers_names() {
-    let library = root().join("target/staticlib/libbimtsure.so");
-    assert!(library.exists(), "{} is missing: host/library writes it", library.display());
-    let said = Command::new("nm").args(["--dynamic", "--defined-only"]).arg(&library).output().expect("nm can be run");
-    assert!(said.status.success(), "{}", String::from_utf8_lossy(&said.stderr));
-    let said = String::from_utf8(said.stdout).expect("nm writes text");
-    let exported: BTreeSet<String> = said.lines().filter_map(|line| line.split(' ').last()).map(String::from).collect();
-    let declared: BTreeSet<String> = read(Language::C, &text(TEXTS[0].1)).into_keys().collect();
-    assert_eq!(exported, declared);
+fn the_libraries_export_the_headers_names() {
+    for library in &LIBRARIES {
+        let file = root().join(library.file);
+        assert!(file.exists(), "{} is missing: host/library writes it", file.display());
+        let said = Command::new("nm").args(["--dynamic", "--defined-only"]).arg(&file).output().expect("nm can be run");
+        assert!(said.status.success(), "{}", String::from_utf8_lossy(&said.stderr));
+        let said = String::from_utf8(said.stdout).expect("nm writes text");
+        let names = said.lines().filter_map(|line| line.split(' ').last());
+        let exported: BTreeSet<String> = names.map(String::from).collect();
+        let declared: BTreeSet<String> = library.read(Language::C).into_keys().collect();
+        assert_eq!(exported, declared, "{}", library.file);
+    }
 }
 
 fn root() -> PathBuf {
     Path::new(env!("CARGO_MANIFEST_DIR")).join("..")
 }
 
-fn text(path: &str) -> String {
-    fs::read_to_string(root().join(path)).unwrap_or_else(|error| panic!("{path}: {error}"))
-}
-
-/// Has each text changed in some ways, and asserts that each changed copy no longer agrees with another text.
-fn change(texts: &[(Language, &str)], changes: impl Fn(Language, &str, &Calls) -> Vec<String>) {
-    let header = read(Language::C, &text(TEXTS[0].1));
-    let module = read(Language::Rust, &text(TEXTS[1].1));
-    for &(language, path) in texts {
-        let text = text(path);
-        let copies = changes(language, &text, &read(language, &text));
-        assert!(!copies.is_empty(), "{path}: nothing was changed");
-        for copy in copies {
-            assert!(copy != text, "{path}: nothing was changed");
-            let other = if language == Language::C { &module } else { &header };
-            let changed = copy.lines().zip(text.lines()).find(|(new, old)| new != old);
-            assert!(difference(other, &read(language, &copy)).is_some(), "{path}: not seen: {changed:?}");
+/// Has the libraries' texts in these languages changed in some ways, and asserts that each changed copy no longer agrees with
+/// another text of its library.
+fn change<'a>(
+    libraries: impl IntoIterator<Item = &'a Library>,
+    languages: &[Language],
+    changes: impl Fn(Language, &str, &Calls) -> Vec<String>,
+) {
+    for library in libraries {
+        for &language in languages {
+            let (text, path) = (library.text(language), library.path(language));
+            let other = library.read(if language == Language::C { Language::Rust } else { Language::C });
+            let copies = changes(language, &text, &read(language, &text));
+            assert!(!copies.is_empty(), "{path}: nothing was changed");
+            for copy in copies {
+                assert!(copy != text, "{path}: nothing was changed");
+                let changed = copy.lines().zip(text.lines()).find(|(new, old)| new != old);
+                assert!(difference(&other, &read(language, &copy)).is_some(), "{path}: not seen: {changed:?}");
+            }
         }
     }
 }
