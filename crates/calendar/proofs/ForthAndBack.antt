@@ -1,8 +1,8 @@
 -- Each of the calendar's calls undoes the other, since the times rise. Assumes nothing.
 use Prim.Native.Nat.{ℕ, _+_, _*_, _/_, _%_, _<_, _≤_}
-use mathlib.Core.Path.{_≡_, sym, _∙_}
+use mathlib.Core.Path.{_≡_, _∙_}
 use native.Mathlib.Omega.{arith}
-use lib.ListN.{length, getD}
+use lib.ListN.{getD}
 use Rattle.appointments.specs.Answers.{accepted}
 use Rattle.calendar.specs.Calendar.{in-bytes, times, moment, moment-of, clock-answer, number-in, slot-answer, Forth-and-back}
 use Rattle.calendar.proofs.Rising.{times-rise}

@@ -5,7 +5,7 @@ use native.Mathlib.Omega.{arith}
 use borrow.Author.Tests.{lt-ltb, le-ltb, le-leb, lt-leb, ltb-false, leb-false}
 use lib.Dec.{ltb, leb}
 use lib.ListN.{length, getD}
-use Rattle.appointments.specs.Checks.{Check, passed, bar}
+use Rattle.appointments.specs.Checks.{passed, bar}
 use Rattle.appointments.specs.Answers.{accepted, refused, answered-of}
 use Rattle.appointments.specs.declared.Answered.the-variants as answered
 use Rattle.appointments.proofs.AnswerLaws.{accepted-passed, refused-checked}
