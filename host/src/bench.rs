@@ -1,15 +1,16 @@
 //! Times our planning call beside the Rust on the same lists, in turn and in one run: other programs disturb both alike, and the
 //! best of many rounds is what is left of them. The Rust's graph is built before its time begins; ours includes the checks and
-//! the clearing of scratch.
+//! the clearing of scratch. Then the checks of a long list by themselves, which the Rust doesn't have.
 
-use crate::bimtsure::{self, Plan};
+use crate::bimtsure::{self, Needs, Plan};
 use crate::bipartite_coloring::bipartite_edge_color;
 use crate::format::write_list;
-use crate::list::List;
+use crate::list::{List, BLANK};
 use crate::lists;
 use crate::random::Random;
 use crate::reference;
 use std::collections::BTreeSet;
+use std::fmt::Debug;
 use std::hint::black_box;
 use std::time::{Duration, Instant};
 
@@ -19,6 +20,9 @@ const SIZES: [(usize, usize); 8] =
 /// With 128 parties, D for 512 to 4,096 appointments: powers of two, and odd ones near them.
 const GROWTH: [[usize; 4]; 2] = [[8, 16, 32, 64], [9, 17, 33, 63]];
 const GROWTH_PARTIES: usize = 128;
+
+/// P and D of the list whose checks are timed: A is 4,096.
+const CHECKED: (usize, usize) = (1024, 8);
 
 /// Lists of each row, and for each at least this many rounds and this much time.
 const LISTS: usize = 3;
@@ -73,8 +77,46 @@ pub fn run(seed: u64) -> Result<(), String> {
             before = Some(times);
         }
     }
-    println!("\nboth gave the same slots in every round");
+    println!("\nboth gave the same slots in every round\n");
+    time_checks(&mut random)
+}
+
+/// The checks of a list of 4,096 appointments without the planning: by `bimtsure_needs` for a list that passes, by the planning call for
+/// lists that 4 or 5 refuses.
+fn time_checks(random: &mut Random) -> Result<(), String> {
+    let (parties, degree) = CHECKED;
+    let list = lists::even_handed_part(random, parties, degree, 3);
+    let p = parties as u16;
+    println!("The checks of a list with P {p} and A {}, microseconds a call, the best of the rounds: by", list.count());
+    println!("bimtsure_needs if it passes, by bimtsure_plan if it is refused.");
+
+    let expected = Needs { number: 0, place: 0, d: degree as u32, words: list.scratch_words() as u32 };
+    let best = best_of(expected, || bimtsure::needs(p, black_box(&list.ends)))?;
+    println!("{best:>9.2}  it passes, and D is counted");
+    let last = list.count() - 1;
+    for (number, place, end) in [(4, 0, BLANK), (4, last, BLANK), (5, 0, p), (5, last, p)] {
+        let mut ends = list.ends.clone();
+        ends[2 * place + 1] = end;
+        let (mut slots, mut scratch) = (vec![0; list.count()], vec![0; list.scratch_words()]);
+        let expected = Plan { number, place: place as u32, d: 0 };
+        let best = best_of(expected, || bimtsure::plan(p, black_box(&ends), &mut slots, &mut scratch))?;
+        println!("{best:>9.2}  refused by {number} at position {place}");
+    }
     Ok(())
+}
+
+/// Microseconds of the best round, each of which has to give what is expected.
+fn best_of<T: PartialEq + Debug>(expected: T, mut call: impl FnMut() -> T) -> Result<f64, String> {
+    let mut best = f64::INFINITY;
+    let begun = Instant::now();
+    while begun.elapsed() < LEAST_TIME {
+        let (time, answered) = timed(&mut call);
+        if answered != expected {
+            return Err(format!("answered {answered:?} instead of {expected:?}"));
+        }
+        best = best.min(time);
+    }
+    Ok(best)
 }
 
 fn print_header() {

@@ -56,6 +56,21 @@ impl List {
         self.appointments().flat_map(|(first, second)| [first, second]).filter(|&end| usize::from(end) == party).count()
     }
 
+    /// The first position with such an end.
+    fn first_with(&self, such: impl Fn(u16) -> bool) -> Option<usize> {
+        self.appointments().position(|(first, second)| such(first) || such(second))
+    }
+
+    /// The first position with a blank end, what 4 looks for.
+    fn first_blank(&self) -> Option<usize> {
+        self.first_with(|end| end == BLANK)
+    }
+
+    /// The first position with another end that is not below P, what 5 looks for: a blank end is none.
+    pub fn first_unlisted(&self) -> Option<usize> {
+        self.first_with(|end| end != BLANK && usize::from(end) >= self.parties)
+    }
+
     /// Checks 1 to 5, in this order: the first refusal, if there is one.
     pub fn check_ends(&self) -> Result<(), Refusal> {
         let refuse = |number, place| Err(Refusal { number, place });
@@ -68,11 +83,10 @@ impl List {
         if self.count() > MOST_APPOINTMENTS {
             return refuse(3, 0);
         }
-        let first_with = |bad: &dyn Fn(u16) -> bool| self.appointments().position(|(a, b)| bad(a) || bad(b));
-        if let Some(place) = first_with(&|end| end == BLANK) {
+        if let Some(place) = self.first_blank() {
             return refuse(4, place);
         }
-        if let Some(place) = first_with(&|end| usize::from(end) >= self.parties) {
+        if let Some(place) = self.first_unlisted() {
             return refuse(5, place);
         }
         Ok(())
@@ -109,6 +123,22 @@ impl List {
 #[cfg(test)]
 mod tests {
     use super::*;
+
+    /// Document 02's request 4, of lists with P 2: 4 covers the whole list, and a blank end is none for 5.
+    #[test]
+    fn the_first_blank_and_the_first_other_end() {
+        let firsts = |ends: &[(usize, usize)]| {
+            let list = List::new(2, ends);
+            (list.first_blank(), list.first_unlisted())
+        };
+        assert_eq!(firsts(&[(0, 65_535), (0, 7)]), (Some(0), Some(1)));
+        assert_eq!(firsts(&[(0, 7), (0, 65_535)]), (Some(1), Some(0)));
+        assert_eq!(firsts(&[(0, 1), (7, 65_535)]), (Some(1), Some(1)));
+        assert_eq!(firsts(&[(65_535, 65_535), (1, 0)]), (Some(0), None));
+        assert_eq!(firsts(&[(1, 0), (0, 65_534)]), (None, Some(1)));
+        assert_eq!(firsts(&[(1, 0)]), (None, None));
+        assert_eq!(List::new(2, &[(0, 7), (0, 65_535)]).check_ends(), Err(Refusal { number: 4, place: 1 }));
+    }
 
     /// Document 01's example has A = 2 and D = 2, so W is 128×3×3.
     #[test]

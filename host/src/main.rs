@@ -88,7 +88,8 @@ bimtsure-host desk COUNT SEED
     compare our waiting, filed plan and viewer with desk.rs, in COUNT rounds of random and of damaged input
 bimtsure-host needs COUNT SEED
     compare how much scratch we say that a list needs with list.rs, on the lists that papers name and on COUNT random and
-    damaged ones, and have each planned with that many words and with one less; fails if one of the numbers 0 to 6 never came
+    damaged ones, and have each planned with that many words and with one less; fails if one of the numbers 0 to 6 never came, or
+    an order of blank and unlisted ends
 bimtsure-host plan COUNT SEED
     compare our planning call with the Rust on the lists that papers name and on COUNT random ones: answers, slots and scratch
     afterwards, and demand 3; from 100000 lists on, fails if there were too few of some kind of list
@@ -109,7 +110,7 @@ bimtsure-host pieces
     feed the program its input late, break it off, and let its writes fail: it must print the whole plan or a refusal; as `bytes`,
     after `rt check bimtsure`
 bimtsure-host bench
-    time our planning call beside the Rust on the same lists
+    time our planning call beside the Rust on the same lists, and the checks of a long list alone
 bimtsure-host stack
     measure how much stack each exported call and the program need; fails if one needs more than the headers in host/include and
     docs/PROVED.md promise; from the repository's root, after `rt check bimtsure`

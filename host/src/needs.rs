@@ -1,19 +1,22 @@
 //! Compares `bimtsure_needs` with list.rs, which has checks 1 to 6, D and W after document 01's text: the same four numbers, on
-//! the lists that papers name, on random and on damaged ones. Then that W is what the planning call asks: with W words it never
-//! refuses by 8, with one less always.
+//! the lists that papers name, on random and on damaged ones, and on some again with blank and unlisted ends in any order. Then
+//! that W is what the planning call asks: with W words it never refuses by 8, with one less always.
 
 use crate::bimtsure::{self, Needs};
 use crate::desk_calls::damage;
 use crate::format::write_list;
 use crate::known;
-use crate::list::{List, MOST_APPOINTMENTS, MOST_PARTIES, MOST_WORDS};
+use crate::list::{List, BLANK, MOST_APPOINTMENTS, MOST_PARTIES, MOST_WORDS};
 use crate::lists::Lists;
 use crate::random::Random;
+use std::cmp::Ordering;
 
 /// What has been called.
 struct Caller {
     /// how often each number came, 0 to 6
     numbers: [usize; 7],
+    /// lists that 4 refuses and that have an unlisted end too: at an earlier position than the blank one, the same, a later one
+    both: [usize; 3],
     /// plans with W words, and those of them that were refused by 9
     with_words: [usize; 2],
     /// plans with one word less
@@ -24,7 +27,8 @@ struct Caller {
     scratch: Vec<u32>,
 }
 
-/// COUNT random lists after those that papers name. An error names a list that differs, or a number that never came.
+/// COUNT random lists after those that papers name, some of them again with bad ends. An error names a list that differs, or a number or an
+/// order of blank and unlisted ends that never came.
 pub fn compare(count: usize, seed: u64) -> Result<(), String> {
     let mut caller = Caller::new();
     for known in known::small().into_iter().chain(known::limits()) {
@@ -40,11 +44,30 @@ pub fn compare(count: usize, seed: u64) -> Result<(), String> {
             }
         }
         caller.compare(&list)?;
+        if random.chance(4) {
+            spoil_ends(&mut list, &mut random);
+            caller.compare(&list)?;
+        }
     }
     caller.print();
+    if caller.both.contains(&0) {
+        return Err("blank and unlisted ends did not come in every order".to_string());
+    }
     match caller.numbers.iter().position(|&times| times == 0) {
         Some(number) => Err(format!("no list was answered by {number}")),
         None => Ok(println!("no difference")),
+    }
+}
+
+/// Makes some ends blank, P, or any number.
+fn spoil_ends(list: &mut List, random: &mut Random) {
+    for _ in 0..random.between(1, 6).min(list.ends.len()) {
+        let at = random.below(list.ends.len());
+        list.ends[at] = match random.below(4) {
+            0 | 1 => BLANK,
+            2 => list.parties as u16,
+            _ => random.below(1 << 16) as u16,
+        };
     }
 }
 
@@ -60,6 +83,7 @@ impl Caller {
     fn new() -> Caller {
         Caller {
             numbers: [0; 7],
+            both: [0; 3],
             with_words: [0; 2],
             with_one_less: 0,
             most_words: 0,
@@ -81,6 +105,14 @@ impl Caller {
             return Err(format!("expected {expected:?}\nanswered {answered:?}"));
         }
         self.numbers[answered.number as usize] += 1;
+        if let (4, Some(unlisted)) = (answered.number, list.first_unlisted()) {
+            let order = match unlisted.cmp(&(answered.place as usize)) {
+                Ordering::Less => 0,
+                Ordering::Equal => 1,
+                Ordering::Greater => 2,
+            };
+            self.both[order] += 1;
+        }
         if answered.number == 0 {
             self.plan(list, p, answered.words as usize)?;
         }
@@ -111,6 +143,8 @@ impl Caller {
         let told: Vec<String> =
             self.numbers.iter().enumerate().map(|(number, times)| format!("{number} {times} times")).collect();
         println!("bimtsure_needs: {} calls, which say {}", self.numbers.iter().sum::<usize>(), told.join(", "));
+        let [earlier, same, later] = self.both;
+        println!("4 where an end is unlisted too, {earlier} times at an earlier position, {same} at the same, {later} at a later one");
         let [planned, nines] = self.with_words;
         println!("bimtsure_plan with W words: {planned} planned, {nines} refused by 9, none by 8");
         println!("bimtsure_plan with one word less: {} refused by 8, all", self.with_one_less);

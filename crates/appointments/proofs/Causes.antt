@@ -11,10 +11,10 @@ use lib.ListN.{length}
 use Rattle.words.specs.Basics.{All}
 use Rattle.words.proofs.Sums.{all-map}
 use Rattle.appointments.specs.Appointments.{appts, largest-load, scratch-words}
-use Rattle.appointments.specs.Checks.{First, at, nowhere, first-from, has-blank, has-unlisted, Check, passed, refused, bar, bar-at, checks-1-to-5, checks-1-to-6, checks-1-to-8, checks}
+use Rattle.appointments.specs.Checks.{First, at, nowhere, first-from, First-at, has-blank, has-unlisted, Check, passed, refused, bar, bar-at, checks-1-to-5, checks-1-to-6, checks-1-to-8, checks}
 use Rattle.appointments.proofs.Loads.{Listed}
-use Rattle.appointments.proofs.FirstFrom.{First-at, nowhere-all, all-nowhere, found-is-first, first-is-found}
-use Rattle.appointments.proofs.ChecksLaws.{Filled, Good-list, filled-test, test-filled, test-listed, even-test, test-even, good-goes-on, refused-passed}
+use Rattle.appointments.proofs.FirstFrom.{nowhere-all, all-nowhere, found-is-first, first-is-found}
+use Rattle.appointments.proofs.ChecksLaws.{Filled, Good-list, filled-test, test-filled, all-listed, even-test, test-even, good-goes-on, refused-passed}
 
 -- The cause of each number and place.
 pub data Cause (P : ℕ) (list : List ℕ) (slots scratch : ℕ) : ℕ → ℕ → Type 0 where
@@ -115,7 +115,7 @@ module _ (P : ℕ) (list : List ℕ) (slots scratch n i : ℕ) where
       let f : All Filled (appts list) = all-map test-filled (appts list) (nowhere-all 0 has-blank (appts list) t₄) in
       bar-at-cause C (first-from 0 (has-unlisted P) (appts list)) 5 _ n i
       (λ j t. unlisted-end p e a f (found-is-first (has-unlisted P) (appts list) j t)) λ t₅.
-      let l : All (Listed P) (appts list) = all-map (test-listed P) (appts list) (nowhere-all 0 (has-unlisted P) (appts list) t₅) in
+      let l : All (Listed P) (appts list) = all-listed P (appts list) f (nowhere-all 0 (has-unlisted P) (appts list) t₅) in
       late-cause (record { parties = p; even = e; few = a; filled = f; listed = l })
 
 -- A refusal of checks 1 to 8 stays, whatever comes after them.

@@ -1,7 +1,7 @@
 -- Checks 1 to 8 pass exactly the arguments that have the eight properties of document 01's table. Assumes nothing.
-use Prim.Native.Nat.{ℕ, _*_, _%_, _≤_}
-use mathlib.Core.Path.{_≡_, refl}
-use mathlib.Core.Bool.{Bool, true, false}
+use Prim.Native.Nat.{ℕ, _*_, _%_, _<_, _≤_}
+use mathlib.Core.Path.{_≡_, refl, sym, _∙_}
+use mathlib.Core.Bool.{Bool, true, false, and-true}
 use mathlib.Core.List.{List}
 use native.Mathlib.Omega.{arith}
 use borrow.Author.Tests.{ne-eqb, le-ltb, lt-leb, eqb-false, ltb-false, leb-false}
@@ -9,9 +9,9 @@ use lib.Dec.{eqb, ltb, leb}
 use lib.ListN.{length}
 use Rattle.words.specs.Basics.{All}
 use Rattle.words.proofs.Bools.{neither, both-false}
-use Rattle.words.proofs.Sums.{all-map}
+use Rattle.words.proofs.Sums.{all-map, all-both}
 use Rattle.appointments.specs.Appointments.{Appt, appts, largest-load, scratch-words}
-use Rattle.appointments.specs.Checks.{blank, First, at, nowhere, first-from, has-blank, has-unlisted, Check, passed, refused, bar, bar-at, checks-1-to-5, checks-1-to-6, checks-1-to-8, checks}
+use Rattle.appointments.specs.Checks.{blank, First, at, nowhere, first-from, has-blank, unlisted, has-unlisted, Check, passed, refused, bar, bar-at, checks-1-to-5, checks-1-to-6, checks-1-to-8, checks}
 use Rattle.appointments.proofs.Loads.{Listed, appts-length}
 use Rattle.appointments.proofs.FirstFrom.{nowhere-all, all-nowhere}
 
@@ -50,13 +50,27 @@ test-filled x e =
     let b = neither (eqb (x .first) blank) (eqb (x .second) blank) e in
     (eqb-false (x .first) blank (b .0), eqb-false (x .second) blank (b .1))
 
-pub listed-test : (P : ℕ) (x : Appt) → Listed P x → has-unlisted P x ≡ false
-listed-test P x h = both-false (lt-leb P (x .first) (h .0)) (lt-leb P (x .second) (h .1))
+-- an end below P is not unlisted, and one that is not blank is unlisted exactly if it is not below P
+module _ (P end : ℕ) where
+  pub end-listed : end < P → unlisted P end ≡ false
+  end-listed h = rw (lt-leb P end h)
 
-pub test-listed : (P : ℕ) (x : Appt) → has-unlisted P x ≡ false → Listed P x
-test-listed P x e =
-    let b = neither (leb P (x .first)) (leb P (x .second)) e in
-    (leb-false P (x .first) (b .0), leb-false P (x .second) (b .1))
+  pub end-filled : (end ≡ blank → ⊥) → unlisted P end ≡ leb P end
+  end-filled h = rw (ne-eqb end blank h) (and-true (leb P end))
+
+pub listed-test : (P : ℕ) (x : Appt) → Listed P x → has-unlisted P x ≡ false
+listed-test P x h = both-false (end-listed P (x .first) (h .0)) (end-listed P (x .second) (h .1))
+
+test-listed : (P : ℕ) (x : Appt) → Filled x × (has-unlisted P x ≡ false) → Listed P x
+test-listed P x h =
+    let b = neither (unlisted P (x .first)) (unlisted P (x .second)) (h .1) in (
+      leb-false P (x .first) (sym (end-filled P (x .first) (h .0 .0)) ∙ b .0),
+      leb-false P (x .second) (sym (end-filled P (x .second) (h .0 .1)) ∙ b .1),
+    )
+
+-- where no end is blank and none unlisted, every end is a party
+pub all-listed : (P : ℕ) (xs : List Appt) → All Filled xs → All (λ x. has-unlisted P x ≡ false) xs → All (Listed P) xs
+all-listed P xs f h = all-map (test-listed P) xs (all-both Filled (λ x. has-unlisted P x ≡ false) xs f h)
 
 -- check 2's test
 pub even-test : (n : ℕ) → n % 2 ≡ 0 → eqb (n % 2) 1 ≡ false
@@ -123,13 +137,14 @@ passed-good P list next e =
     let c₂ = bar-passed (eqb (length list % 2) 1) 2 _ (c₁ .1) in
     let c₃ = bar-passed (ltb 4096 (length (appts list))) 3 _ (c₂ .1) in
     let c₄ = bar-at-passed (first-from 0 has-blank (appts list)) 4 _ (c₃ .1) in
-    let c₅ = bar-at-passed (first-from 0 (has-unlisted P) (appts list)) 5 next (c₄ .1) in (
+    let c₅ = bar-at-passed (first-from 0 (has-unlisted P) (appts list)) 5 next (c₄ .1) in
+    let filled = all-map test-filled (appts list) (nowhere-all 0 has-blank (appts list) (c₄ .0)) in (
       record {
         parties = ltb-false 1024 P (c₁ .0);
         even = test-even (length list) (c₂ .0);
         few = ltb-false 4096 (length (appts list)) (c₃ .0);
-        filled = all-map test-filled (appts list) (nowhere-all 0 has-blank (appts list) (c₄ .0));
-        listed = all-map (test-listed P) (appts list) (nowhere-all 0 (has-unlisted P) (appts list) (c₅ .0));
+        filled = filled;
+        listed = all-listed P (appts list) filled (nowhere-all 0 (has-unlisted P) (appts list) (c₅ .0));
       },
       c₅ .1,
     )

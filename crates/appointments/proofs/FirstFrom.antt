@@ -5,16 +5,10 @@ use mathlib.Core.Path.{_≡_, refl, sym, _∙_, ap, subst}
 use mathlib.Core.Bool.{Bool, true, false}
 use mathlib.Core.List.{List, [], _∷_}
 use native.Mathlib.Omega.{arith}
-use lib.ListN.{length, getD}
+use lib.ListN.{getD}
 use Rattle.words.specs.Basics.{All}
 use Rattle.appointments.specs.Appointments.{Appt}
-use Rattle.appointments.specs.Checks.{First, at, nowhere, first-from}
-
--- Position i is the first whose appointment passes the test.
-pub record First-at (test : Appt → Bool) (xs : List Appt) (i : ℕ) : Type 0 where
-  pub inside : i < length xs
-  pub holds : (d : Appt) → test (getD xs i d) ≡ true
-  pub before : (j : ℕ) (d : Appt) → j < i → test (getD xs j d) ≡ false
+use Rattle.appointments.specs.Checks.{First, at, nowhere, first-from, First-at}
 
 -- ── one appointment more ──
 
@@ -94,3 +88,10 @@ from-at k test (x ∷ xs) (suc i) f =
 -- And that position is the one found.
 pub first-is-found : (test : Appt → Bool) (xs : List Appt) (i : ℕ) → First-at test xs i → first-from 0 test xs ≡ at i
 first-is-found test xs i f = from-at 0 test xs i f ∙ ap at (omega arith)
+
+-- Two tests that agree on every appointment of the list have the same first position.
+pub first-same :
+    (k : ℕ) (test other : Appt → Bool) (xs : List Appt) → All (λ x. test x ≡ other x) xs → first-from k test xs ≡ first-from k other xs
+unfolding first-from
+first-same k test other [] h = refl
+first-same k test other (x ∷ xs) h = rw (h .0, first-same (k + 1) test other xs (h .1))

@@ -1,23 +1,18 @@
 -- The flat list and its appointments: how code that goes through the one goes through the other. Assumes nothing.
 use Prim.Native.Nat.{ℕ, zero, suc, _+_, _*_, _/_, _%_, _<_, _≤_}
 use mathlib.Core.Path.{_≡_, refl, sym, _∙_, ap}
-use mathlib.Core.Bool.{Bool, true, false, _||_}
-use mathlib.Core.List.{List, [], _∷_, _++_}
+use mathlib.Core.List.{List, [], _∷_}
 use native.Mathlib.Omega.{arith}
 use native.Mathlib.Numerals.{add-one}
 use native.Mathlib.Nat.{le-trans}
 use native.Mathlib.Decide.{ℕ-discrete}
-use borrow.Author.Tests.{le-leb, lt-leb}
-use lib.Dec.{leb}
-use lib.ListN.{length, take, drop, getD, length-take}
+use lib.ListN.{length, take, drop, length-take}
 use lib.Seq.{take-suc}
-use Rattle.words.specs.Basics.{is, total, count, All}
+use Rattle.words.specs.Basics.{is, total, count}
 use Rattle.words.specs.Words.{word, put-word}
 use Rattle.words.proofs.Sums.{is-same, is-ne, count-append, count-le}
 use Rattle.words.proofs.Frames.{here, away}
 use Rattle.appointments.specs.Appointments.{Appt, appt, appts, names, load}
-use Rattle.appointments.specs.Checks.{First, at, nowhere, first-from, has-unlisted}
-use Rattle.appointments.proofs.FirstFrom.{first-here, first-later}
 
 -- A is half the flat list's length, rounded down
 pub appts-count : (list : List ℕ) → length (appts list) ≡ length list / 2
@@ -57,35 +52,6 @@ rest-none [] zero h = refl
 rest-none [] (suc i) h = refl
 rest-none (x ∷ xs) zero h = absurd (omega arith)
 rest-none (x ∷ xs) (suc i) h = rest-none xs i (omega arith)
-
-module _ (list : List ℕ) (bound i : ℕ) (inside : i < length list / 2) where
-  first-test : bound ≤ word list (2 * i) → has-unlisted bound (appt (word list (2 * i)) (word list (2 * i + 1))) ≡ true
-  first-test h = rw (le-leb bound (word list (2 * i)) h)
-
-  second-test :
-      word list (2 * i) < bound → has-unlisted bound (appt (word list (2 * i)) (word list (2 * i + 1)))
-      ≡ leb bound (word list (2 * i + 1))
-  second-test h = rw (lt-leb bound (word list (2 * i)) h)
-
-  -- the search for an end that is not below the bound, one position further
-  pub search-first :
-      bound ≤ word list (2 * i) → first-from i (has-unlisted bound) (drop i (appts list)) ≡ at i
-  search-first h = rw (rest-cons list i inside) (first-here i (has-unlisted bound) _ _ (first-test h))
-
-  pub search-second :
-      word list (2 * i) < bound → bound ≤ word list (2 * i + 1) →
-      first-from i (has-unlisted bound) (drop i (appts list)) ≡ at i
-  search-second g h =
-      rw (rest-cons list i inside)
-      (first-here i (has-unlisted bound) _ _ (second-test g ∙ le-leb bound (word list (2 * i + 1)) h))
-
-  pub search-on :
-      word list (2 * i) < bound → word list (2 * i + 1) < bound →
-      first-from i (has-unlisted bound) (drop i (appts list))
-      ≡ first-from (i + 1) (has-unlisted bound) (drop (i + 1) (appts list))
-  search-on g h =
-      rw (rest-cons list i inside)
-      (first-later i (has-unlisted bound) _ _ (second-test g ∙ lt-leb bound (word list (2 * i + 1)) h))
 
 -- a party's load is how often its number stands in the flat list
 pub load-count : (v : ℕ) (list : List ℕ) → length list % 2 ≡ 0 → load v (appts list) ≡ count v list

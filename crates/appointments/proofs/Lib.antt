@@ -4,6 +4,7 @@ pub mod LowerBound
 pub mod Pigeonhole
 pub mod FirstFrom
 pub mod ChecksLaws
+pub mod BadEnds
 pub mod Causes
 pub mod Enough
 pub mod Flat

@@ -1,9 +1,10 @@
 -- Document 01's checks 1 to 8, in order, with the number and the place of each refusal. Assumes nothing.
-use Prim.Native.Nat.{ℕ, zero, suc, _+_, _*_, _%_}
-use mathlib.Core.Bool.{Bool, true, false, _||_}
+use Prim.Native.Nat.{ℕ, _+_, _*_, _%_, _<_}
+use mathlib.Core.Path.{_≡_}
+use mathlib.Core.Bool.{Bool, true, false, not, _&&_, _||_}
 use mathlib.Core.List.{List, [], _∷_}
 use lib.Dec.{eqb, ltb, leb}
-use lib.ListN.{length}
+use lib.ListN.{length, getD}
 use Rattle.words.specs.Basics.{pick}
 use Rattle.appointments.specs.Appointments.{Appt, appts, largest-load, scratch-words}
 
@@ -21,13 +22,23 @@ unfoldable pub first-from : ℕ → (Appt → Bool) → List Appt → First
 first-from i test [] = nowhere
 first-from i test (x ∷ xs) = let later = first-from (i + 1) test xs in pick (test x) (at i) later
 
+-- Position i is the first whose appointment passes the test.
+pub record First-at (test : Appt → Bool) (xs : List Appt) (i : ℕ) : Type 0 where
+  pub inside : i < length xs
+  pub holds : (d : Appt) → test (getD xs i d) ≡ true
+  pub before : (j : ℕ) (d : Appt) → j < i → test (getD xs j d) ≡ false
+
 -- check 4: an end is blank
 abbrev pub has-blank : Appt → Bool
 has-blank x = eqb (x .first) blank || eqb (x .second) blank
 
--- check 5: an end is not below P
+-- another end, one that is not blank, that is not below P
+abbrev pub unlisted : ℕ → ℕ → Bool
+unlisted P end = leb P end && not (eqb end blank)
+
+-- check 5: an end is unlisted
 abbrev pub has-unlisted : ℕ → Appt → Bool
-has-unlisted P x = leb P (x .first) || leb P (x .second)
+has-unlisted P x = unlisted P (x .first) || unlisted P (x .second)
 
 -- What a sequence of checks comes to: all passed, or the first refusal with its number and place.
 pub data Check : Type 0 where

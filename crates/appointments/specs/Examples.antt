@@ -1,12 +1,12 @@
--- Worked examples, each by computing: loads, D, W, the number of slots, meets, and the checks and how much scratch a list
--- needs at their limits. Assumes nothing.
+-- Worked examples, each by computing: loads, D, W, the number of slots, meets, the checks and how much scratch a list
+-- needs at their limits, and what is remembered for checks 4 and 5. Assumes nothing.
 use Prim.Native.Nat.{ℕ, zero, suc}
 use mathlib.Core.Bool.{true}
 use mathlib.Core.Path.{_≡_, refl}
 use mathlib.Core.List.{List, [], _∷_}
 use Rattle.appointments.specs.Appointments.{appts, load, largest-load, scratch-words}
 use Rattle.appointments.specs.Plans.{different, meets}
-use Rattle.appointments.specs.Checks.{passed, refused, bar, checks-1-to-8, checks}
+use Rattle.appointments.specs.Checks.{First, at, nowhere, first-from, has-blank, has-unlisted, passed, refused, bar, checks-1-to-8, checks}
 use Rattle.appointments.specs.Answers.{Answer, accepted, number-of, place-of}
 use Rattle.appointments.specs.Answers as answers
 use Rattle.appointments.specs.Needed.{Needs, needing, needs-answer, d-of, words-of, scratch-enough}
@@ -86,9 +86,9 @@ unfolding computing
 blank-beside-unlisted = refl
 
 -- check 5: the first place with an end not below P, here its second end
-pub unlisted : checks 2 (0 ∷ 1 ∷ 0 ∷ 2 ∷ 9 ∷ 0 ∷ []) 9 99999 ≡ refused 5 1
+pub first-unlisted : checks 2 (0 ∷ 1 ∷ 0 ∷ 2 ∷ 9 ∷ 0 ∷ []) 9 99999 ≡ refused 5 1
 unfolding computing
-unlisted = refl
+first-unlisted = refl
 
 -- check 6: P 3 passes with D 2,730, and 2,731 gives 6
 pub product-8190 : checks 3 (again 2730) 2730 1048704 ≡ passed
@@ -121,6 +121,50 @@ goes-on-with-18 = refl
 pub stays-8 : checks-1-to-8 1 (0 ∷ 0 ∷ []) 1 383 (bar true 18 passed) ≡ refused 8 0
 unfolding computing
 stays-8 = refl
+
+-- ── what is remembered for 4 and for 5 ──
+
+-- the first position with a blank end, and the first with an unlisted one
+abbrev first-two : ℕ → List ℕ → First × First
+first-two P list = (first-from 0 has-blank (appts list), first-from 0 (has-unlisted P) (appts list))
+
+-- 0-blank 0-7: a blank end is none for 5, so that 5 has position 1
+pub blank-no-unlisted : first-two 2 (0 ∷ 65535 ∷ 0 ∷ 7 ∷ []) ≡ (at 0, at 1)
+unfolding computing
+blank-no-unlisted = refl
+
+-- 0-7 0-blank: both are remembered (and 4 decides, as in `blank-before-unlisted`)
+pub unlisted-then-blank : first-two 2 (0 ∷ 7 ∷ 0 ∷ 65535 ∷ []) ≡ (at 1, at 0)
+unfolding computing
+unlisted-then-blank = refl
+
+-- 0-1 7-blank blank-0 1-2: both ends of an appointment count, each for its own number, and the first of each stays
+pub beside-each-other : first-two 2 (0 ∷ 1 ∷ 7 ∷ 65535 ∷ 65535 ∷ 0 ∷ 1 ∷ 2 ∷ []) ≡ (at 1, at 1)
+unfolding computing
+beside-each-other = refl
+
+-- two blanks and nothing else; 65,534, which is none
+pub blanks-alone : first-two 0 (65535 ∷ 65535 ∷ []) ≡ (at 0, nowhere)
+unfolding computing
+blanks-alone = refl
+
+pub highest-end : first-two 1024 (0 ∷ 1023 ∷ 65534 ∷ 0 ∷ []) ≡ (nowhere, at 1)
+unfolding computing
+highest-end = refl
+
+-- with P 65,535, which check 1 refuses, no end is unlisted and a blank one is still blank
+pub all-parties : first-two 65535 (65534 ∷ 65535 ∷ []) ≡ (at 0, nowhere)
+unfolding computing
+all-parties = refl
+
+-- no end of either kind, and no appointment at all
+pub none-of-both : first-two 2 (0 ∷ 1 ∷ 1 ∷ 0 ∷ []) ≡ (nowhere, nowhere)
+unfolding computing
+none-of-both = refl
+
+pub none-at-all : first-two 0 [] ≡ (nowhere, nowhere)
+unfolding computing
+none-at-all = refl
 
 -- ── how much scratch a list needs ──
 

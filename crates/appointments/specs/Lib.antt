@@ -3,6 +3,7 @@ pub mod Rounds
 pub mod TwoSides
 pub mod Plans
 pub mod Checks
+pub mod BadEnds
 pub mod Answers
 pub mod Lent
 pub mod Needed

@@ -1,27 +1,22 @@
--- The checks as the code goes through them: one routine looks for blank and for unlisted ends, and an early answer is the
--- definition's. Assumes nothing.
+-- The checks as the code goes through them: an early answer is the definition's. Assumes nothing.
 use Prim.Native.Nat.{ℕ, zero, suc, _+_, _*_, _/_, _%_, _<_, _≤_, max}
-use mathlib.Core.Path.{_≡_, refl, sym, _∙_, ap}
-use mathlib.Core.Bool.{Bool, true, false, _||_}
-use mathlib.Core.List.{List, [], _∷_}
+use mathlib.Core.Path.{_≡_, refl, sym, _∙_}
+use mathlib.Core.Bool.{Bool, true, false}
+use mathlib.Core.List.{List}
 use native.Mathlib.Omega.{arith}
-use native.Mathlib.Decide.{ℕ-discrete}
 use native.Mathlib.Numerals.{add-one}
 use native.Mathlib.Nat.{le-trans, mul-le-mul-left}
-use borrow.Author.Tests.{eq-eqb, ne-eqb, le-leb, lt-leb, lt-ltb, le-ltb}
-use lib.Dec.{eqb, ltb, leb}
+use borrow.Author.Tests.{eq-eqb, ne-eqb, lt-ltb, le-ltb}
+use lib.Dec.{eqb, ltb}
 use lib.ListN.{length, replicate}
-use Rattle.words.specs.Basics.{count}
 use Rattle.words.specs.Words.{word}
 use Rattle.words.proofs.Sums.{count-le}
-use Rattle.appointments.specs.Appointments.{Appt, appt, appts, load, largest-load, scratch-words}
+use Rattle.appointments.specs.Appointments.{Appt, appts, load, largest-load, scratch-words}
 use Rattle.appointments.specs.Checks.{First, at, nowhere, first-from, has-blank, has-unlisted, Check, passed, refused, bar, bar-at, check-slots, checks-1-to-5, checks-1-to-6, checks-1-to-8, checks, check-ends}
 use Rattle.appointments.specs.Answers.{accepted}
 use Rattle.appointments.specs.Answers as answers
 use Rattle.appointments.specs.Needed.{needing, needs-answer, needed-of, scratch-enough}
-use Rattle.checking.specs.Checked.{found, checked, largest-word, Words-fit}
-use Rattle.checking.specs.declared.Found.{Found}
-use Rattle.checking.specs.declared.Found.the-variants.{At, Nowhere}
+use Rattle.checking.specs.Checked.{checked, largest-word, Words-fit}
 use Rattle.appointments.specs.declared.Answered.{Answered}
 use Rattle.appointments.specs.declared.Answered.the-variants.{Accepted, Refused}
 use Rattle.appointments.specs.declared.Needed.the-variants as needs
@@ -37,32 +32,6 @@ zeros zero zero = refl
 zeros zero (suc v) = refl
 zeros (suc n) zero = refl
 zeros (suc n) (suc v) = zeros n v
-
--- what the answer of the search says of the first position
-pub found-at : (f : First) (i : ℕ) → found f ≡ At i → f ≡ at i
-found-at (at j) i e = cc
-found-at nowhere i e = cc
-
-pub found-nowhere : (f : First) → found f ≡ Nowhere → f ≡ nowhere
-found-nowhere (at j) e = cc
-found-nowhere nowhere e = refl
-
--- a 16-bit number is blank exactly if it is not below 65,535
-blank-test : (x : ℕ) → x < 65536 → eqb x 65535 ≡ leb 65535 x
-blank-test x h =
-    elim (ℕ-discrete x 65535) [
-      | yes e ↦ eq-eqb x 65535 e ∙ sym (le-leb 65535 x (omega arith))
-      | no d ↦ ne-eqb x 65535 d ∙ sym (lt-leb 65535 x (omega arith))
-    ]
-
-pub blank-first :
-    (k : ℕ) (list : List ℕ) → ((i : ℕ) → word list i < 65536) →
-    first-from k has-blank (appts list) ≡ first-from k (has-unlisted 65535) (appts list)
-unfolding appts first-from
-blank-first k [] h = refl
-blank-first k (a ∷ []) h = refl
-blank-first k (a ∷ b ∷ rest) h =
-    rw (blank-test a (h 0), blank-test b (h 1), blank-first (k + 1) rest (λ i. h (suc (suc i))))
 
 -- one party further
 pub largest-more : (p : ℕ) (s : List ℕ) → largest-word (p + 1) s ≡ max (largest-word p s) (word s p)

@@ -5,38 +5,13 @@ ghost use lib.ListN.{length};
 ghost use Rattle.words.specs.Basics.{count};
 ghost use Rattle.words.specs.Words.{word, «put-word»};
 ghost use Rattle.appointments.specs.Appointments.{appts, «largest-load», «scratch-words»};
-ghost use Rattle.appointments.specs.Checks.{«first-from», «has-unlisted», «check-ends», «checks-1-to-5», «checks-1-to-6», checks, passed};
-ghost use Rattle.checking.specs.Checked.{found, checked, «largest-word», «Words-fit»};
+ghost use Rattle.appointments.specs.Checks.{«check-ends», «checks-1-to-5», «checks-1-to-6», checks, passed};
+ghost use Rattle.checking.specs.Checked.{checked, «largest-word», «Words-fit»};
 ghost use Rattle.appointments.specs.Needed.{«needs-answer», «needed-of»};
 use appointments::Answered;
 use appointments::Needed;
-
-// A first position, or none.
-pub enum Found {
-    At(usize),
-    Nowhere,
-}
-
-// The first position with an end that is not below `bound`.
-fn first_not_below(list: &[u16], bound: usize) -> Found
-    requires { do ⌜ (← ⟦list.len()⟧) ≤ 8192 ⌝ }
-    ensures { λ r. ⌜ r ≡ found (first-from 0 (has-unlisted bound) (appts (now (list .entry)))) ⌝ }
-{
-    let a = list.len() / 2;
-    let mut i = 0;
-    while i < a {
-        let first = words::word16_at(list, 2 * i);
-        if bound <= first {
-            return Found::At(i);
-        }
-        let second = words::word16_at(list, 2 * i + 1);
-        if bound <= second {
-            return Found::At(i);
-        }
-        i += 1;
-    }
-    Found::Nowhere
-}
+use bad_ends::Found;
+use bad_ends::first_bad_ends;
 
 // Adds 1 to the load of a party.
 fn add_load(loads: &mut [u32], v: usize)
@@ -86,16 +61,18 @@ fn largest_load(p: usize, list: &[u16]) -> usize
     largest(&loads, p)
 }
 
-// Checks 4 and 5: the first blank end of the whole list, then the first other end that is not below `p`.
+// Checks 4 and 5, decided after one walk of the list: a blank end anywhere, else another end that is not below `p`. P fits 16 bits, since check 1 has
+// passed.
 fn check_ends(p: usize, list: &[u16]) -> Answered
-    requires { do ⌜ (← ⟦list.len()⟧) ≤ 8192 ⌝ }
+    requires { ⌜ p ≤ 1024 ⌝ }
     ensures { λ r. ⌜ r ≡ checked (check-ends p (now (list .entry)) passed) 0 ⌝ }
 {
-    let blank = first_not_below(list, 65535);
+    let ends = first_bad_ends(p as u16, list);
+    let blank = ends.blank;
     if let Found::At(i) = blank {
         return Answered::Refused(4, i);
     }
-    let unlisted = first_not_below(list, p);
+    let unlisted = ends.unlisted;
     if let Found::At(i) = unlisted {
         return Answered::Refused(5, i);
     }
