@@ -81,8 +81,8 @@ pub fn run(seed: u64) -> Result<(), String> {
     time_checks(&mut random)
 }
 
-/// The checks of a list of 4,096 appointments without the planning: by `bimtsure_needs` for a list that passes, by the planning call for
-/// lists that 4 or 5 refuses.
+/// The checks of a list of 4,096 appointments without the planning: by `bimtsure_needs` for a list that passes, by the planning
+/// call for lists that 4 or 5 refuses.
 fn time_checks(random: &mut Random) -> Result<(), String> {
     let (parties, degree) = CHECKED;
     let list = lists::even_handed_part(random, parties, degree, 3);

@@ -27,8 +27,8 @@ struct Caller {
     scratch: Vec<u32>,
 }
 
-/// COUNT random lists after those that papers name, some of them again with bad ends. An error names a list that differs, or a number or an
-/// order of blank and unlisted ends that never came.
+/// COUNT random lists after those that papers name, some of them again with bad ends. An error names a list that differs, or a
+/// number or an order of blank and unlisted ends that never came.
 pub fn compare(count: usize, seed: u64) -> Result<(), String> {
     let mut caller = Caller::new();
     for known in known::small().into_iter().chain(known::limits()) {
@@ -144,7 +144,7 @@ impl Caller {
             self.numbers.iter().enumerate().map(|(number, times)| format!("{number} {times} times")).collect();
         println!("bimtsure_needs: {} calls, which say {}", self.numbers.iter().sum::<usize>(), told.join(", "));
         let [earlier, same, later] = self.both;
-        println!("4 where an end is unlisted too, {earlier} times at an earlier position, {same} at the same, {later} at a later one");
+        println!("4 where an end is unlisted too: {earlier} times at an earlier position, {same} at the same, {later} at a later");
         let [planned, nines] = self.with_words;
         println!("bimtsure_plan with W words: {planned} planned, {nines} refused by 9, none by 8");
         println!("bimtsure_plan with one word less: {} refused by 8, all", self.with_one_less);

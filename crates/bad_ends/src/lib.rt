@@ -1,5 +1,5 @@
 // The first bad ends of a list, both from one walk: what check 4 asks, the first blank end, and what check 5 asks, the first other end that is not below
-// P. The walk doesn't stop at a bad end, since the other kind may still come; to stop after both would cost a test for each appointment.
+// P. The walk goes to the end of the list: after one kind of bad end the other may still come.
 ghost use mathlib.Core.Path.{_≡_};
 ghost use lib.Dec.{eqb};
 ghost use Rattle.appointments.specs.Appointments.{appts};
