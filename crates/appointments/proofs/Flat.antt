@@ -6,8 +6,8 @@ use native.Mathlib.Omega.{arith}
 use native.Mathlib.Numerals.{add-one}
 use native.Mathlib.Nat.{le-trans}
 use native.Mathlib.Decide.{ℕ-discrete}
-use lib.ListN.{length, take, drop, length-take}
-use lib.Seq.{take-suc}
+use lib.ListN.{length, getD, take, drop, length-take}
+use lib.Seq.{take-suc, drop-cons}
 use Rattle.words.specs.Basics.{is, total, count}
 use Rattle.words.specs.Words.{word, put-word}
 use Rattle.words.proofs.Sums.{is-same, is-ne, count-append, count-le}
@@ -45,6 +45,13 @@ rest-cons (a ∷ b ∷ rest) (suc i) h =
       word-two a b rest (2 * i + 1) (2 * suc i + 1) (omega arith),
       drop-one (appt a b) (appts rest) (i + 1) (suc i + 1) (omega arith),
     )
+
+-- the appointment at a position
+pub appt-at :
+    (list : List ℕ) (i : ℕ) (d : Appt) → i < length list / 2 → getD (appts list) i d ≡ appt (word list (2 * i)) (word list (2 * i + 1))
+appt-at list i d h =
+    let inside : i < length (appts list) = omega (arith, appts-count list) in
+    cc (drop-cons (appts list) i d inside, rest-cons list i h)
 
 -- past the last appointment there is none
 pub rest-none : (xs : List Appt) (i : ℕ) → length xs ≤ i → drop i xs ≡ []

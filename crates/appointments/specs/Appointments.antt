@@ -1,6 +1,9 @@
 -- Document 01's appointment, list, load, D and W. Assumes nothing.
 use Prim.Native.Nat.{ℕ, zero, suc, _+_, _*_, max}
+use mathlib.Core.Bool.{Bool}
 use mathlib.Core.List.{List, [], _∷_}
+use lib.Dec.{ltb}
+use lib.ListN.{getD}
 use Rattle.words.specs.Basics.{is, total}
 
 -- An appointment: two parties, its first end and its second end.
@@ -21,6 +24,14 @@ appts (a ∷ b ∷ rest) = appt a b ∷ appts rest
 -- how often an appointment names a party: twice if both ends are that party
 unfoldable pub names : ℕ → Appt → ℕ
 names v x = is v (x .first) + is v (x .second)
+
+-- The appointment names the party, once or twice.
+abbrev pub named : ℕ → Appt → Bool
+named v x = ltb 0 (names v x)
+
+-- the appointment at a position of the list, counted from 0, names the party
+abbrev pub named-at : ℕ → List ℕ → ℕ → Bool
+named-at v list i = named v (appt (getD list (2 * i) 0) (getD list (2 * i + 1) 0))
 
 -- A party's load is how often the list names it.
 unfoldable pub load : ℕ → List Appt → ℕ

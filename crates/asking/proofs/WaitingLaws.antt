@@ -1,42 +1,37 @@
--- The waiting call's laws: it accepts exactly the good lists asked about one of their parties, and then its figure and the
--- party's load make D. Assumes nothing.
-use Prim.Native.Nat.{ℕ, _+_, _<_}
+-- Waiting's laws: no gap with one slot or none, all numbers from the lowest slot to the highest, and at most D − 2. Assumes nothing.
+use Prim.Native.Nat.{ℕ, _-_, _≤_, _<_}
 use mathlib.Core.Path.{_≡_}
-use mathlib.Core.List.{List}
+use mathlib.Core.List.{List, [], _∷_}
 use native.Mathlib.Omega.{arith}
-use borrow.Author.Tests.{leb-false, lt-leb}
-use lib.Dec.{leb}
-use Rattle.appointments.specs.Appointments.{appts, load, largest-load}
-use Rattle.appointments.specs.Checks.{passed, bar}
-use Rattle.appointments.proofs.Loads.{load-le-largest}
-use Rattle.appointments.proofs.ChecksLaws.{Good-list, good-goes-on, passed-good, bar-passed}
-use Rattle.appointments.specs.Answers.{accepted}
-use Rattle.asking.specs.Waiting.{waiting, waiting-checks, waiting-answer}
-use Rattle.appointments.proofs.AnswerLaws.{accepted-passed}
+use lib.ListN.{length}
+use Rattle.words.specs.Basics.{All}
+use Rattle.words.proofs.Sums.{all-counted}
+use Rattle.appointments.specs.Appointments.{Appt}
+use Rattle.asking.specs.PartySlots.{slots-of, lowest, highest}
+use Rattle.asking.specs.Waiting.{free-between, waiting, Waits-in-the-hall}
+use Rattle.asking.proofs.PartySlots.{slots-load, slots-each, highest-in}
+use Rattle.asking.proofs.Between.{free-le, between-whole}
 
--- What the call accepts: a list that passes checks 1 to 5, and a party below P.
-pub record Askable (P : ℕ) (list : List ℕ) (party : ℕ) : Type 0 where
-  pub good : Good-list P list
-  pub below : party < P
+-- no slot or one leaves no number between
+one-slot : (mine : List ℕ) → length mine ≤ 1 → free-between (lowest mine) (highest mine) mine ≡ 0
+unfolding lowest highest
+one-slot [] h = omega (arith, free-le 65535 0 [])
+one-slot (s ∷ []) h = omega (arith, free-le s (highest (s ∷ [])) (s ∷ []))
+one-slot (s ∷ t ∷ mine) h = absurd (omega arith)
 
-module _ (P : ℕ) (list : List ℕ) (party : ℕ) where
-  pub askable-accepted : Askable P list party → waiting-answer P list party ≡ accepted (waiting P (appts list) party)
-  unfolding waiting-answer
-  askable-accepted a =
-      rw (good-goes-on P list (bar (leb P party) 5 passed) (a .good), lt-leb P party (a .below))
+-- with all slots below D
+with-d : (D : ℕ) (mine : List ℕ) → All (λ (s : ℕ). s < D) mine → free-between (lowest mine) (highest mine) mine ≤ D - 2
+with-d D [] h = omega (arith, one-slot [] (omega arith))
+with-d D (s ∷ mine) h =
+    let top : highest (s ∷ mine) < D = all-counted (λ (t : ℕ). t < D) (highest (s ∷ mine)) (s ∷ mine) h (highest-in (s ∷ mine) (omega arith)) in
+    omega (arith, top, free-le (lowest (s ∷ mine)) (highest (s ∷ mine)) (s ∷ mine))
 
-  -- Accepted: checks 1 to 5 passed, the party is below P, and the figure is its waiting.
-  pub accepted-askable : (figure : ℕ) → waiting-answer P list party ≡ accepted figure → Askable P list party × (waiting P (appts list) party ≡ figure)
-  unfolding waiting-answer
-  accepted-askable figure e =
-      let p = accepted-passed (waiting-checks P list party) (waiting P (appts list) party) figure e in
-      let c = passed-good P list (bar (leb P party) 5 passed) (p .0) in
-      let b = bar-passed (leb P party) 5 passed (c .1) in
-      (record { good = c .0; below = leb-false P party (b .0) }, p .1)
-
-  -- Waiting is D minus the load: the two make D.
-  pub waiting-and-load : (figure : ℕ) → waiting-answer P list party ≡ accepted figure → figure + load party (appts list) ≡ largest-load P (appts list)
-  unfolding waiting
-  waiting-and-load figure e =
-      let a = accepted-askable figure e in
-      omega (arith, a .1, load-le-largest P (appts list) party (a .0 .below))
+pub waits-in-the-hall : (xs : List Appt) (slots : List ℕ) (party : ℕ) → Waits-in-the-hall xs slots party
+unfolding waiting
+waits-in-the-hall xs slots party =
+    let mine : List ℕ = slots-of party xs slots in
+    record {
+      no-gap = λ h. one-slot mine (omega (arith, slots-load party xs slots));
+      whole = λ h. between-whole mine h;
+      below-d = λ D h. with-d D mine (slots-each (λ (s : ℕ). s < D) party xs slots h);
+    }

@@ -1,6 +1,6 @@
 -- The numbers of the answers fit 32 bits. Assumes nothing.
 use Prim.Native.Nat.{ℕ, _*_, _%_, _<_, _≤_}
-use mathlib.Core.Path.{_≡_, refl}
+use mathlib.Core.Path.{_≡_}
 use mathlib.Core.Bool.{Bool, not, _||_}
 use mathlib.Core.List.{List}
 use native.Mathlib.Omega.{arith}
@@ -10,16 +10,16 @@ use lib.ListN.{length}
 use Rattle.appointments.specs.Appointments.{Appt, appts}
 use Rattle.appointments.specs.Checks.{at, Check, first-from, has-blank, has-unlisted, bar, checks-1-to-5}
 use Rattle.appointments.specs.Needed.{needing, needs-answer}
-use Rattle.checking.proofs.Answering.{d-small, needs-small, needs-refusal-small}
+use Rattle.checking.proofs.Answering.{needs-small, needs-refusal-small}
 use Rattle.appointments.proofs.AnswerLaws.{refused-checked}
 use Rattle.appointments.proofs.Causes.{bar-cause, bar-at-cause, never-refused}
-use Rattle.appointments.proofs.ChecksLaws.{good-goes-on}
 use Rattle.appointments.proofs.FirstFrom.{found-is-first}
 use Rattle.appointments.specs.Answers.{accepted, refused}
-use Rattle.asking.specs.Waiting.{waiting, waiting-checks, waiting-answer}
+use Rattle.appointments.specs.declared.Answered.{Answered}
+use Rattle.appointments.specs.declared.Answered.the-variants as answered
+use Rattle.asking.specs.Waiting.{waiting, check-asked, waiting-checks, waiting-answer, Waiting-fits}
 use Rattle.filing.specs.Filed.{filed-length, writing-checks, writing-answer, header-of, header, reading-checks, reading-answer}
 use Rattle.viewing.specs.Viewer.{viewer-checks, viewer-answer}
-use Rattle.asking.proofs.WaitingLaws.{accepted-askable, waiting-and-load}
 use Rattle.filing.proofs.FiledLaws.{accepted-writable, accepted-readable}
 
 -- a number and a place below 2^32
@@ -45,12 +45,11 @@ module _ (P : ℕ) (list : List ℕ) where
 
 -- ── waiting ──
 
-module _ (P : ℕ) (list : List ℕ) (party : ℕ) where
-  pub waiting-fits : (n : ℕ) → waiting-answer P list party ≡ accepted n → n < 4294967296
-  waiting-fits n e =
-      let good = accepted-askable P list party n e .0 .good in
-      omega (arith, waiting-and-load P list party n e, d-small P list (good-goes-on P list Check.passed good))
+-- an accepted figure, as the call says of it
+pub waiting-fits : (told : Answered) (n : ℕ) → told ≡ answered.Accepted n → Waiting-fits told → n < 4294967296
+waiting-fits told n e h = let fits : n ≤ 65534 = rw e at h in omega arith
 
+module _ (P : ℕ) (list slots : List ℕ) (party : ℕ) where
   checks-fit : (next : Check) (n i : ℕ) → (next ≡ Check.refused n i → Both-fit n i) → checks-1-to-5 P list next ≡ Check.refused n i → Both-fit n i
   unfolding checks-1-to-5
   checks-fit next n i later =
@@ -62,11 +61,13 @@ module _ (P : ℕ) (list : List ℕ) (party : ℕ) where
       bar-at-cause Both-fit (first-from 0 (has-unlisted P) (appts list)) 5 _ n i (λ j q. (omega arith, first-fits (has-unlisted P) (appts list) j few q)) λ q.
       later))
 
-  pub waiting-refusal-fits : (n i : ℕ) → waiting-answer P list party ≡ refused n i → Both-fit n i
+  pub waiting-refusal-fits : (n i : ℕ) → waiting-answer P list slots party ≡ refused n i → Both-fit n i
   unfolding waiting-answer
   waiting-refusal-fits n i e =
-      checks-fit (bar (leb P party) 5 Check.passed) n i (bar-fits (leb P party) 5 Check.passed n i (omega arith) (never-refused n i))
-      (refused-checked (waiting-checks P list party) (waiting P (appts list) party) n i e)
+      checks-fit (check-asked P list (length slots) party) n i
+      (bar-fits (ltb (length slots) (length (appts list))) 7 _ n i (omega arith)
+      (bar-fits (leb P party) 5 Check.passed n i (omega arith) (never-refused n i)))
+      (refused-checked (waiting-checks P list (length slots) party) (waiting (appts list) slots party) n i e)
 
 -- ── the filed plan ──
 

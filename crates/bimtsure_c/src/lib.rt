@@ -128,14 +128,19 @@ pub extern "C" fn bimtsure_needs(p: u16, list: &[u16]) -> BimtsureNeeds
     }
 }
 
-// Waiting of a party.
+// Waiting of a party, between its lowest and its highest slot.
 #[no_mangle]
-pub extern "C" fn bimtsure_waiting(p: u16, list: &[u16], party: u16) -> BimtsureWaiting
-    ensures number { λ r. ⌜ r .number ≡ number-of (waiting-answer p (now (list .entry)) party) ⌝ }
-    ensures place { λ r. ⌜ r .place ≡ place-of (waiting-answer p (now (list .entry)) party) ⌝ }
-    ensures waiting { λ r. ⌜ r .waiting ≡ figure-of (waiting-answer p (now (list .entry)) party) ⌝ }
+pub extern "C" fn bimtsure_waiting(
+    p: u16,
+    list: &[u16],
+    slots: &[u16],
+    party: u16,
+) -> BimtsureWaiting
+    ensures number { λ r. ⌜ r .number ≡ number-of (waiting-answer p (now (list .entry)) (now (slots .entry)) party) ⌝ }
+    ensures place { λ r. ⌜ r .place ≡ place-of (waiting-answer p (now (list .entry)) (now (slots .entry)) party) ⌝ }
+    ensures waiting { λ r. ⌜ r .waiting ≡ figure-of (waiting-answer p (now (list .entry)) (now (slots .entry)) party) ⌝ }
 {
-    let asked = asking::waiting(p, list, party);
+    let asked = asking::waiting(p, list, slots, party);
     match asked {
         Answered::Accepted(n) => BimtsureWaiting {
             number: 0,

@@ -8,7 +8,7 @@ use native.Mathlib.Numerals.{add-one}
 use native.Mathlib.Nat.{le-trans, mul-le-mul-left}
 use borrow.Author.Tests.{eq-eqb, ne-eqb, lt-ltb, le-ltb}
 use lib.Dec.{eqb, ltb}
-use lib.ListN.{length, replicate}
+use lib.ListN.{length}
 use Rattle.words.specs.Words.{word}
 use Rattle.words.proofs.Sums.{count-le}
 use Rattle.appointments.specs.Appointments.{Appt, appts, load, largest-load, scratch-words}
@@ -26,12 +26,6 @@ use Rattle.appointments.proofs.Causes.{never-refused, refused-cause, cause-numb
 use Rattle.appointments.proofs.Enough.{words-enough, enough, needed-words}
 use Rattle.appointments.proofs.AnswerLaws.{refused-checked}
 use Rattle.appointments.proofs.Flat.{appts-count, load-count}
-
-pub zeros : (n v : ℕ) → word (replicate n 0) v ≡ 0
-zeros zero zero = refl
-zeros zero (suc v) = refl
-zeros (suc n) zero = refl
-zeros (suc n) (suc v) = zeros n v
 
 -- one party further
 pub largest-more : (p : ℕ) (s : List ℕ) → largest-word (p + 1) s ≡ max (largest-word p s) (word s p)

@@ -1,15 +1,15 @@
 -- From the evened graph to the slots: the matchings of its colouring lie where the slots are given from, and what is given are the
 -- slots of `bipartite_edge_color_given_partition`. Assumes nothing.
 use Prim.Native.Nat.{ℕ, _+_, _*_, _/_, _<_, _≤_, max}
-use mathlib.Core.Path.{_≡_, sym, _∙_, ap}
+use mathlib.Core.Path.{_≡_, sym, _∙_}
 use mathlib.Core.List.{List, []}
 use native.Mathlib.Omega.{arith}
 use lib.ListN.{length}
 use Rattle.words.specs.Basics.{ran}
 use Rattle.words.specs.Words.{word}
 use Rattle.words.proofs.Runs.{ran-is}
-use Rattle.appointments.specs.Appointments.{Appt, appts, largest-load}
-use Rattle.appointments.proofs.Flat.{appts-count}
+use Rattle.appointments.specs.Appointments.{Appt, appt, appts, largest-load}
+use Rattle.appointments.proofs.Flat.{appts-count, appt-at}
 use Rattle.multigraph.specs.Multigraph.{Graph}
 use Rattle.multigraph.specs.Stored.{graph-at, matchings-at}
 use Rattle.multigraph.specs.Places.{size}
@@ -17,7 +17,6 @@ use Rattle.multigraph.proofs.Kept.{Ends-kept, alike-back}
 use Rattle.coloring.specs.EdgeColor.{rbmg-edge-color}
 use Rattle.edge_color.specs.Room.{Color-fits, Colored}
 use Rattle.regular_graph.specs.Evening.{add-appointments, padded, even-out}
-use Rattle.list_pairs.proofs.Listed.{appt-at}
 use Rattle.highest_slot.specs.Slots.{give-slots}
 use Rattle.slots.specs.Stored.{Slots-fit, Gives-slots}
 use Rattle.given_partition.specs.GivenPartition.{bipartite-edge-color-given-partition}
@@ -134,7 +133,7 @@ module _
                 λ i k.
                 let inside : i < length list / 2 = omega (arith, as-many) in
                 let below : word s (apair-at q + i) < m = h .number-of i inside in
-                rw (pair-word i inside, appt-at list i inside, rows .firsts (word s (apair-at q + i)) below, rows .seconds (word s (apair-at q + i)) below)
+                rw (pair-word i inside, appt-at list i (appt 0 0) inside, rows .firsts (word s (apair-at q + i)) below, rows .seconds (word s (apair-at q + i)) below)
                 (h .ends-of i inside);
             after-ends = h .fits .graph .after-table;
             after-appointed = omega (arith, as-many, z .named, z .unit);

@@ -6,13 +6,13 @@ use native.Mathlib.Omega.{arith}
 use native.Mathlib.Numerals.{add-one}
 use native.Mathlib.Nat.{mul-one}
 use native.Mathlib.Decide.{ℕ-discrete}
-use lib.ListN.{length, take, getD}
-use lib.Seq.{take-suc, drop-cons}
+use lib.ListN.{length, take}
+use lib.Seq.{take-suc}
 use Rattle.words.specs.Basics.{All}
 use Rattle.words.specs.Words.{word}
 use Rattle.words.proofs.Sums.{all-at, total-const}
 use Rattle.appointments.specs.Appointments.{Appt, appt, appts}
-use Rattle.appointments.proofs.Flat.{appts-count, rest-cons}
+use Rattle.appointments.proofs.Flat.{appts-count, appt-at}
 use Rattle.multigraph.specs.Multigraph.{Pair, Graph, add-edge}
 use Rattle.multigraph.specs.Regular.{weigh}
 use Rattle.multigraph.specs.Places.{size, copies-of}
@@ -24,13 +24,6 @@ use Rattle.list_pairs.specs.Adding.{plain-pair, plain-graph}
 use Rattle.appointments.proofs.Loads.{weigh-appts}
 use Rattle.regular_graph.proofs.Pairs.{weigh-list}
 
--- appointment i of the list
-pub appt-at :
-    (list : List ℕ) (i : ℕ) → i < length list / 2 → getD (appts list) i (appt 0 0) ≡ appt (first-of list i) (second-of list i)
-appt-at list i h =
-    let inside : i < length (appts list) = omega (arith, appts-count list) in
-    cc (drop-cons (appts list) i (appt 0 0) inside, rest-cons list i h)
-
 -- what is listed, by half-edges
 pub listed-half :
     (list : List ℕ) (p : ℕ) → length list % 2 ≡ 0 → All (λ (x : Appt). (x .first < p) × (x .second < p)) (appts list) →
@@ -39,7 +32,7 @@ listed-half list p even listed h inside =
     let a : h / 2 < length list / 2 = omega arith in
     let b : h / 2 < length (appts list) = omega (arith, appts-count list) in
     let both : (first-of list (h / 2) < p) × (second-of list (h / 2) < p) =
-    rw (appt-at list (h / 2) a) at (all-at (λ (x : Appt). (x .first < p) × (x .second < p)) (appts list) (appt 0 0) listed (h / 2) b) in
+    rw (appt-at list (h / 2) (appt 0 0) a) at (all-at (λ (x : Appt). (x .first < p) × (x .second < p)) (appts list) (appt 0 0) listed (h / 2) b) in
     elim (ℕ-discrete (h % 2) 0) [
       | yes e ↦ let q : 2 * (h / 2) ≡ h = omega arith in rw q at (both .0)
       | no e ↦ let q : 2 * (h / 2) + 1 ≡ h = omega arith in rw q at (both .1)
@@ -59,7 +52,7 @@ pub add-appointments-more :
 unfolding add-appointments
 add-appointments-more list k h =
     let inside : k < length (appts list) = omega (arith, appts-count list) in
-    rw (add-one k, take-suc (appts list) k (appt 0 0) inside, appt-at list k h)
+    rw (add-one k, take-suc (appts list) k (appt 0 0) inside, appt-at list k (appt 0 0) h)
     (add-appointments-append [] (take k (appts list)) (appt (first-of list k) (second-of list k) ∷ []))
 
 -- ── copies are few ──

@@ -7,13 +7,15 @@ use mathlib.Core.List.{List, [], _∷_, _++_}
 use native.Mathlib.Omega.{arith}
 use borrow.Author.Tests.{ltb-false}
 use lib.Dec.{ltb}
-use lib.ListN.{length, getD, length-append}
+use lib.ListN.{length, getD, take, length-append}
+use lib.Seq.{length-take-le, getD-take}
 use Rattle.words.specs.Basics.{pick, All, sum-below}
-use Rattle.words.proofs.Sums.{all-map, sum-below-le, sum-below-const}
+use Rattle.words.proofs.Sums.{all-at, all-map, sum-below-le, sum-below-const}
 use Rattle.appointments.specs.Appointments.{Appt, appts, load, largest-load}
 use Rattle.appointments.proofs.Loads.{Listed, load-le-largest, loads-sum}
 use Rattle.appointments.proofs.ChecksLaws.{Passes}
 use Rattle.asking.specs.Waiting.{waiting}
+use Rattle.asking.proofs.WaitingLaws.{waits-in-the-hall}
 use Rattle.words.specs.Ascii.{ascii}
 use Rattle.printing.specs.Printing.{decimal-by, decimal, line, appointment-lines, party-lines, plan-lines, refusal-line}
 
@@ -77,15 +79,15 @@ appointment-lines-length i (x ∷ xs) slots h ends fit =
     omega (arith, length-append this (appointment-lines (i + 1) xs slots))
 
 -- each line of a party at most 14
-party-lines-length : (P : ℕ) (xs : List Appt) (v k : ℕ) → v + k ≤ 1000 → largest-load P xs < 1000 → length (party-lines P xs v k) ≤ 14 * k
+party-lines-length : (xs : List Appt) (slots : List ℕ) (v k : ℕ) → v + k ≤ 1000 → ((u : ℕ) → waiting xs slots u < 1000) → length (party-lines xs slots v k) ≤ 14 * k
 unfolding party-lines
-party-lines-length P xs v zero h D = omega arith
-party-lines-length P xs v (suc k) h D =
-    let this : List ℕ = line (ascii "party" ∷ decimal v ∷ decimal (waiting P xs v) ∷ []) in
-    let rest : length (party-lines P xs (v + 1) k) ≤ 14 * k = party-lines-length P xs (v + 1) k (omega arith) D in
+party-lines-length xs slots v zero h waits = omega arith
+party-lines-length xs slots v (suc k) h waits =
+    let this : List ℕ = line (ascii "party" ∷ decimal v ∷ decimal (waiting xs slots v) ∷ []) in
+    let rest : length (party-lines xs slots (v + 1) k) ≤ 14 * k = party-lines-length xs slots (v + 1) k (omega arith) waits in
     let first : length this ≤ 14 =
-    omega (arith, line-three (ascii "party") (decimal v) (decimal (waiting P xs v)), three-digits v (omega arith), three-digits (waiting P xs v) (omega arith)) in
-    omega (arith, length-append this (party-lines P xs (v + 1) k))
+    omega (arith, line-three (ascii "party") (decimal v) (decimal (waiting xs slots v)), three-digits v (omega arith), three-digits (waiting xs slots v) (waits v)) in
+    omega (arith, length-append this (party-lines xs slots (v + 1) k))
 
 -- ── an accepted plan ──
 
@@ -96,20 +98,27 @@ appointments-few P xs h =
     omega (arith, loads-sum P xs h, sum-below-const (largest-load P xs) P)
 
 -- scratch for P parties and D slots within main's 16,384 words
-pub small-load : (P : ℕ) (xs : List Appt) → P * (largest-load P xs + 1) ≤ 128 → largest-load P xs < 1000
+small-load : (P : ℕ) (xs : List Appt) → P * (largest-load P xs + 1) ≤ 128 → largest-load P xs < 1000
 unfolding largest-load
 small-load zero xs h = omega arith
 small-load (suc P) xs h = omega arith
 
--- the slots of the appointments have at most five digits, as every 16-bit number has
-abbrev pub Slots-fit : List ℕ → List ℕ → Type 0
-Slots-fit list slots = (j : ℕ) → j < length (appts list) → getD slots j 0 < 100000
+-- the slots of the appointments are below D, as demand 3 has it
+abbrev pub Below-d : ℕ → List Appt → List ℕ → Type 0
+Below-d P xs slots = All (λ (s : ℕ). s < largest-load P xs) (take (length xs) slots)
 
--- An accepted plan prints at most 1,801 bytes.
-pub plan-fits : (P : ℕ) (list slots : List ℕ) → Passes P list 4096 16384 → Slots-fit list slots
+-- the slot at a position
+slot-below : (P : ℕ) (xs : List Appt) (slots : List ℕ) → length xs ≤ length slots → Below-d P xs slots → (j : ℕ) → j < length xs → getD slots j 0 < largest-load P xs
+slot-below P xs slots room below j h =
+    let D : ℕ = largest-load P xs in
+    let inside : j < length (take (length xs) slots) = omega (arith, length-take-le (length xs) slots room) in
+    rw (getD-take (length xs) slots j 0 h) at (all-at (λ (s : ℕ). s < D) (take (length xs) slots) 0 below j inside)
+
+-- An accepted plan prints at most 1,801 bytes: its slots, and so each party's waiting, are below D, which has at most three digits.
+pub plan-fits : (P : ℕ) (list slots : List ℕ) → Passes P list 4096 16384 → length (appts list) ≤ length slots → Below-d P (appts list) slots
     → length (plan-lines P list (largest-load P (appts list)) slots) ≤ 1801
 unfolding plan-lines
-plan-fits P list slots p fit =
+plan-fits P list slots p enough below =
     let D : ℕ = largest-load P (appts list) in
     let xs : List Appt = appts list in
     let room : P * (D + 1) ≤ 128 = omega (arith, p .scratch-room) in
@@ -117,12 +126,13 @@ plan-fits P list slots p fit =
     let head : length (line (ascii "plan" ∷ decimal D ∷ [])) ≤ 9 =
     omega (arith, line-two (ascii "plan") (decimal D), three-digits D (small-load P xs room)) in
     let middle : length (appointment-lines 0 xs slots) ≤ 18 * length xs =
-    appointment-lines-length 0 xs slots (omega arith) (all-map (λ x (l : Listed P x). (omega arith, omega arith)) xs (p .good .listed)) (λ j l. fit j (omega arith)) in
-    let parties : length (party-lines P xs 0 P) ≤ 14 * P = party-lines-length P xs 0 P (omega arith) (small-load P xs room) in
+    appointment-lines-length 0 xs slots (omega arith) (all-map (λ x (l : Listed P x). (omega arith, omega arith)) xs (p .good .listed)) (λ j l. omega (arith, slot-below P xs slots enough below j (omega arith), small-load P xs room)) in
+    let waits : (u : ℕ) → waiting xs slots u < 1000 = λ u. omega (arith, waits-in-the-hall xs slots u .below-d D below, small-load P xs room) in
+    let parties : length (party-lines xs slots 0 P) ≤ 14 * P = party-lines-length xs slots 0 P (omega arith) waits in
     omega (
       arith,
-      length-append (line (ascii "plan" ∷ decimal D ∷ [])) (appointment-lines 0 xs slots ++ party-lines P xs 0 P),
-      length-append (appointment-lines 0 xs slots) (party-lines P xs 0 P),
+      length-append (line (ascii "plan" ∷ decimal D ∷ [])) (appointment-lines 0 xs slots ++ party-lines xs slots 0 P),
+      length-append (appointment-lines 0 xs slots) (party-lines xs slots 0 P),
     )
 
 -- A refusal's line has at most 20 bytes.

@@ -10,11 +10,11 @@ use native.Mathlib.Numerals.{add-one}
 use lib.ListN.{length, getD, drop, set, length-append}
 use lib.Seq.{sets, length-sets, sets-eq, append-snoc, drop-cons, drop-length}
 use Rattle.appointments.specs.Appointments.{Appt, appts}
-use Rattle.appointments.proofs.Flat.{rest-cons, rest-none, appts-count, load-count}
-use Rattle.asking.specs.Waiting.{waiting, waits}
+use Rattle.appointments.proofs.Flat.{rest-cons, rest-none, appts-count}
+use Rattle.asking.specs.Waiting.{waiting}
 use Rattle.words.specs.Ascii.{ascii, space, line-feed}
 use Rattle.printing.specs.Printing.{decimal-by, decimal, line, party-line, appointment-lines, party-lines, plan-lines, refusal-line}
-use Rattle.printing.specs.Placed.{Room, Placed, Printed, field, Has-d, appointment-line-at}
+use Rattle.printing.specs.Placed.{Room, Placed, Printed, field, appointment-line-at}
 use borrow.Author.Tests.{lt-ltb, le-ltb, ltb-false}
 use lib.Dec.{ltb}
 use Rattle.words.specs.Basics.{pick}
@@ -100,16 +100,10 @@ pub refusal-fields : (number place : ℕ) → refusal-line number place ≡ asci
 unfolding refusal-line ascii
 refusal-fields number place = line-3 (ascii "refused") (decimal number) (decimal place)
 
--- a party's waiting is D minus how often the list names it
-waits-is : (P : ℕ) (list : List ℕ) (D v : ℕ) → Has-d P list D → waits D list v ≡ waiting P (appts list) v
-unfolding waiting
-waits-is P list D v h = rw (h .largest, load-count v list (h .even))
-
-pub party-fields : (P : ℕ) (list : List ℕ) (D v w : ℕ) → Has-d P list D → w ≡ waits D list v
-    → party-line P (appts list) v ≡ ascii "party " ++ (field (decimal v) space ++ field (decimal w) line-feed)
+pub party-fields : (xs : List Appt) (slots : List ℕ) (v w : ℕ) → w ≡ waiting xs slots v
+    → party-line xs slots v ≡ ascii "party " ++ (field (decimal v) space ++ field (decimal w) line-feed)
 unfolding ascii
-party-fields P list D v w h e =
-    rw (e, waits-is P list D v h) (line-3 (ascii "party") (decimal v) (decimal (waiting P (appts list) v)))
+party-fields xs slots v w e = rw e (line-3 (ascii "party") (decimal v) (decimal (waiting xs slots v)))
 
 pub appointment-fields : (list slots : List ℕ) (i first second slot : ℕ) → first ≡ getD list (2 * i) 0 → second ≡ getD list (2 * i + 1) 0 → slot ≡ getD slots i 0
     → appointment-line-at list slots i ≡ field (decimal i) space ++ (field (decimal first) space ++ (field (decimal second) space ++ field (decimal slot) line-feed))
@@ -117,10 +111,10 @@ appointment-fields list slots i first second slot p q r =
     rw (p, q, r) (line-4 (decimal i) (decimal (getD list (2 * i) 0)) (decimal (getD list (2 * i + 1) 0)) (decimal (getD slots i 0)))
 
 pub plan-fields : (P : ℕ) (list : List ℕ) (D : ℕ) (slots : List ℕ)
-    → plan-lines P list D slots ≡ ascii "plan " ++ (field (decimal D) line-feed ++ (appointment-lines 0 (appts list) slots ++ party-lines P (appts list) 0 P))
+    → plan-lines P list D slots ≡ ascii "plan " ++ (field (decimal D) line-feed ++ (appointment-lines 0 (appts list) slots ++ party-lines (appts list) slots 0 P))
 unfolding plan-lines ascii
 plan-fields P list D slots =
-    let lines : List ℕ = appointment-lines 0 (appts list) slots ++ party-lines P (appts list) 0 P in
+    let lines : List ℕ = appointment-lines 0 (appts list) slots ++ party-lines (appts list) slots 0 P in
     ap (λ (l : List ℕ). l ++ lines) (line-2 (ascii "plan") (decimal D))
     ∙ append-assoc (ascii "plan ") (field (decimal D) line-feed) lines
 
@@ -167,20 +161,21 @@ pub appointment-last : (list slots : List ℕ) (i : ℕ) → length list / 2 ≤
 unfolding appointment-lines
 appointment-last list slots i h = rw (rest-none (appts list) i (omega (arith, appts-count list)))
 
-pub party-start : (o : List ℕ) (start P : ℕ) (xs : List Appt) → Underway o start (party-lines P xs 0 P) o start (party-lines P xs 0 (P - 0))
-party-start o start P xs = rw (sub-zero P) (underway-start o start (party-lines P xs 0 P))
+module _ (P : ℕ) (xs : List Appt) (slots : List ℕ) where
+  pub party-start : (o : List ℕ) (start : ℕ) → Underway o start (party-lines xs slots 0 P) o start (party-lines xs slots 0 (P - 0))
+  party-start o start = rw (sub-zero P) (underway-start o start (party-lines xs slots 0 P))
 
-pub party-next : (P : ℕ) (xs : List Appt) (v : ℕ) → v < P → party-lines P xs v (P - v) ≡ party-line P xs v ++ party-lines P xs (v + 1) (P - (v + 1))
-unfolding party-lines
-party-next P xs v h =
-    let on : P - v ≡ suc (P - (v + 1)) = omega arith in
-    rw on
+  pub party-next : (v : ℕ) → v < P → party-lines xs slots v (P - v) ≡ party-line xs slots v ++ party-lines xs slots (v + 1) (P - (v + 1))
+  unfolding party-lines
+  party-next v h =
+      let on : P - v ≡ suc (P - (v + 1)) = omega arith in
+      rw on
 
-pub party-last : (P : ℕ) (xs : List Appt) (v : ℕ) → P ≤ v → party-lines P xs v (P - v) ≡ []
-unfolding party-lines
-party-last P xs v h =
-    let over : P - v ≡ zero = omega arith in
-    rw over
+  pub party-last : (v : ℕ) → P ≤ v → party-lines xs slots v (P - v) ≡ []
+  unfolding party-lines
+  party-last v h =
+      let over : P - v ≡ zero = omega arith in
+      rw over
 
 -- ── a word ──
 

@@ -1,10 +1,10 @@
 -- What printing does to a lent buffer: bytes stored from a place on, and the place behind them. Assumes nothing.
-use Prim.Native.Nat.{ℕ, _+_, _*_, _%_, _≤_}
+use Prim.Native.Nat.{ℕ, _+_, _*_, _≤_}
 use mathlib.Core.Path.{_≡_}
 use mathlib.Core.List.{List, [], _∷_, _++_}
 use lib.ListN.{length, getD}
 use lib.Seq.{sets}
-use Rattle.appointments.specs.Appointments.{appt, appts, largest-load}
+use Rattle.appointments.specs.Appointments.{appt}
 use Rattle.appointments.specs.Answers.{over}
 use Rattle.printing.specs.Printing.{appointment-line}
 
@@ -25,11 +25,6 @@ pub record Printed (bytes : List ℕ) (count : ℕ) (buffer after : List ℕ) : 
 -- a field and the byte behind it
 abbrev pub field : List ℕ → ℕ → List ℕ
 field bytes end = bytes ++ (end ∷ [])
-
--- the list has whole appointments and D is its largest load, so each party's waiting is D minus how often the list names it
-pub record Has-d (P : ℕ) (list : List ℕ) (D : ℕ) : Type 0 where
-  pub even : length list % 2 ≡ 0
-  pub largest : D ≡ largest-load P (appts list)
 
 -- the line of the appointment at a position of the list
 abbrev pub appointment-line-at : List ℕ → List ℕ → ℕ → List ℕ

@@ -30,8 +30,8 @@ abbrev pub appointment-line : ℕ → Appt → ℕ → List ℕ
 appointment-line i x slot = line (decimal i ∷ decimal (x .first) ∷ decimal (x .second) ∷ decimal slot ∷ [])
 
 -- the line of a party: its number and its waiting
-abbrev pub party-line : ℕ → List Appt → ℕ → List ℕ
-party-line P xs v = line (ascii "party" ∷ decimal v ∷ decimal (waiting P xs v) ∷ [])
+abbrev pub party-line : List Appt → List ℕ → ℕ → List ℕ
+party-line xs slots v = line (ascii "party" ∷ decimal v ∷ decimal (waiting xs slots v) ∷ [])
 
 -- the lines of the appointments, counted from position i
 unfoldable pub appointment-lines : ℕ → List Appt → List ℕ → List ℕ
@@ -40,10 +40,10 @@ appointment-lines i [] slots = []
 appointment-lines i (x ∷ xs) slots = appointment-line i x (getD slots i 0) ++ appointment-lines (i + 1) xs slots
 
 -- the lines of the k parties from v on
-unfoldable pub party-lines : ℕ → List Appt → ℕ → ℕ → List ℕ
+unfoldable pub party-lines : List Appt → List ℕ → ℕ → ℕ → List ℕ
 unfolding line decimal ascii waiting
-party-lines P xs v zero = []
-party-lines P xs v (suc k) = party-line P xs v ++ party-lines P xs (v + 1) k
+party-lines xs slots v zero = []
+party-lines xs slots v (suc k) = party-line xs slots v ++ party-lines xs slots (v + 1) k
 
 -- What there is to print: an accepted plan (P, list, D and slots), or a refusal (number and place).
 pub data Report : Type 0 where
@@ -55,7 +55,7 @@ unfoldable pub plan-lines : ℕ → List ℕ → ℕ → List ℕ → List ℕ
 unfolding line decimal ascii appointment-lines party-lines
 plan-lines P list D slots =
     line (ascii "plan" ∷ decimal D ∷ [])
-    ++ (appointment-lines 0 (appts list) slots ++ party-lines P (appts list) 0 P)
+    ++ (appointment-lines 0 (appts list) slots ++ party-lines (appts list) slots 0 P)
 
 -- the word, number, place
 unfoldable pub refusal-line : ℕ → ℕ → List ℕ

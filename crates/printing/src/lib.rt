@@ -6,7 +6,7 @@ ghost use Prim.Native.Nat.{_+_, _*_, _<_};
 ghost use lib.ListN.{length};
 ghost use Rattle.appointments.specs.Appointments.{appts};
 ghost use Rattle.printing.specs.Printing.{decimal, «party-line», «appointment-lines», «party-lines», «plan-lines», «refusal-line»};
-ghost use Rattle.printing.specs.Placed.{Placed, Printed, Room, field, «Has-d», «appointment-line-at»};
+ghost use Rattle.printing.specs.Placed.{Placed, Printed, Room, field, «appointment-line-at»};
 
 // Puts one byte.
 fn put_byte(out: &mut [u8], at: usize, byte: u8) -> usize
@@ -81,25 +81,25 @@ fn put_appointments(list: &[u16], slots: &[u16], out: &mut [u8], start: usize) -
 }
 
 // Puts the line of a party: the party and its waiting.
-fn put_party(p: u16, d: usize, list: &[u16], party: u16, out: &mut [u8], at: usize) -> usize
-    requires { ⌜ Has-d p (now list) d × Room (now out) at (party-line p (appts (now list)) party) ⌝ }
-    ensures { λ r. ⌜ Placed (now (out .entry)) at (party-line p (appts (now (list .entry))) party) (now (out .exit)) r ⌝ }
+fn put_party(list: &[u16], slots: &[u16], party: u16, out: &mut [u8], at: usize) -> usize
+    requires { ⌜ Room (now out) at (party-line (appts (now list)) (now slots) party) ⌝ }
+    ensures { λ r. ⌜ Placed (now (out .entry)) at (party-line (appts (now (list .entry))) (now (slots .entry)) party) (now (out .exit)) r ⌝ }
 {
-    let waits = asking::waiting_of(d, list, party);
+    let waits = asking::waiting_of(list, slots, party);
     let at_party = put_bytes(out, at, b"party ");
     let at_waits = put_field(out, at_party, party as usize, 32);
     put_field(out, at_waits, waits, 10)
 }
 
 // Puts the lines of all parties.
-fn put_parties(p: u16, d: usize, list: &[u16], out: &mut [u8], start: usize) -> usize
-    requires { ⌜ Has-d p (now list) d × Room (now out) start (party-lines p (appts (now list)) 0 p) ⌝ }
-    ensures { λ r. ⌜ Placed (now (out .entry)) start (party-lines p (appts (now (list .entry))) 0 p) (now (out .exit)) r ⌝ }
+fn put_parties(p: u16, list: &[u16], slots: &[u16], out: &mut [u8], start: usize) -> usize
+    requires { ⌜ Room (now out) start (party-lines (appts (now list)) (now slots) 0 p) ⌝ }
+    ensures { λ r. ⌜ Placed (now (out .entry)) start (party-lines (appts (now (list .entry))) (now (slots .entry)) 0 p) (now (out .exit)) r ⌝ }
 {
     let mut at = start;
     let mut v = 0;
     while v < p {
-        at = put_party(p, d, list, v, out, at);
+        at = put_party(list, slots, v, out, at);
         v += 1;
     }
     at
@@ -107,13 +107,13 @@ fn put_parties(p: u16, d: usize, list: &[u16], out: &mut [u8], start: usize) -> 
 
 // Puts an accepted plan: D, then the appointments, then the parties. It gives the number of bytes.
 pub fn put_plan(p: u16, list: &[u16], d: usize, slots: &[u16], out: &mut [u8]) -> usize
-    requires { ⌜ Has-d p (now list) d × Room (now out) 0 (plan-lines p (now list) d (now slots)) ⌝ }
+    requires { ⌜ Room (now out) 0 (plan-lines p (now list) d (now slots)) ⌝ }
     ensures { λ r. ⌜ Printed (plan-lines p (now (list .entry)) d (now (slots .entry))) r (now (out .entry)) (now (out .exit)) ⌝ }
 {
     let at_number = put_bytes(out, 0, b"plan ");
     let at_appointments = put_field(out, at_number, d, 10);
     let at_parties = put_appointments(list, slots, out, at_appointments);
-    put_parties(p, d, list, out, at_parties)
+    put_parties(p, list, slots, out, at_parties)
 }
 
 // Puts the one line of a refusal. It gives the number of bytes.

@@ -1,7 +1,7 @@
 -- Main, case by case: what its report is when the input is too long, malformed or read, and when the planning call has planned
 -- or refused; and that 1,801 bytes have room for each. Assumes nothing.
 use Prim.Native.Nat.{ℕ, _≤_, _<_}
-use mathlib.Core.Path.{_≡_, refl, sym, _∙_, ap, subst}
+use mathlib.Core.Path.{_≡_, sym, _∙_, ap, subst}
 use mathlib.Core.Bool.{Bool}
 use mathlib.Core.List.{List}
 use native.Mathlib.Omega.{arith}
@@ -16,8 +16,8 @@ use Rattle.planning.specs.declared.Answer.{Answer}
 use Rattle.reading.specs.Reading.{Input, input, read-input}
 use Rattle.printing.specs.Printing.{printed, plan-lines, refusal-line}
 use Rattle.text.specs.Text.{main-lent, planned-report, input-report, report, text-output}
-use Rattle.printing.specs.Placed.{Room, Printed, Has-d}
-use Rattle.text.proofs.TextLaws.{planned-passes, answer-fits, output-fits}
+use Rattle.printing.specs.Placed.{Room, Printed}
+use Rattle.text.proofs.TextLaws.{answer-fits, output-fits}
 
 -- bytes that 1,801 hold have room
 room : (bytes out : List ℕ) → length bytes ≤ 1801 → 1801 ≤ length out → Room out 0 bytes
@@ -47,10 +47,8 @@ module _ (P : ℕ) (list : List ℕ) where
   -- planned with D
   pub plan-needs :
       (D : ℕ) (slots out : List ℕ) → Answered (accepted D) → slots ≡ main-slots → 1801 ≤ length out →
-      Has-d P list D × Room out 0 (plan-lines P list D slots)
-  plan-needs D slots out e s h =
-      let told = planned-passes (main-lent P list) D e in
-      (record { even = told .0 .good .even; largest = sym (told .1) }, rw s (room (bytes-of (accepted D)) out (bytes-fit (accepted D) e) h))
+      Room out 0 (plan-lines P list D slots)
+  plan-needs D slots out e s h = rw s (room (bytes-of (accepted D)) out (bytes-fit (accepted D) e) h)
 
   -- refused
   pub refusal-needs :

@@ -18,7 +18,7 @@ abbrev Prints-broken : String → String → Type 0
 Prints-broken came output = text-output true (ascii came) ≡ ascii output
 
 -- document 01's example
-document-01 : Prints "3\n0,1\n1,2\n" "plan 2\n0 0 1 0\n1 1 2 1\nparty 0 1\nparty 1 0\nparty 2 1\n"
+document-01 : Prints "3\n0,1\n1,2\n" "plan 2\n0 0 1 0\n1 1 2 1\nparty 0 0\nparty 1 0\nparty 2 0\n"
 unfolding computing
 document-01 = refl
 

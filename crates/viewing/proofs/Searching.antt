@@ -1,39 +1,21 @@
 -- The viewer's search by position: what a turn of it finds at a position of the flat list, and what a step then tells.
 -- Assumes nothing.
 use Prim.Native.Nat.{ℕ, _+_, _/_, _≤_, _<_}
-use mathlib.Core.Path.{_≡_, refl, sym}
+use mathlib.Core.Path.{_≡_, refl}
 use mathlib.Core.Bool.{true, false}
 use mathlib.Core.List.{List}
 use native.Mathlib.Omega.{arith}
-use native.Mathlib.Decide.{ℕ-discrete}
-use borrow.Author.Tests.{eq-eqb, ne-eqb, lt-ltb, le-ltb}
-use lib.Dec.{eqb}
 use lib.ListN.{length, getD, drop, drop-of-length-le}
-use Rattle.words.specs.Basics.{is}
-use Rattle.words.proofs.Sums.{is-eq, is-ne}
-use Rattle.appointments.specs.Appointments.{appt, appts, names}
+use Rattle.appointments.specs.Appointments.{appts, named, named-at}
 use Rattle.appointments.specs.Checks.{First, at, nowhere, first-from}
 use Rattle.appointments.proofs.FirstFrom.{first-here, first-later}
 use Rattle.appointments.proofs.Flat.{appts-count, rest-cons}
-use Rattle.viewing.specs.Viewer.{named, Step, found, end, view-step, view-next}
-use Rattle.viewing.specs.Told.{shown-of, named-at, stands-of}
+use Rattle.viewing.specs.Viewer.{Step, found, end, view-step, view-next}
+use Rattle.viewing.specs.Told.{shown-of, stands-of}
 use Rattle.viewing.specs.declared.Shown.the-variants as shown
 use Rattle.viewing.proofs.ViewerSteps.{step-found, step-end}
 
 -- ── one turn of the search ──
-
--- an appointment names the party, by its first end, and by its second
-pub named-first : (party a b : ℕ) → a ≡ party → true ≡ named party (appt a b)
-unfolding names
-named-first party a b e = sym (lt-ltb 0 (is party a + is party b) (omega (arith, is-eq {u = party} {v = a} (sym e))))
-
-pub named-second : (party a b : ℕ) → (a ≡ party → ⊥) → eqb b party ≡ named party (appt a b)
-unfolding names
-named-second party a b n =
-    elim (ℕ-discrete b party) [
-      | yes e ↦ rw (eq-eqb b party e) (sym (lt-ltb 0 (is party a + is party b) (omega (arith, is-eq {u = party} {v = b} (sym e)))))
-      | no k ↦ rw (ne-eqb b party k) (sym (le-ltb 0 (is party a + is party b) (omega (arith, is-ne {u = party} {v = b} (λ e. k (sym e)), is-ne {u = party} {v = a} (λ e. n (sym e))))))
-    ]
 
 -- the first appointment from a position on that names the party
 abbrev pub seek : ℕ → List ℕ → ℕ → First

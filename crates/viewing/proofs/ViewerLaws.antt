@@ -9,8 +9,8 @@ use borrow.Author.Tests.{ltb-true, lt-ltb}
 use lib.ListN.{length, getD}
 use Rattle.words.specs.Basics.{pick, is, total, All}
 use Rattle.words.proofs.Sums.{is-eq, is-ne, all-map, total-all-zero}
-use Rattle.appointments.specs.Appointments.{Appt, appts, names}
-use Rattle.viewing.specs.Viewer.{named, Seen, seen, view-from, view, Shows, Ascending, shown-at, Sequence}
+use Rattle.appointments.specs.Appointments.{Appt, appts, names, named}
+use Rattle.viewing.specs.Viewer.{Seen, seen, view-from, view, Shows, Ascending, shown-at, Sequence}
 
 module _ (party : ℕ) (slots : List ℕ) where
   -- one appointment more: it is shown if it names the party

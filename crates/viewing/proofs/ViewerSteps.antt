@@ -7,10 +7,10 @@ use mathlib.Core.List.{List, [], _∷_}
 use native.Mathlib.Omega.{arith}
 use lib.ListN.{length, drop, length-drop, drop-of-length-le}
 use lib.Seq.{drop-drop}
-use Rattle.appointments.specs.Appointments.{Appt, appts}
+use Rattle.appointments.specs.Appointments.{Appt, appts, named}
 use Rattle.appointments.specs.Checks.{First, at, nowhere, first-from}
 use Rattle.appointments.proofs.FirstFrom.{at-nowhere}
-use Rattle.viewing.specs.Viewer.{named, seen, found, end, view-step, view-next, view-steps, view-from, view, Stays}
+use Rattle.viewing.specs.Viewer.{seen, found, end, view-step, view-next, view-steps, view-from, view, Stays}
 use Rattle.viewing.proofs.ViewerLaws.{from-named, from-other}
 
 module _ (party : ℕ) (slots : List ℕ) where

@@ -1,12 +1,9 @@
 -- What opening and a step tell in the code, an enum for each, and the definitions' answer that each case stands for. Assumes nothing.
-use Prim.Native.Nat.{ℕ, _+_, _*_}
-use mathlib.Core.Bool.{Bool}
+use Prim.Native.Nat.{ℕ}
 use mathlib.Core.List.{List}
-use lib.ListN.{getD}
 use denote.Ref.{now}
-use Rattle.appointments.specs.Appointments.{appt}
 use Rattle.appointments.specs.Answers.{Answer, accepted, refused}
-use Rattle.viewing.specs.Viewer.{named, Step, found, end, view-step, view-next}
+use Rattle.viewing.specs.Viewer.{Step, found, end, view-step, view-next}
 use Rattle.viewing.specs.declared.Opened.{Opened}
 use Rattle.viewing.specs.declared.Opened.the-variants as opened
 use Rattle.viewing.specs.declared.Viewer.{Viewer}
@@ -40,7 +37,3 @@ stepped party v =
       slots = v .slots;
       at = view-next party (now (v .list)) (now (v .slots)) (v .at);
     }
-
--- the appointment at a position of the list names the party
-abbrev pub named-at : ℕ → List ℕ → ℕ → Bool
-named-at party list i = named party (appt (getD list (2 * i) 0) (getD list (2 * i + 1) 0))

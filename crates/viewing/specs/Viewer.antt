@@ -2,12 +2,10 @@
 -- of the party's positions, ascending, and then the end, where it stays. Assumes nothing.
 use Prim.Native.Nat.{ℕ, zero, suc, _+_, _<_}
 use mathlib.Core.Path.{_≡_}
-use mathlib.Core.Bool.{Bool}
 use mathlib.Core.List.{List, [], _∷_}
-use lib.Dec.{ltb}
 use lib.ListN.{length, getD, drop}
 use Rattle.words.specs.Basics.{pick, is, total, All}
-use Rattle.appointments.specs.Appointments.{Appt, appts, names}
+use Rattle.appointments.specs.Appointments.{Appt, appts, names, named}
 use Rattle.appointments.specs.Checks.{First, at, nowhere, first-from, Check, passed, check-even, check-slots}
 use Rattle.appointments.specs.Answers.{Answer, answer}
 
@@ -21,10 +19,6 @@ viewer-checks list slots =
 unfoldable pub viewer-answer : List ℕ → List ℕ → Answer Unit
 unfolding viewer-checks
 viewer-answer list slots = answer (viewer-checks list slots) tt
-
--- The appointment names the party, once or twice. Any number may be looked for.
-abbrev pub named : ℕ → Appt → Bool
-named party x = ltb 0 (names party x)
 
 -- one appointment as the viewer shows it
 pub record Seen : Type 0 where
@@ -43,7 +37,8 @@ abbrev pub step-of : List ℕ → First → Step
 step-of slots (at i) = found (seen slots i)
 step-of slots nowhere = end
 
--- A step from a position, which may lie past the end: the first appointment from there on that names the party.
+-- A step from a position, which may lie past the end: the first appointment from there on that names the party. Any number may be
+-- looked for.
 unfoldable pub view-step : ℕ → List ℕ → List ℕ → ℕ → Step
 view-step party list slots from = step-of slots (first-from from (named party) (drop from (appts list)))
 

@@ -1,9 +1,7 @@
 // Document 01's viewer: opening it, its step as a search on slices, and the viewer itself, a struct over two slices with thin calls.
 ghost use mathlib.Core.Path.{_≡_};
-ghost use Prim.Native.Nat.{_+_, _*_, _<_};
-ghost use lib.ListN.{length};
 ghost use Rattle.viewing.specs.Viewer.{«viewer-answer»};
-ghost use Rattle.viewing.specs.Told.{«opened-of», «step-shown», «named-at», «stands-of», stepped};
+ghost use Rattle.viewing.specs.Told.{«opened-of», «step-shown», «stands-of», stepped};
 
 // What opening says: open, or refused with a number and a place.
 pub enum Opened {
@@ -30,17 +28,6 @@ pub fn open_viewer(list: &[u16], slots: &[u16]) -> Opened
     Opened::Open
 }
 
-// Whether the appointment at a position of the list names the party.
-fn names_at(list: &[u16], i: usize, party: u16) -> bool
-    requires { ⌜ 2 * i + 1 < length (now list) ⌝ }
-    ensures { λ r. ⌜ r ≡ named-at party (now (list .entry)) i ⌝ }
-{
-    if list[2 * i] == party {
-        return true;
-    }
-    list[2 * i + 1] == party
-}
-
 // A step from a position, which may lie past the end: the first appointment from there on that names the party. One that
 // names it twice is shown once, since the next step starts behind it. Any list and slots will do: a slot that isn't there is 0.
 pub fn view_step<'a>(party: u16, list: &'a [u16], slots: &'a [u16], from: usize) -> Shown
@@ -49,7 +36,7 @@ pub fn view_step<'a>(party: u16, list: &'a [u16], slots: &'a [u16], from: usize)
     let count = list.len() / 2;
     let mut i = from;
     while i < count {
-        if names_at(list, i, party) {
+        if naming::named(list[2 * i], list[2 * i + 1], party) {
             return Shown::Found(i, words::get16(slots, i) as u16, i + 1);
         }
         i += 1;

@@ -2,14 +2,21 @@
 use Prim.Native.Nat.{ℕ, zero, suc, _+_, _<_}
 use mathlib.Core.Path.{_≡_, refl, sym, _∙_, ap}
 use mathlib.Core.List.{List, _∷_, _++_}
-use native.Mathlib.Omega.{arith}
 use native.Mathlib.Numerals.{add-one}
 use lib.ListN.{length, getD, set, drop, replicate, length-replicate}
 use lib.Seq.{drop-cons, set-at}
+use Rattle.words.specs.Words.{word}
 
 -- the first i words 0, the others as they were
 abbrev pub cleared : ℕ → List ℕ → List ℕ
 cleared i s = replicate i 0 ++ drop i s
+
+-- words that are all 0
+pub zeros : (n v : ℕ) → word (replicate n 0) v ≡ 0
+zeros zero zero = refl
+zeros zero (suc v) = refl
+zeros (suc n) zero = refl
+zeros (suc n) (suc v) = zeros n v
 
 shift : (i : ℕ) (t : List ℕ) → replicate i 0 ++ 0 ∷ t ≡ replicate (suc i) 0 ++ t
 shift zero t = refl

@@ -6,6 +6,7 @@ use mathlib.Core.List.{List, [], _∷_, _++_, map, reverse, reverseAux}
 use mathlib.Core.Logic.{_⊎_, inl, inr, ⊎-elim}
 use native.Mathlib.Omega.{arith}
 use native.Mathlib.Nat.{add-zero, add-suc}
+use native.Mathlib.Numerals.{add-one}
 use native.Mathlib.Decide.{ℕ-discrete}
 use borrow.Author.Tests.{eq-eqb, ne-eqb}
 use lib.ListN.{length, take, getD}
@@ -230,6 +231,11 @@ module _ {ℓ} {A : Type ℓ} where
   all-by P (x ∷ xs) d h = (h 0 (omega arith), all-by P xs d (λ i k. h (suc i) (omega arith)))
 
 -- ── sums over the numbers below a bound ──
+
+-- one number more
+pub sum-below-more : (f : ℕ → ℕ) (n : ℕ) → sum-below f (n + 1) ≡ sum-below f n + f n
+unfolding sum-below
+sum-below-more f n = rw (add-one n)
 
 pub sum-below-cong : {f g : ℕ → ℕ} (n : ℕ) → ((v : ℕ) → v < n → f v ≡ g v) → sum-below f n ≡ sum-below g n
 unfolding sum-below

@@ -1,24 +1,42 @@
--- `waiting` meets its contract: what the list's checks said stays, then the party is checked, and its waiting counted. Assumes nothing.
-use Rattle.asking.proofs.WaitingSteps.{asked-5, asked-refused, asked-waits}
+-- `waiting` meets its contract: what the list's checks said stays, then the slots and the party are checked, and its waiting is found.
+-- Assumes nothing.
 use mathlib.Core.Path.{sym, _∙_}
+use Rattle.asking.proofs.WaitingSteps.{asked-refused, asked-7, asked-5, asked-waits, refused-fits}
 use borrow.Author.Needs.{needs}
 use Rattle.asking.proofs.waiting.Statement.{statement}
 use Rattle.asking.proofs.waiting.Tie as tie
 
 returns : tie.Need-returns
 returns c =
-    let a = c .before .before .before .before .before .before .args in
-    asked-5 (a .p) (a .list .now) (a .party) (c .before .before .listed2 .given .0 .0) (sym (c .before .before .before .before .check-list .ensures) ∙ c .before .before .listed2 .given .1) (c .if1 .taken)
+    let checked = c .before .before in
+    let a = checked .before .before .before .args in
+    let told = c .enum-told2 .given .1 in
+    (told ∙ asked-refused (a .p) (a .list .now) (a .slots .now) (a .party) _ _ (sym (checked .check-list .ensures) ∙ told), refused-fits _ _ _ told)
 
 returns-2 : tie.Need-returns-2
 returns-2 c =
-    let a = c .before .before .before .before .before .args in
-    asked-refused (a .p) (a .list .now) (a .party) (c .before .listed .given .0 .0) (c .before .listed .given .0 .1 .0) (sym (c .before .before .before .check-list .ensures) ∙ c .before .listed .given .1)
+    let passed = c .before in
+    let checked = passed .before .before in
+    let a = checked .before .before .before .args in
+    let came = sym (checked .check-list .ensures) ∙ passed .enum-told .given .1 in
+    (asked-7 (a .p) (a .list .now) (a .slots .now) (a .party) _ came (c .if1 .taken), tt)
 
 returns-3 : tie.Need-returns-3
 returns-3 c =
-    let a = c .before .before .before .before .before .before .before .args in
-    rw (c .waiting-of .ensures) (asked-waits (a .p) (a .list .now) (a .party) (c .before .before .before .listed2 .given .0 .0) (sym (c .before .before .before .before .before .check-list .ensures) ∙ c .before .before .before .listed2 .given .1) (c .before .if1 .left))
+    let passed = c .before .before in
+    let checked = passed .before .before in
+    let a = checked .before .before .before .args in
+    let came = sym (checked .check-list .ensures) ∙ passed .enum-told .given .1 in
+    (asked-5 (a .p) (a .list .now) (a .slots .now) (a .party) _ came (c .before .if1 .left) (c .if2 .taken), tt)
+
+returns-4 : tie.Need-returns-4
+returns-4 c =
+    let passed = c .before .before .before in
+    let checked = passed .before .before in
+    let a = checked .before .before .before .args in
+    let came = sym (checked .check-list .ensures) ∙ passed .enum-told .given .1 in
+    let waits = c .waiting-of .ensures in
+    (asked-waits (a .p) (a .list .now) (a .slots .now) (a .party) _ came _ (c .before .before .if1 .left) (c .before .if2 .left) (waits .0), waits .1)
 
 pub waiting-spec : {M : Type 1} → statement M
 waiting-spec =
@@ -28,6 +46,7 @@ waiting-spec =
     (λ c. search needs)
     (λ c. search needs)
     returns
-    (λ c κs. search needs)
     returns-2
-    returns-3)
+    returns-3
+    (λ c κs. search needs)
+    returns-4)

@@ -1,10 +1,10 @@
 -- `checking::largest_load` meets its contract: the counters hold the loads, and the largest of them is D. Assumes nothing.
-use Prim.Native.Nat.{ℕ, _+_, _-_, _≤_}
-use mathlib.Core.Path.{_≡_, refl, sym, _∙_, ap}
+use mathlib.Core.Path.{sym, _∙_}
 use native.Mathlib.Omega.{arith}
 use Rattle.appointments.specs.Appointments.{appts}
 use Rattle.appointments.proofs.Flat.{load-count}
-use Rattle.checking.proofs.Answering.{zeros, largest-is}
+use Rattle.words.proofs.Clearing.{zeros}
+use Rattle.checking.proofs.Answering.{largest-is}
 use borrow.Author.Needs.{needs}
 use Rattle.checking.proofs.largest_load.Statement.{statement}
 use Rattle.checking.proofs.largest_load.Tie as tie

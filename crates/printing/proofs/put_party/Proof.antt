@@ -11,17 +11,18 @@ use borrow.Author.Needs.{needs}
 use Rattle.printing.proofs.put_party.Statement.{statement}
 use Rattle.printing.proofs.put_party.Tie as tie
 
+abbrev start-of : tie.After-waiting-of → tie.Start
+start-of c = c .before .before .before .before
+
 -- the line's fields, with the waiting as it was found
 abbrev Fields : tie.After-waiting-of → List ℕ
-Fields c = ascii "party " ++ (field (decimal (c .before .before .before .args .party)) space ++ field (decimal (c .waiting-of .result)) line-feed)
+Fields c = ascii "party " ++ (field (decimal (start-of c .args .party)) space ++ field (decimal (c .waiting-of .result)) line-feed)
 
-fields : (c : tie.After-waiting-of) → party-line (c .before .before .before .args .p) (appts (c .before .before .before .args .list .now)) (c .before .before .before .args .party) ≡ Fields c
-fields c =
-    let a = c .before .before .before .args in
-    party-fields (a .p) (a .list .now) (a .d) (a .party) _ (c .before .before .before .pre .0) (c .waiting-of .ensures)
+fields : (c : tie.After-waiting-of) → let a = start-of c .args in party-line (appts (a .list .now)) (a .slots .now) (a .party) ≡ Fields c
+fields c = let a = start-of c .args in party-fields (appts (a .list .now)) (a .slots .now) (a .party) _ (c .waiting-of .ensures .0)
 
-room : (c : tie.After-waiting-of) → Room (c .before .before .before .args .out .now) (c .before .before .before .args .at) (Fields c)
-room c = rw (fields c) at (c .before .before .before .pre .1)
+room : (c : tie.After-waiting-of) → Room (start-of c .args .out .now) (start-of c .args .at) (Fields c)
+room c = rw (fields c) at (start-of c .pre)
 
 put-bytes-requires : tie.Need-put-bytes-requires
 unfolding ascii
@@ -30,18 +31,26 @@ put-bytes-requires c κs = room-first _ (room (c .before .before))
 put-field-requires : tie.Need-put-field-requires
 unfolding ascii
 put-field-requires c κs =
-    room-first _ (room-then _ (room (c .before .before .before .before .before .before)) (c .before .before .before .put-bytes .ensures))
+    let word-put = c .before .before .before in
+    let asked = word-put .before .before .before in
+    room-first _ (room-then _ (room asked) (word-put .put-bytes .ensures))
 
 put-field-requires-2 : tie.Need-put-field-requires-2
 unfolding ascii
 put-field-requires-2 c κs =
-    room-then _ (room-then _ (room (c .before .before .before .before .before .before .before .before .before .before)) (c .before .before .before .before .before .before .before .put-bytes .ensures)) (c .before .before .before .put-field .ensures)
+    let party-put = c .before .before .before in
+    let word-put = party-put .before .before .before .before in
+    let asked = word-put .before .before .before in
+    room-then _ (room-then _ (room asked) (word-put .put-bytes .ensures)) (party-put .put-field .ensures)
 
 returns : tie.Need-returns
 unfolding ascii
 returns c =
-    rw (fields (c .before .before .before .before .before .before .before .before .before .before .before .before .before))
-    (placed-then (c .before .before .before .before .before .before .before .before .before .before .put-bytes .ensures) (placed-then (c .before .before .before .before .before .before .put-field .ensures) (c .before .before .put-field2 .ensures)))
+    let waits-put = c .before .before in
+    let party-put = waits-put .before .before .before .before in
+    let word-put = party-put .before .before .before .before in
+    let asked = word-put .before .before .before in
+    rw (fields asked) (placed-then (word-put .put-bytes .ensures) (placed-then (party-put .put-field .ensures) (waits-put .put-field2 .ensures)))
 
 pub put-party-spec : {M : Type 1} → statement M
 put-party-spec =

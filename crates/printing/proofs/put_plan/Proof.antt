@@ -16,13 +16,13 @@ abbrev Fields : tie.Start → List ℕ
 Fields c =
     ascii "plan "
     ++ (field (decimal (c .args .d)) line-feed
-    ++ (appointment-lines 0 (appts (c .args .list .now)) (c .args .slots .now) ++ party-lines (c .args .p) (appts (c .args .list .now)) 0 (c .args .p)))
+    ++ (appointment-lines 0 (appts (c .args .list .now)) (c .args .slots .now) ++ party-lines (appts (c .args .list .now)) (c .args .slots .now) 0 (c .args .p)))
 
 fields : (c : tie.Start) → plan-lines (c .args .p) (c .args .list .now) (c .args .d) (c .args .slots .now) ≡ Fields c
 fields c = plan-fields (c .args .p) (c .args .list .now) (c .args .d) (c .args .slots .now)
 
 room : (c : tie.Start) → Room (c .args .out .now) 0 (Fields c)
-room c = rw (fields c) at (c .pre .1)
+room c = rw (fields c) at (c .pre)
 
 put-bytes-requires : tie.Need-put-bytes-requires
 unfolding ascii
@@ -31,25 +31,39 @@ put-bytes-requires c κs = room-first _ (room (c .before .before .before .before
 put-field-requires : tie.Need-put-field-requires
 unfolding ascii
 put-field-requires c κs =
-    room-first _ (room-then _ (room (c .before .before .before .before .before .before .before .before .before)) (c .before .before .before .put-bytes .ensures))
+    let word-put = c .before .before .before in
+    let start = word-put .before .before .before .before .before .before in
+    room-first _ (room-then _ (room start) (word-put .put-bytes .ensures))
 
 put-appointments-requires : tie.Need-put-appointments-requires
 unfolding ascii
 put-appointments-requires c κs =
-    room-first _ (room-then _ (room-then _ (room (c .before .before .before .before .before .before .before .before .before .before .before .before .before)) (c .before .before .before .before .before .before .before .put-bytes .ensures)) (c .before .before .before .put-field .ensures))
+    let d-put = c .before .before .before in
+    let word-put = d-put .before .before .before .before in
+    let start = word-put .before .before .before .before .before .before in
+    room-first _ (room-then _ (room-then _ (room start) (word-put .put-bytes .ensures)) (d-put .put-field .ensures))
 
 put-parties-requires : tie.Need-put-parties-requires
 unfolding ascii
 put-parties-requires c κs =
-    (c .before .before .before .before .before .before .before .before .before .before .before .before .before .before .before .before .before .pre .0, room-then _ (room-then _ (room-then _ (room (c .before .before .before .before .before .before .before .before .before .before .before .before .before .before .before .before .before)) (c .before .before .before .before .before .before .before .before .before .before .before .put-bytes .ensures)) (c .before .before .before .before .before .before .before .put-field .ensures)) (c .before .before .before .put-appointments .ensures))
+    let appointments-put = c .before .before .before in
+    let d-put = appointments-put .before .before .before .before in
+    let word-put = d-put .before .before .before .before in
+    let start = word-put .before .before .before .before .before .before in
+    room-then _ (room-then _ (room-then _ (room start) (word-put .put-bytes .ensures)) (d-put .put-field .ensures)) (appointments-put .put-appointments .ensures)
 
 returns : tie.Need-returns
 unfolding ascii
 returns c =
-    printed (c .before .before .before .before .before .before .before .before .before .before .before .before .before .before .before .before .before .before .before .before .pre .1)
-    (rw (fields (c .before .before .before .before .before .before .before .before .before .before .before .before .before .before .before .before .before .before .before .before))
-    (placed-then (c .before .before .before .before .before .before .before .before .before .before .before .before .before .before .put-bytes .ensures)
-    (placed-then (c .before .before .before .before .before .before .before .before .before .before .put-field .ensures) (placed-then (c .before .before .before .before .before .before .put-appointments .ensures) (c .before .before .put-parties .ensures)))))
+    let parties-put = c .before .before in
+    let appointments-put = parties-put .before .before .before .before in
+    let d-put = appointments-put .before .before .before .before in
+    let word-put = d-put .before .before .before .before in
+    let start = word-put .before .before .before .before .before .before in
+    printed (start .pre)
+    (rw (fields start)
+    (placed-then (word-put .put-bytes .ensures)
+    (placed-then (d-put .put-field .ensures) (placed-then (appointments-put .put-appointments .ensures) (parties-put .put-parties .ensures)))))
 
 pub put-plan-spec : {M : Type 1} → statement M
 put-plan-spec =

@@ -17,17 +17,20 @@ abbrev μ-loop : tie.MeasureT-loop
 
 returns : tie.Need-returns Inv-loop μ-loop
 returns c =
-    let a = c .before .before .before .before .before .before .before .args in
-    let i = c .before .before .before .before .loop .i in
+    let at-named = c .before .before in
+    let at-loop = at-named .before .before .before .before in
+    let a = at-loop .before .before .before .args in
+    let i = at-loop .loop .i in
     let here : seek (a .party) (a .list .now) (a .from) ≡ at i =
-    c .before .before .before .before .loop .inv ∙ seek-here (a .party) (a .list .now) i (omega arith) (sym (c .before .before .names-at .ensures) ∙ c .before .if1 .taken) in
+    at-loop .loop .inv ∙ seek-here (a .party) (a .list .now) i (omega arith) (sym (at-named .named .ensures) ∙ c .before .if1 .taken) in
     rw (c .get16 .ensures .0) (told-found (a .party) (a .list .now) (a .slots .now) (a .from) i here)
 
 loop-again : tie.Need-loop-again Inv-loop μ-loop
 loop-again c =
-    let a = c .before .before .before .before .before .before .args in
-    let i = c .before .before .before .loop .i in
-    c .before .before .before .loop .inv ∙ seek-on (a .party) (a .list .now) i (omega arith) (sym (c .before .names-at .ensures) ∙ c .if1 .left)
+    let at-named = c .before in
+    let at-loop = at-named .before .before .before .before in
+    let a = at-loop .before .before .before .args in
+    at-loop .loop .inv ∙ seek-on (a .party) (a .list .now) (at-loop .loop .i) (omega arith) (sym (at-named .named .ensures) ∙ c .if1 .left)
 
 returns-2 : tie.Need-returns-2 Inv-loop μ-loop
 returns-2 c =
@@ -40,6 +43,13 @@ view-step-spec =
     (tie.spec
     Inv-loop
     μ-loop
+    (λ c. search needs)
+    (λ c. search needs)
+    (λ c. search needs)
+    (λ c. search needs)
+    (λ c. search needs)
+    (λ c. search needs)
+    (λ c. search needs)
     (λ c. search needs)
     (λ c κs. search needs)
     (λ c κs. search needs)
