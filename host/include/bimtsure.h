@@ -78,14 +78,17 @@ struct bimtsure_needs_answer {
 };
 struct bimtsure_needs_answer bimtsure_needs(uint16_t p, const uint16_t *list, size_t list_len);
 
-/* Waiting of a party: D minus its load. Refuses by 1 to 5; 5 with place 0 also if the party is not below P. Needs at most 8 KiB
- * of stack. */
+/* Waiting of a party: how many whole numbers, below D or not, lie strictly between its lowest and its highest slot and are the
+ * slot of none of its appointments; so 0 for a load of 0 or 1. The first A entries of `slots` are the plan, and later ones don't
+ * count; any numbers will do, clashes too. Refuses by 1 to 5 for the list, then by 7, then by 5 with place 0 if the party is not
+ * below P. Needs at most 80 KiB of stack, of which 64 are a flag for each number that a slot can be. */
 struct bimtsure_waiting_answer {
     uint32_t number;
     uint32_t place;
     uint32_t waiting;
 };
-struct bimtsure_waiting_answer bimtsure_waiting(uint16_t p, const uint16_t *list, size_t list_len, uint16_t party);
+struct bimtsure_waiting_answer bimtsure_waiting(uint16_t p, const uint16_t *list, size_t list_len, const uint16_t *slots,
+                                                size_t slots_len, uint16_t party);
 
 /* Writes a filed plan and gives its length in bytes. Refuses by 1, 2, 3, 7 and 13. Needs at most 1 KiB of stack. */
 struct bimtsure_filed {

@@ -146,7 +146,14 @@ _CALLS = {
     ),
     "bimtsure_waiting": (
         _Waiting,
-        [("p", c_uint16), ("list", POINTER(c_uint16)), ("list_len", c_size_t), ("party", c_uint16)],
+        [
+            ("p", c_uint16),
+            ("list", POINTER(c_uint16)),
+            ("list_len", c_size_t),
+            ("slots", POINTER(c_uint16)),
+            ("slots_len", c_size_t),
+            ("party", c_uint16),
+        ],
     ),
     "bimtsure_file_plan": (
         _Filed,
@@ -226,11 +233,14 @@ def needs(parties, appointments):
     return Needs(answer.d, answer.words)
 
 
-def waiting(parties, appointments, party):
-    """Waiting of a party: D minus its load. Refuses by 1 and 3 to 5."""
-    p, ends = _checked_p(parties), _checked_list(appointments)
+def waiting(parties, appointments, slots, party):
+    """Waiting of a party: how many whole numbers strictly between its lowest and its highest slot are the slot of none of its
+    appointments; so 0 for a load of 0 or 1. Any slots will do, and entries past the appointments don't count. Refuses by 1, 3 to
+    5 and 7, and then by 5 for a party that is not below the number of parties."""
+    p, ends, entries = _checked_p(parties), _checked_list(appointments), _slots(slots)
     asked = _capped(_natural(party, "the party"))
-    answer = _library.bimtsure_waiting(p, ends, len(ends), asked)
+    answer = _library.bimtsure_waiting(p, ends, len(ends), entries, len(entries), asked)
+    # 5 with place 0 may be the list's or the party's: it is the party's if every end of the list is below P
     if answer.number == 5 and all(end < p for end in ends):
         raise Refused(answer.number, answer.place, f"party {party} is not below the number of parties")
     _accept(answer)

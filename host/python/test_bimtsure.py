@@ -1,6 +1,6 @@
 """Tests of bimtsure.py: stored answers of the Rust, random lists beside the host's answers, the desk's calls beside the few lines
-of document 01 that say what they give, and mistakes, which must be refused or impossible. Run by host/setup, which builds the
-host first."""
+of documents 01 and 02 that say what they give, and mistakes, which must be refused or impossible. Run by host/setup, which builds
+the host first."""
 
 import enum
 import pickle
@@ -40,6 +40,15 @@ def load(appointments, party):
     return sum(pair.count(party) for pair in appointments)
 
 
+def waits(appointments, slots, party):
+    """Document 02: the number of whole numbers strictly between a party's lowest and highest slot that are the slot of none of its
+    appointments; load 0 or 1 gives 0."""
+    if load(appointments, party) <= 1:
+        return 0
+    own = {slot for pair, slot in zip(appointments, slots) if party in pair}
+    return sum(number not in own for number in range(min(own) + 1, max(own)))
+
+
 class Answers(unittest.TestCase):
     def hold(self, text, expected):
         """A list as a line of text. Returns what it was answered, or None where Python can't say the list."""
@@ -71,12 +80,15 @@ class Answers(unittest.TestCase):
 
     def test_desk_calls_on_random_lists(self):
         chance = random.Random(7)
+        met = set()
         lists = subprocess.run([HOST, "lists", "300", "8", "200"], check=True, capture_output=True).stdout
         for text in lists.decode().splitlines():
             parties, appointments = read_list(text)
             if parties > 1024 or any(len(pair) != 2 for pair in appointments):
                 continue
-            slots = [chance.randrange(65536) for _ in appointments]
+            # few slots, so that a party has some of them twice; near ones; any
+            bound = chance.choice([3, len(appointments) + 1, 65536])
+            slots = [chance.randrange(bound) for _ in appointments]
             self.hold_filed(parties, appointments, slots)
             named = [end for pair in appointments for end in pair]
             party = chance.choice(named + [0])
@@ -86,8 +98,11 @@ class Answers(unittest.TestCase):
                 largest = max((load(appointments, other) for other in set(named)), default=0)
                 if largest * parties <= 8192:
                     self.assertEqual(bimtsure.needs(parties, appointments), (largest, 128 * parties * (largest + 1)))
-                party = chance.randrange(parties)
-                self.assertEqual(bimtsure.waiting(parties, appointments, party), largest - load(appointments, party))
+                for party in [chance.randrange(parties), chance.choice(named or [0])]:
+                    expected = waits(appointments, slots, party)
+                    self.assertEqual(bimtsure.waiting(parties, appointments, slots, party), expected)
+                    met.add(expected > 0)
+        self.assertEqual(met, {False, True})
 
     def hold_filed(self, parties, appointments, slots):
         numbers = [parties, len(appointments)]
@@ -119,12 +134,26 @@ class Calls(Trying):
     def test_the_example(self):
         self.assertEqual(bimtsure.plan(3, EXAMPLE), Plan(2, [0, 1]))
         self.assertEqual(bimtsure.needs(3, EXAMPLE), (2, 128 * 3 * 3))
-        self.assertEqual([bimtsure.waiting(3, EXAMPLE, party) for party in range(3)], [1, 0, 1])
+        self.assertEqual([bimtsure.waiting(3, EXAMPLE, [0, 1], party) for party in range(3)], [0, 0, 0])
         self.assertEqual(list(bimtsure.view(EXAMPLE, [0, 1], 1)), [(0, 0), (1, 1)])
         filed = bytes([3, 0, 2, 0, 0, 0, 1, 0, 0, 0, 1, 0, 2, 0, 1, 0])
         self.assertEqual(bimtsure.file_plan(3, EXAMPLE, [0, 1]), filed)
         self.assertEqual(bimtsure.read_plan(filed), (3, EXAMPLE, [0, 1]))
         self.assertEqual(bimtsure.read_plan(bytearray(filed)), (3, EXAMPLE, [0, 1]))
+
+    def test_waiting_is_between_the_first_slot_and_the_last(self):
+        both = [(0, 1), (0, 1)]
+        self.assertEqual(bimtsure.waiting(2, both, [0, 65535], 0), 65534)
+        self.assertEqual(bimtsure.waiting(2, both, (65535, 0), 1), 65534)
+        self.assertEqual(bimtsure.waiting(2, both, [65535, 65535], 0), 0)
+        self.assertEqual(bimtsure.waiting(1, [(0, 0)], [3], 0), 0)
+        self.assertEqual(bimtsure.waiting(3, [(0, 1)], [9], 2), 0)
+        # 5 and 9, however often: 6, 7 and 8 are between
+        self.assertEqual(bimtsure.waiting(2, [(0, 1)] * 4, [9, 5, 5, 9], 0), 3)
+        # 0 and 3 are party 1's, 2 is another's; what stands behind the appointments is nobody's
+        three = [(0, 1), (1, 2), (0, 2)]
+        self.assertEqual(bimtsure.waiting(3, three, [0, 3, 2], 1), 2)
+        self.assertEqual(bimtsure.waiting(3, three, iter([0, 3, 2, 1, 65535]), 1), 2)
 
     def test_the_shape_of_rustworkx(self):
         edges = [(0, 1), (1, 2), (2, 3), (3, 0)]
@@ -146,11 +175,6 @@ class Calls(Trying):
         self.refused(9, 0, bimtsure.plan, 1, [(0, 0)])
 
     def test_refusals_of_the_desks_calls(self):
-        said = self.refused(5, 0, bimtsure.waiting, 3, EXAMPLE, 3)
-        self.assertEqual(said, "party 3 is not below the number of parties")
-        said = self.refused(5, 0, bimtsure.waiting, 3, [(0, 9)], 3)
-        self.assertEqual(said, "appointment 0: an end is not below the number of parties")
-        self.refused(4, 1, bimtsure.waiting, 3, [(0, 1), (None, 2)], 0)
         self.refused(7, 0, bimtsure.view, EXAMPLE, [0], 1)
         self.refused(1, 0, bimtsure.file_plan, 1025, EXAMPLE, [0, 1])
         self.refused(3, 0, bimtsure.file_plan, 3, [(0, 1)] * 4097, [0] * 4097)
@@ -159,6 +183,25 @@ class Calls(Trying):
         self.refused(12, 0, bimtsure.read_plan, b"")
         self.refused(1, 0, bimtsure.read_plan, b"\1\4\0\0")
         self.refused(3, 0, bimtsure.read_plan, struct.pack("<2H", 2, 4097) + bytes(6 * 4097))
+
+    def test_refusals_of_waiting(self):
+        said = self.refused(5, 0, bimtsure.waiting, 3, EXAMPLE, [0, 1], 3)
+        self.assertEqual(said, "party 3 is not below the number of parties")
+        said = self.refused(5, 0, bimtsure.waiting, 0, [], [], 0)
+        self.assertEqual(said, "party 0 is not below the number of parties")
+        # the list's 5 is told of the list, also at position 0
+        for party in [0, 3]:
+            said = self.refused(5, 0, bimtsure.waiting, 3, [(0, 9)], [0], party)
+            self.assertEqual(said, "appointment 0: an end is not below the number of parties")
+        said = self.refused(7, 0, bimtsure.waiting, 3, EXAMPLE, [0], 1)
+        self.assertEqual(said, "fewer slot entries than appointments")
+        # 7 before the party's 5, and behind all that the list is refused by
+        self.refused(7, 0, bimtsure.waiting, 2, [(0, 1)], [], 9)
+        self.refused(5, 0, bimtsure.waiting, 2, [(0, 1)], [0], 9)
+        self.refused(1, 0, bimtsure.waiting, 1025, EXAMPLE, [], 9999)
+        self.refused(3, 0, bimtsure.waiting, 2, [(0, 1)] * 4097, [], 9)
+        self.refused(4, 1, bimtsure.waiting, 3, [(0, 1), (None, 2)], [], 9)
+        self.refused(5, 1, bimtsure.waiting, 2, EXAMPLE, [], 9)
 
     def test_a_refusal_can_be_pickled(self):
         for refusal in [Refused(4, 6), Refused(5, 0, "party 3"), GraphNotBipartite(9, 0)]:
@@ -197,8 +240,8 @@ class Mistakes(Trying):
             self.refused(5, 1, bimtsure.needs, 2, [(0, 1), (end, 0)])
             self.refused(4, 2, bimtsure.plan, 2, [(0, 1), (0, end), (0, None)])
             self.refused(1, 0, bimtsure.plan, 1025, [(0, 1), (0, end)])
-            self.refused(5, 1, bimtsure.waiting, 2, [(0, 1), (0, end)], 0)
-            self.refused(5, 0, bimtsure.waiting, 2, EXAMPLE[:1], end)
+            self.refused(5, 1, bimtsure.waiting, 2, [(0, 1), (0, end)], [0, 1], 0)
+            self.refused(5, 0, bimtsure.waiting, 2, EXAMPLE[:1], [0], end)
         for end in [65535, 65536, 65537, 1 << 32]:
             self.wrong(ValueError, bimtsure.file_plan, 2, [(0, end)], [0])
             self.wrong(ValueError, bimtsure.view, [(0, end)], [0], 0)
@@ -208,20 +251,25 @@ class Mistakes(Trying):
         for parties in [1025, 65535, 65536, 65537, 65538, 1 << 32, (1 << 64) + 2]:
             self.refused(1, 0, bimtsure.plan, parties, EXAMPLE[:1])
             self.refused(1, 0, bimtsure.needs, parties, EXAMPLE[:1])
-            self.refused(1, 0, bimtsure.waiting, parties, EXAMPLE[:1], 0)
+            self.refused(1, 0, bimtsure.waiting, parties, EXAMPLE[:1], [0], 0)
             self.refused(1, 0, bimtsure.file_plan, parties, EXAMPLE[:1], [0])
             self.refused(1, 0, bimtsure.graph_bipartite_edge_color, parties, EXAMPLE[:1])
 
     def test_slots_that_16_bits_would_cut(self):
         self.wrong(ValueError, bimtsure.file_plan, 3, EXAMPLE, [0, 65536])
         self.wrong(ValueError, bimtsure.view, EXAMPLE, [0, -1], 0)
+        for slot in [-1, 65536, 65537, 1 << 32, 10**30]:
+            self.wrong(ValueError, bimtsure.waiting, 3, EXAMPLE, [0, slot], 1)
+            # behind the appointments too, and whatever the list is
+            self.wrong(ValueError, bimtsure.waiting, 3, EXAMPLE, [0, 1, slot], 1)
+            self.wrong(ValueError, bimtsure.waiting, 1025, EXAMPLE, [0, slot], 1)
         self.assertEqual(bimtsure.read_plan(bimtsure.file_plan(3, EXAMPLE, [0, 65535])).slots, [0, 65535])
 
     def test_numbers_below_0(self):
         for call in [bimtsure.plan, bimtsure.graph_bipartite_edge_color]:
             self.wrong(ValueError, call, -1, [])
             self.wrong(ValueError, call, 2, [(0, 1), (0, -1)])
-        self.wrong(ValueError, bimtsure.waiting, 2, EXAMPLE[:1], -1)
+        self.wrong(ValueError, bimtsure.waiting, 2, EXAMPLE[:1], [0], -1)
         self.wrong(ValueError, bimtsure.view, EXAMPLE, [0, 1], -1)
         self.wrong(ValueError, bimtsure.file_plan, 2, [(0, -1)], [0])
 
@@ -230,13 +278,19 @@ class Mistakes(Trying):
             self.wrong(TypeError, bimtsure.plan, value, [])
             self.wrong(TypeError, bimtsure.plan, 2, [(0, value)])
             self.wrong(TypeError, bimtsure.needs, value, [])
-            self.wrong(TypeError, bimtsure.waiting, 2, EXAMPLE[:1], value)
+            self.wrong(TypeError, bimtsure.waiting, 2, EXAMPLE[:1], [0], value)
+            self.wrong(TypeError, bimtsure.waiting, 3, EXAMPLE, [0, value], 1)
             self.wrong(TypeError, bimtsure.view, EXAMPLE, [0, value], 1)
             self.wrong(TypeError, bimtsure.view, EXAMPLE, [0, 1], value)
             self.wrong(TypeError, bimtsure.file_plan, 3, EXAMPLE, [0, value])
         for call in [bimtsure.plan, bimtsure.graph_bipartite_edge_color]:
             self.wrong(TypeError, call, None, [])
-        self.wrong(TypeError, bimtsure.waiting, 2, EXAMPLE[:1], None)
+        self.wrong(TypeError, bimtsure.waiting, 2, EXAMPLE[:1], [0], None)
+        self.wrong(TypeError, bimtsure.waiting, 3, EXAMPLE, [0, None], 1)
+        # as it was called before it needed the slots; and a plan is more than its slots
+        self.wrong(TypeError, bimtsure.waiting, 3, EXAMPLE, 1)
+        self.wrong(TypeError, bimtsure.waiting, 3, EXAMPLE, 1, 1)
+        self.wrong(TypeError, bimtsure.waiting, 3, EXAMPLE, Plan(2, [0, 1]), 1)
         self.wrong(TypeError, bimtsure.file_plan, 3, EXAMPLE, [0, None])
 
     def test_a_blank_is_not_party_0(self):
@@ -256,6 +310,8 @@ class Mistakes(Trying):
         self.wrong(TypeError, bimtsure.plan, 3, dict(enumerate(EXAMPLE)))
         self.wrong(TypeError, bimtsure.view, EXAMPLE, {0, 1}, 0)
         self.wrong(TypeError, bimtsure.file_plan, 3, EXAMPLE, {0: 0, 1: 1})
+        self.wrong(TypeError, bimtsure.waiting, 3, EXAMPLE, {0, 1}, 1)
+        self.wrong(TypeError, bimtsure.waiting, 3, EXAMPLE, {0: 0, 1: 1}, 1)
 
     def test_a_number_of_bytes_is_no_filed_plan(self):
         for value in [4, "abcd", [3, 0, 0, 0], None]:

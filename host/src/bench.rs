@@ -1,11 +1,12 @@
 //! Times our planning call beside the Rust on the same lists, in turn and in one run: other programs disturb both alike, and the
 //! best of many rounds is what is left of them. The Rust's graph is built before its time begins; ours includes the checks and
-//! the clearing of scratch. Then the checks of a long list by themselves, which the Rust doesn't have.
+//! the clearing of scratch. Then the checks of a long list by themselves, and waiting, which the Rust doesn't have.
 
-use crate::bimtsure::{self, Needs, Plan};
+use crate::bimtsure::{self, Needs, Plan, Waiting};
 use crate::bipartite_coloring::bipartite_edge_color;
+use crate::desk;
 use crate::format::write_list;
-use crate::list::{List, BLANK};
+use crate::list::{List, BLANK, MOST_APPOINTMENTS};
 use crate::lists;
 use crate::random::Random;
 use crate::reference;
@@ -21,7 +22,7 @@ const SIZES: [(usize, usize); 8] =
 const GROWTH: [[usize; 4]; 2] = [[8, 16, 32, 64], [9, 17, 33, 63]];
 const GROWTH_PARTIES: usize = 128;
 
-/// P and D of the list whose checks are timed: A is 4,096.
+/// P and D of the list whose checks are timed, and of the one by whose plan a party waits: A is 4,096.
 const CHECKED: (usize, usize) = (1024, 8);
 
 /// Lists of each row, and for each at least this many rounds and this much time.
@@ -78,7 +79,8 @@ pub fn run(seed: u64) -> Result<(), String> {
         }
     }
     println!("\nboth gave the same slots in every round\n");
-    time_checks(&mut random)
+    time_checks(&mut random)?;
+    time_waiting(&mut random)
 }
 
 /// The checks of a list of 4,096 appointments without the planning: by `bimtsure_needs` for a list that passes, by the planning
@@ -103,6 +105,39 @@ fn time_checks(random: &mut Random) -> Result<(), String> {
         println!("{best:>9.2}  refused by {number} at position {place}");
     }
     Ok(())
+}
+
+/// Waiting of one party, with many appointments and with few, and with slots near each other and far apart.
+fn time_waiting(random: &mut Random) -> Result<(), String> {
+    let (parties, degree) = CHECKED;
+    let even_handed = lists::even_handed_part(random, parties, degree, 3);
+    let planned = planned_slots(&even_handed)?;
+    let of_two = |appointments| List::new(2, &vec![(0, 1); appointments]);
+    let last = MOST_APPOINTMENTS - 1;
+    let up_to = |highest: usize| (0..=last).map(|at| (at * highest / last) as u16).collect::<Vec<u16>>();
+    println!("\nWaiting of party 0, microseconds a call, the best of the rounds.");
+    for (list, slots, told) in [
+        (of_two(MOST_APPOINTMENTS), up_to(last), "slots 0 to 4095"),
+        (of_two(MOST_APPOINTMENTS), up_to(65_535), "slots spread from 0 to 65535"),
+        (of_two(2), vec![0, 65_535], "slots 0 and 65535"),
+        (even_handed, planned, "slots as planned"),
+    ] {
+        let waiting = desk::waiting_in_the_hall(&list, &slots, 0);
+        let expected = Waiting { number: 0, place: 0, waiting: waiting as u32 };
+        let p = list.parties as u16;
+        let best = best_of(expected, || bimtsure::waiting(p, black_box(&list.ends), black_box(&slots), 0))?;
+        let (count, load) = (list.count(), list.load(0));
+        println!("{best:>9.2}  P {p}, A {count}, its load {load}, {told}: waits {waiting}");
+    }
+    Ok(())
+}
+
+fn planned_slots(list: &List) -> Result<Vec<u16>, String> {
+    let (mut slots, mut scratch) = (vec![0; list.count()], vec![0; list.scratch_words()]);
+    match bimtsure::plan(list.parties as u16, &list.ends, &mut slots, &mut scratch) {
+        Plan { number: 0, .. } => Ok(slots),
+        refused => Err(format!("answered {refused:?} instead of a plan")),
+    }
 }
 
 /// Microseconds of the best round, each of which has to give what is expected.

@@ -33,7 +33,14 @@ pub mod c {
             scratch_len: usize,
         ) -> Plan;
         pub fn bimtsure_needs(p: u16, list: *const u16, list_len: usize) -> Needs;
-        pub fn bimtsure_waiting(p: u16, list: *const u16, list_len: usize, party: u16) -> Waiting;
+        pub fn bimtsure_waiting(
+            p: u16,
+            list: *const u16,
+            list_len: usize,
+            slots: *const u16,
+            slots_len: usize,
+            party: u16,
+        ) -> Waiting;
         pub fn bimtsure_file_plan(
             p: u16,
             list: *const u16,
@@ -139,9 +146,10 @@ pub fn needs(p: u16, list: &[u16]) -> Needs {
     unsafe { c::bimtsure_needs(p, list.as_ptr(), list.len()) }
 }
 
-pub fn waiting(p: u16, list: &[u16], party: u16) -> Waiting {
-    // SAFETY: the call reads the list within its length, and asks nothing.
-    unsafe { c::bimtsure_waiting(p, list.as_ptr(), list.len(), party) }
+/// How many slots a party waits in the hall, between its lowest and its highest.
+pub fn waiting(p: u16, list: &[u16], slots: &[u16], party: u16) -> Waiting {
+    // SAFETY: the call reads list and slots within their lengths, and asks nothing.
+    unsafe { c::bimtsure_waiting(p, list.as_ptr(), list.len(), slots.as_ptr(), slots.len(), party) }
 }
 
 pub fn file_plan(p: u16, list: &[u16], slots: &[u16], output: &mut [u8]) -> Filed {

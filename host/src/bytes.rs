@@ -38,6 +38,8 @@ struct Counts {
     main: Numbers,
     /// plans where the Rust panics
     second: usize,
+    /// plans in which some party waits
+    waits: usize,
     in_pieces: usize,
     /// how often each of the lengths above came, and then how often a longer one
     lengths: [usize; LENGTHS.len() + 1],
@@ -107,6 +109,7 @@ fn answer_of_main(input: &[u8], pieces: &[Piece], counts: &mut Counts) -> Result
     }
     *counts.main.entry(expected.number.into()).or_default() += 1;
     counts.second += usize::from(expected.second);
+    counts.waits += usize::from(expected.waits);
     counts.in_pieces += usize::from(pieces.len() > 1);
     counts.take_length(input.len());
     Ok(())
@@ -157,7 +160,10 @@ impl Counts {
     fn print(&self) {
         println!("{PROGRAM}: {} runs", self.main.values().sum::<usize>());
         print_numbers(&self.main, "plan");
-        println!("         ({} plans where the Rust panics; {} fed in several pieces;", self.second, self.in_pieces);
+        println!(
+            "         ({} plans where the Rust panics, {} in which a party waits; {} fed in several pieces;",
+            self.second, self.waits, self.in_pieces
+        );
         let [.., longer] = self.lengths;
         let told: Vec<String> =
             LENGTHS.iter().zip(self.lengths).map(|(length, times)| format!("{times} of {length} bytes")).collect();
@@ -174,6 +180,9 @@ impl Counts {
         let missing = |numbers: &Numbers, all: &[u32]| all.iter().copied().find(|number| !numbers.contains_key(number));
         if let Some(number) = missing(&self.main, &OF_MAIN) {
             return Err(format!("no input of {PROGRAM} was answered by {number}"));
+        }
+        if self.waits == 0 {
+            return Err("nobody waits in any plan".to_string());
         }
         if let Some(number) = missing(&self.reading, &OF_READING) {
             return Err(format!("no filed plan was answered by {number}"));

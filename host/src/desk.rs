@@ -1,20 +1,40 @@
-//! The desk's calls once more, in Rust and after document 01's text, with no line taken from the definitions or the code: waiting,
-//! the filed plan and the viewer. Our exported calls are compared with these.
+//! The desk's calls once more, in Rust and after the papers' text, with no line taken from the definitions or the code: waiting
+//! (document 02's request 2), the filed plan and the viewer (document 01). Our exported calls are compared with these.
 
 use crate::list::{List, Refusal, MOST_APPOINTMENTS, MOST_PARTIES};
+use std::collections::BTreeSet;
 
 fn refuse<T>(number: u8) -> Result<T, Refusal> {
     Err(Refusal { number, place: 0 })
 }
 
-/// Waiting of a party is D minus its load; checks 1 to 5, then 5 with place 0 if the party is not below P.
-pub fn waiting(list: &List, party: u16) -> Result<usize, Refusal> {
+/// Waiting of a party. Checks 1 to 5 on the list, then 7, then 5 with place 0 if the party is not below P.
+pub fn waiting(list: &List, slots: &[u16], party: u16) -> Result<usize, Refusal> {
     list.check_ends()?;
+    if slots.len() < list.count() {
+        return refuse(7);
+    }
     let party = usize::from(party);
     if party >= list.parties {
         return refuse(5);
     }
-    Ok(list.largest_load() - list.load(party))
+    Ok(waiting_in_the_hall(list, slots, party))
+}
+
+/// The number of whole numbers, below D or not, strictly between the party's lowest and highest slot that are the slot of none of
+/// its appointments. (A load of 0 or 1 leaves none between.)
+pub fn waiting_in_the_hall(list: &List, slots: &[u16], party: usize) -> usize {
+    let own: BTreeSet<usize> = slots_of(list, slots, party).into_iter().collect();
+    match (own.first(), own.last()) {
+        (Some(lowest), Some(highest)) => (lowest + 1..*highest).filter(|number| !own.contains(number)).count(),
+        _ => 0,
+    }
+}
+
+/// The slots of the party's appointments, in list order. Entries past the appointments are no slots.
+pub fn slots_of(list: &List, slots: &[u16], party: usize) -> Vec<usize> {
+    let names = |(first, second): (u16, u16)| [first, second].map(usize::from).contains(&party);
+    list.appointments().zip(slots).filter(|(ends, _)| names(*ends)).map(|(_, &slot)| slot.into()).collect()
 }
 
 /// P and A, then per appointment first end, second end, slot; all 16-bit, low byte first. Writing checks 1, 2, 3, 7, 13 and
@@ -122,15 +142,73 @@ mod tests {
     const FILED: [u8; 16] = [3, 0, 2, 0, 0, 0, 1, 0, 0, 0, 1, 0, 2, 0, 1, 0];
 
     #[test]
-    fn the_example_waits_1_0_1() {
-        let (list, _) = example();
-        assert_eq!([0, 1, 2].map(|party| waiting(&list, party)), [Ok(1), Ok(0), Ok(1)]);
-        assert_eq!(waiting(&list, 3), refuse(5));
+    fn nobody_waits_in_the_example() {
+        let (list, slots) = example();
+        assert_eq!([0, 1, 2].map(|party| waiting(&list, &slots, party)), [Ok(0); 3]);
+        assert_eq!(waiting(&list, &slots, 3), refuse(5));
     }
 
     #[test]
+    fn the_widest_gap() {
+        let list = List::new(2, &[(0, 1), (0, 1)]);
+        assert_eq!(waiting(&list, &[0, 65_535], 0), Ok(65_534));
+        assert_eq!(waiting(&list, &[65_535, 0], 1), Ok(65_534));
+        assert_eq!(waiting(&list, &[65_535, 65_535], 0), Ok(0));
+    }
+
+    /// No appointment, one, and one of a party with itself, whose load is 2.
+    #[test]
+    fn with_one_slot_or_none_nobody_waits() {
+        assert_eq!(waiting(&List::new(1, &[(0, 0)]), &[3], 0), Ok(0));
+        assert_eq!(waiting(&List::new(3, &[(0, 1)]), &[9], 0), Ok(0));
+        assert_eq!(waiting(&List::new(3, &[(0, 1)]), &[9], 2), Ok(0));
+        assert_eq!(waiting(&List::new(1024, &[]), &[], 1023), Ok(0));
+    }
+
+    /// 0 has the slots 2, 7 and 4, so 3, 5 and 6 are between and not its own: the slot 5 is the other parties', and 2 and 7 are no
+    /// numbers between. The order of the list doesn't matter, nor which end the party is.
+    #[test]
+    fn only_numbers_between_count_and_only_own_slots() {
+        let list = List::new(3, &[(0, 1), (1, 2), (2, 0), (0, 1)]);
+        assert_eq!(waiting(&list, &[2, 5, 7, 4], 0), Ok(3));
+        assert_eq!(waiting(&list, &[7, 5, 4, 2], 0), Ok(3));
+        // 1 has the slots 2, 5 and 4; 2 has 5 and 7
+        assert_eq!(waiting(&list, &[2, 5, 7, 4], 1), Ok(1));
+        assert_eq!(waiting(&list, &[2, 5, 7, 4], 2), Ok(1));
+    }
+
+    /// Numbers are counted and not appointments: 5 and 9 with three numbers between, however often they come.
+    #[test]
+    fn a_slot_that_comes_again_counts_once() {
+        let list = List::new(2, &[(0, 1); 5]);
+        assert_eq!(waiting(&list, &[5, 9, 5, 9, 9], 0), Ok(3));
+        assert_eq!(waiting(&list, &[5, 9, 7, 7, 5], 0), Ok(2));
+        assert_eq!(waiting(&List::new(1, &[(0, 0); 3]), &[5, 9, 5], 0), Ok(3));
+    }
+
+    #[test]
+    fn entries_past_the_appointments_do_not_count() {
+        let (list, _) = example();
+        assert_eq!(waiting(&list, &[0, 3, 65_535, 1], 1), Ok(2));
+        assert_eq!(waiting(&list, &[0, 3, 1, 2], 1), Ok(2));
+        assert_eq!(waiting(&List::new(2, &[]), &[0, 65_535], 0), Ok(0));
+    }
+
+    #[test]
+    fn waiting_refuses_by_7_and_then_for_the_party() {
+        let list = List::new(2, &[(0, 1)]);
+        assert_eq!(waiting(&list, &[], 9), refuse(7));
+        assert_eq!(waiting(&list, &[], 0), refuse(7));
+        assert_eq!(waiting(&list, &[0], 9), refuse(5));
+        assert_eq!(waiting(&list, &[0], 2), refuse(5));
+        assert_eq!(waiting(&list, &[0], 65_535), refuse(5));
+        assert_eq!(waiting(&list, &[0], 1), Ok(0));
+    }
+
+    /// No slot entry, and a party that is not below P: 7 and the party's 5 are never told here.
+    #[test]
     fn waiting_runs_checks_1_to_5_first() {
-        let refused = |parties, ends: &[u16]| waiting(&List { parties, ends: ends.to_vec() }, 9).unwrap_err();
+        let refused = |parties, ends: &[u16]| waiting(&List { parties, ends: ends.to_vec() }, &[], 9).unwrap_err();
         assert_eq!(refused(1025, &[0]), Refusal { number: 1, place: 0 });
         assert_eq!(refused(2, &[0, 1, 0]), Refusal { number: 2, place: 0 });
         assert_eq!(refused(2, &[0; 8194]), Refusal { number: 3, place: 0 });

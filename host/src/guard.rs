@@ -55,9 +55,11 @@ const CALLS: [Call; 6] = [
     },
     Call {
         name: "bimtsure_waiting",
-        numbers: &[0, 1, 2, 3, 4, 5],
-        slices: |of| vec![reads(&of.list.ends)],
-        answer: |of, s| told!(c::bimtsure_waiting(of.p(), s[0].at(), s[0].entries(), of.party)),
+        numbers: &[0, 1, 2, 3, 4, 5, 7],
+        slices: |of| vec![reads(&of.list.ends), reads(&of.slots)],
+        answer: |of, s| {
+            told!(c::bimtsure_waiting(of.p(), s[0].at(), s[0].entries(), s[1].at(), s[1].entries(), of.party))
+        },
     },
     Call {
         name: "bimtsure_file_plan",

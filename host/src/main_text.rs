@@ -1,8 +1,9 @@
 //! Main once more, in Rust and after document 01's text, with no line taken from the definitions or the code: from input to
 //! output bytes, and what is printed of a broken input. The program is compared with this. Checks 1 to 8 are those of list.rs,
-//! and the slots are the Rust's.
+//! the slots are the Rust's, and waiting is desk.rs's (document 02's request 2), by these slots.
 
 use crate::answer::{self, Answer};
+use crate::desk;
 use crate::list::{List, Refusal, BLANK};
 use std::fmt::Write;
 
@@ -14,20 +15,25 @@ const SCRATCH_WORDS: usize = 16_384;
 /// The most digits of a number.
 const MOST_DIGITS: usize = 5;
 
-/// What main prints, the number of its refusal or 0 for a plan, and whether the plan is by the second search.
+/// What main prints, the number of its refusal or 0 for a plan, whether the plan is by the second search, and whether some party
+/// waits.
 pub struct Printed {
     pub text: String,
     pub number: u8,
     pub second: bool,
+    pub waits: bool,
 }
 
 pub fn output(input: &[u8]) -> Printed {
     match planned(input) {
         Ok((list, Answer::Planned { largest_load, slots }, second)) => {
-            Printed { text: plan_text(&list, largest_load, &slots), number: 0, second }
+            let waiting: Vec<usize> =
+                (0..list.parties).map(|party| desk::waiting_in_the_hall(&list, &slots, party)).collect();
+            let text = plan_text(&list, largest_load, &slots, &waiting);
+            Printed { text, number: 0, second, waits: waiting.iter().any(|&waiting| waiting > 0) }
         }
         Ok((_, Answer::Refused(refusal), _)) | Err(refusal) => {
-            Printed { text: refusal_text(refusal), number: refusal.number, second: false }
+            Printed { text: refusal_text(refusal), number: refusal.number, second: false, waits: false }
         }
     }
 }
@@ -96,13 +102,13 @@ fn refusal_text(Refusal { number, place }: Refusal) -> String {
 }
 
 /// First D; then position, ends, slot; then each party and its waiting.
-fn plan_text(list: &List, largest_load: usize, slots: &[u16]) -> String {
+fn plan_text(list: &List, largest_load: usize, slots: &[u16], waiting: &[usize]) -> String {
     let mut text = format!("plan {largest_load}\n");
     for ((position, (first, second)), slot) in list.appointments().enumerate().zip(slots) {
         writeln!(text, "{position} {first} {second} {slot}").expect("a string can be written to");
     }
-    for party in 0..list.parties {
-        writeln!(text, "party {party} {}", largest_load - list.load(party)).expect("a string can be written to");
+    for (party, waiting) in waiting.iter().enumerate() {
+        writeln!(text, "party {party} {waiting}").expect("a string can be written to");
     }
     text
 }
@@ -115,18 +121,22 @@ mod tests {
         assert_eq!(output(input.as_bytes()).text, printed, "{input:?}");
     }
 
+    /// With waiting as document 02 has it: all three party lines end in 0.
     #[test]
     fn document_01_s_input_prints_in_full() {
-        prints("3\n0,1\n1,2\n", "plan 2\n0 0 1 0\n1 1 2 1\nparty 0 1\nparty 1 0\nparty 2 1\n");
+        prints("3\n0,1\n1,2\n", "plan 2\n0 0 1 0\n1 1 2 1\nparty 0 0\nparty 1 0\nparty 2 0\n");
     }
 
-    /// docs/DIFFERENCES.md has it.
+    /// docs/DIFFERENCES.md has it, with the slots 10 9 6 5 3 1, 8 4, 6 3 and 8 7 4 2 0. So 3 waits in 5 and 7, 4 in 1 and 5, and 6
+    /// in 2 and 7; 5 has every slot, and 0 to 2 have none.
     #[test]
     fn a_list_on_which_the_rust_panics_is_planned() {
         let rows = [("6,5\n", 6), ("6,3\n", 2), ("4,3\n", 2), ("5,4\n", 5)];
         let lines: String = rows.into_iter().map(|(line, times)| line.repeat(times)).collect();
         let printed = output(format!("7\n{lines}").as_bytes());
         assert!(printed.second && printed.text.starts_with("plan 11\n0 6 5 10\n1 6 5 9\n"));
+        let waiting = "\nparty 0 0\nparty 1 0\nparty 2 0\nparty 3 2\nparty 4 2\nparty 5 0\nparty 6 2\n";
+        assert!(printed.waits && printed.text.ends_with(waiting), "{}", printed.text);
     }
 
     #[test]

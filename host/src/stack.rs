@@ -21,7 +21,7 @@ use std::process::{Command, Output, Stdio};
 const CALLS: &[(&str, usize, fn(&mut Lent))] = &[
     ("bimtsure_plan", 16, |l| done(bimtsure::plan(l.p, &l.list, &mut l.slots, &mut l.scratch))),
     ("bimtsure_needs", 8, |l| done(bimtsure::needs(l.p, &l.list))),
-    ("bimtsure_waiting", 8, |l| done(bimtsure::waiting(l.p, &l.list, l.party))),
+    ("bimtsure_waiting", 80, |l| done(bimtsure::waiting(l.p, &l.list, &l.slots, l.party))),
     ("bimtsure_file_plan", 1, |l| done(bimtsure::file_plan(l.p, &l.list, &l.slots, &mut l.filed))),
     ("bimtsure_read_plan", 1, |l| done(bimtsure::read_plan(&l.filed, &mut l.list, &mut l.slots))),
     ("bimtsure_view", 1, |l| done(bimtsure::view(&l.list, &l.slots, l.party, 0))),
@@ -39,7 +39,7 @@ const TIMES: [(u16, u8, u8); 5] =
 
 /// The KiB of stack that docs/PROVED.md promises to be enough for the program, as many as it never needs, and the steps in which
 /// a system gives them.
-const PROGRAM_PROMISED: usize = 128;
+const PROGRAM_PROMISED: usize = 192;
 const PLENTY: usize = 8 * 1024;
 const PAGE: usize = 4;
 
