@@ -115,8 +115,8 @@ struct Input {
     from: usize,
 }
 
-/// From this many rounds on, each number of each call must have come.
-const ENOUGH: usize = 1000;
+/// From this many rounds on, each number of each call must have come. (Of runs of 1,000 rounds one in thirty lacked a rare one.)
+const ENOUGH: usize = 5000;
 /// Lists are mostly short: a long one takes a hundred times as long.
 const MOST_OF_SHORT: usize = 200;
 

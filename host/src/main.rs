@@ -102,7 +102,7 @@ bimtsure-host calendar
     16 bits hold, and all bytes of hours and minutes on the days 0 to 300; fails if one of the numbers 0, 23 and 24 never came
 bimtsure-host guard COUNT SEED
     make every exported call that is lent slices between unreadable pages, and with NULL for those of no entries, in COUNT
-    rounds of random and of damaged input; from 1000 rounds on, fails if a call never gave one of its numbers
+    rounds of random and of damaged input; from 5000 rounds on, fails if a call never gave one of its numbers
 bimtsure-host bytes SECONDS SEED
     throw bytes, which SEED decides, at the program and at reading a filed plan for so long: lists, damaged ones and noise; each
     must end with the answer of main_text.rs or desk.rs, or its bytes are printed; from 60 seconds on, each kind of answer must
