@@ -9,8 +9,8 @@
  * A lent slice passes as its address and its number of entries. Where that is 0 the address may be NULL; else it is aligned for
  * its type. Slices that a call writes must not overlap the others. Nothing is kept after a call.
  *
- * Each answer has a number, 0 for acceptance, and a place, 0 where document 01 names none; a refusal's figures are 0, and it leaves
- * all lent memory as it was (but for scratch after the planning call's 9).
+ * Each answer has a number, 0 for acceptance, and a place, 0 where documents 01 and 02 name none; a refusal's figures are 0, and
+ * it leaves all lent memory as it was (but for scratch after the planning call's 9).
  */
 #ifndef BIMTSURE_H
 #define BIMTSURE_H
@@ -30,8 +30,12 @@
  * bimtsure_needs says. */
 #define BIMTSURE_SCRATCH_WORDS 1179648
 
-/* The numbers of answers. The place of 4 and 5 is the position of the first such appointment, counted from 0; that of 10 is the
- * number of the line, from 1; every other place is 0. 10 and 11 are the program's: no call gives them. */
+/* The most parties that can be asked for together. */
+#define BIMTSURE_MOST_ASKED 64
+
+/* The numbers of answers. The place of 4 and 5 is the position of the first such appointment, counted from 0; that of 15 is the
+ * first such party among those asked for, from 0 too; that of 10 is the number of the line, from 1; every other place is 0. 10 and
+ * 11 are the program's: no call gives them. */
 enum bimtsure_number {
     BIMTSURE_ACCEPTED = 0,
     BIMTSURE_TOO_MANY_PARTIES = 1,      /* more than 1,024 parties */
@@ -46,7 +50,9 @@ enum bimtsure_number {
     BIMTSURE_BAD_LINE = 10,             /* a line of the program's input is malformed, or the input broke off */
     BIMTSURE_LONG_INPUT = 11,           /* the program's input is above 4,096 bytes */
     BIMTSURE_WRONG_LENGTH = 12,         /* a filed plan has the wrong length */
-    BIMTSURE_SHORT_OUTPUT = 13          /* an output is too short */
+    BIMTSURE_SHORT_OUTPUT = 13,         /* an output is too short */
+    BIMTSURE_TOO_MANY_ASKED = 14,       /* more than 64 parties asked for */
+    BIMTSURE_ASKED_NOT_BELOW_P = 15     /* a party asked for is not below P */
 };
 
 #ifdef __cplusplus
@@ -89,6 +95,22 @@ struct bimtsure_waiting_answer {
 };
 struct bimtsure_waiting_answer bimtsure_waiting(uint16_t p, const uint16_t *list, size_t list_len, const uint16_t *slots,
                                                 size_t slots_len, uint16_t party);
+
+/* Asks for up to 64 parties together, by one walk of the list. Fills three entries of `output` for each of `parties`, in order:
+ * its load, its lowest slot and its highest slot; for a load of 0 both slots are 65535. (A slot can be 65535 too: the load tells.)
+ * Each is filled as if it were asked for by itself, and one asked for twice is filled twice. An appointment of a party with itself
+ * adds 2 to its load. The first A entries of `slots` are the plan, and later ones don't count; any numbers will do, clashes too.
+ *
+ * Refuses by 1 to 5 for the list, then by 7, then by 14, then by 15, whose place is that of the first such party in `parties`,
+ * then by 13 if `output` has fewer than 3 entries for each. Entries past those filled always stay. To ask for none is accepted,
+ * and `output` may then be empty. Needs at most 8 KiB of stack. */
+struct bimtsure_many {
+    uint32_t number;
+    uint32_t place;
+};
+struct bimtsure_many bimtsure_ask_many(uint16_t p, const uint16_t *list, size_t list_len, const uint16_t *slots,
+                                       size_t slots_len, const uint16_t *parties, size_t parties_len, uint16_t *output,
+                                       size_t output_len);
 
 /* Writes a filed plan and gives its length in bytes. Refuses by 1, 2, 3, 7 and 13. Needs at most 1 KiB of stack. */
 struct bimtsure_filed {

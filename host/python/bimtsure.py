@@ -4,7 +4,7 @@
     d, slots = bimtsure.plan(3, [(0, 1), (1, 2)])
 
 Parties are the numbers from 0 to parties - 1. An appointment is a pair of parties; an end that isn't known is None, and never 0,
--1 or ''. A refusal is the exception Refused, with document 01's number and place and the cause in words.
+-1 or ''. A refusal is the exception Refused, with the number and place of documents 01 and 02 and the cause in words.
 
 Names become numbers by a dict's get, which gives None for a name that isn't there:
 
@@ -13,7 +13,7 @@ Names become numbers by a dict's get, which gives None for a name that isn't the
     bimtsure.plan(len(number), [(number.get(a), number.get(b)) for a, b in asked])    # Refused: appointment 2: an end is blank
 
 What is no whole number is a TypeError, and a number below 0 a ValueError, before anything is called. A number that is too large
-for 16 bits is never cut: it is refused by 1 or 5, as document 01 says, or where that paper asks nothing of it a ValueError.
+for 16 bits is never cut: it is refused by 1, 5 or 15, as these papers say, or where they ask nothing of it a ValueError.
 
 The library is the file that BIMTSURE_LIBRARY names, or else libbimtsure.so beside this file, or in target/staticlib, where
 host/library writes it.
@@ -24,13 +24,14 @@ import operator
 import os
 from collections.abc import Mapping, Set
 from ctypes import POINTER, Structure, c_size_t, c_uint8, c_uint16, c_uint32
-from typing import NamedTuple
+from typing import NamedTuple, Optional
 
 BLANK = 65535
 MOST_PARTIES = 1024
 MOST_APPOINTMENTS = 4096
 MOST_CELLS = 8192
 SCRATCH_WORDS = 1179648
+MOST_ASKED = 64
 
 CAUSES = {
     1: "more than 1,024 parties",
@@ -44,6 +45,8 @@ CAUSES = {
     9: "a closed round of odd length: there are no two sides",
     12: "a filed plan has the wrong length",
     13: "an output is too short",
+    14: "more than 64 parties asked for",
+    15: "a party asked for is not below the number of parties",
     # by bimtsure_calendar.py
     23: "a slot above 4,095",
     24: "a time that is none of the sixteen, or a day above 255",
@@ -51,13 +54,15 @@ CAUSES = {
 
 
 class Refused(Exception):
-    """A refusal: document 01's number and place, and the cause in words. Positions of appointments count from 0."""
+    """A refusal: its number and place, and the cause in words. Positions of appointments and of parties asked for count from 0."""
 
     def __init__(self, number, place, cause=None):
         if cause is None:
             cause = CAUSES[number]
             if number in (4, 5):
                 cause = f"appointment {place}: {cause}"
+            if number == 15:
+                cause = f"query {place}: {cause}"
         super().__init__(number, place, cause)
         self.number = number
         self.place = place
@@ -85,6 +90,14 @@ class Needs(NamedTuple):
     words: int
 
 
+class Asked(NamedTuple):
+    """A party's load, and its lowest and its highest slot, which are None for a load of 0."""
+
+    load: int
+    lowest: Optional[int]
+    highest: Optional[int]
+
+
 class Filed(NamedTuple):
     """What a filed plan holds. A blank end is None."""
 
@@ -106,6 +119,10 @@ class _Needs(Structure):
 
 class _Waiting(Structure):
     _fields_ = [("number", c_uint32), ("place", c_uint32), ("waiting", c_uint32)]
+
+
+class _Many(Structure):
+    _fields_ = [("number", c_uint32), ("place", c_uint32)]
 
 
 class _Filed(Structure):
@@ -153,6 +170,20 @@ _CALLS = {
             ("slots", POINTER(c_uint16)),
             ("slots_len", c_size_t),
             ("party", c_uint16),
+        ],
+    ),
+    "bimtsure_ask_many": (
+        _Many,
+        [
+            ("p", c_uint16),
+            ("list", POINTER(c_uint16)),
+            ("list_len", c_size_t),
+            ("slots", POINTER(c_uint16)),
+            ("slots_len", c_size_t),
+            ("parties", POINTER(c_uint16)),
+            ("parties_len", c_size_t),
+            ("output", POINTER(c_uint16)),
+            ("output_len", c_size_t),
         ],
     ),
     "bimtsure_file_plan": (
@@ -247,6 +278,22 @@ def waiting(parties, appointments, slots, party):
     return answer.waiting
 
 
+def ask_many(parties, appointments, slots, asked):
+    """Load, lowest slot and highest slot of each party asked for, in their order, by one walk of the list. Up to 64 can be asked
+    for, and one that is asked for twice comes twice. Any slots will do, and entries past the appointments don't count. Refuses by
+    1, 3 to 5, 7, 14 and 15."""
+    p, ends, entries = _checked_p(parties), _checked_list(appointments), _slots(slots)
+    queries = _queries(asked)
+    output = (c_uint16 * (3 * len(queries)))()
+    answer = _library.bimtsure_ask_many(
+        p, ends, len(ends), entries, len(entries), queries, len(queries), output, len(output)
+    )
+    _accept(answer)
+    answers = zip(output[::3], output[1::3], output[2::3])
+    # 65535 is no slot where the load is 0, else it is one
+    return [Asked(load, lowest, highest) if load else Asked(0, None, None) for load, lowest, highest in answers]
+
+
 def view(appointments, slots, party):
     """The party's appointments, one after the other: position and slot. None looks for blank ends. Refuses by 7."""
     ends, entries = _kept_list(appointments), _slots(slots)
@@ -323,8 +370,8 @@ def _checked_p(parties):
 
 
 def _capped(number):
-    """An end for a call that refuses every one from P on by 5. The largest that isn't blank stands for those above it: P is at
-    most 1,024 there."""
+    """An end or a party for a call that refuses every one from P on by 5 or 15. The largest that isn't blank stands for those
+    above it: P is at most 1,024 there."""
     return min(number, BLANK - 1)
 
 
@@ -378,3 +425,10 @@ def _slots(slots):
             raise ValueError(f"slot {position} is {number}, above 65535")
         entries.append(number)
     return (c_uint16 * len(entries))(*entries)
+
+
+def _queries(asked):
+    if isinstance(asked, (Set, Mapping)):
+        raise TypeError(f"parties are asked for in order, not as {type(asked).__name__}")
+    queries = [_capped(_natural(party, f"query {position}")) for position, party in enumerate(asked)]
+    return (c_uint16 * len(queries))(*queries)

@@ -11,7 +11,7 @@ import unittest
 from pathlib import Path
 
 import bimtsure
-from bimtsure import GraphNotBipartite, Plan, Refused
+from bimtsure import Asked, GraphNotBipartite, Plan, Refused
 
 ROOT = Path(__file__).resolve().parents[2]
 STORED = ROOT / "crates/replay/stdin"
@@ -49,6 +49,12 @@ def waits(appointments, slots, party):
     return sum(number not in own for number in range(min(own) + 1, max(own)))
 
 
+def asked_for(appointments, slots, party):
+    """Document 02: load, lowest slot and highest slot. A party with load 0 has none."""
+    own = [slot for pair, slot in zip(appointments, slots) if party in pair]
+    return load(appointments, party), min(own, default=None), max(own, default=None)
+
+
 class Answers(unittest.TestCase):
     def hold(self, text, expected):
         """A list as a line of text. Returns what it was answered, or None where Python can't say the list."""
@@ -80,7 +86,7 @@ class Answers(unittest.TestCase):
 
     def test_desk_calls_on_random_lists(self):
         chance = random.Random(7)
-        met = set()
+        met, loads = set(), set()
         lists = subprocess.run([HOST, "lists", "300", "8", "200"], check=True, capture_output=True).stdout
         for text in lists.decode().splitlines():
             parties, appointments = read_list(text)
@@ -102,7 +108,11 @@ class Answers(unittest.TestCase):
                     expected = waits(appointments, slots, party)
                     self.assertEqual(bimtsure.waiting(parties, appointments, slots, party), expected)
                     met.add(expected > 0)
-        self.assertEqual(met, {False, True})
+                asked = [chance.choice(named + [0, parties - 1]) for _ in range(chance.choice([0, 1, 30, 64]))]
+                expected = [asked_for(appointments, slots, party) for party in asked]
+                self.assertEqual(bimtsure.ask_many(parties, appointments, slots, asked), expected)
+                loads.update(min(answer[0], 3) for answer in expected)
+        self.assertEqual((met, loads), ({False, True}, {0, 1, 2, 3}))
 
     def hold_filed(self, parties, appointments, slots):
         numbers = [parties, len(appointments)]
@@ -155,6 +165,20 @@ class Calls(Trying):
         self.assertEqual(bimtsure.waiting(3, three, [0, 3, 2], 1), 2)
         self.assertEqual(bimtsure.waiting(3, three, iter([0, 3, 2, 1, 65535]), 1), 2)
 
+    def test_many_are_asked_for_together(self):
+        self.assertEqual(bimtsure.ask_many(3, EXAMPLE, [0, 1], range(3)), [(1, 0, 0), (2, 0, 1), (1, 1, 1)])
+        self.assertEqual(bimtsure.ask_many(3, EXAMPLE, [0, 1], iter([1]))[0], Asked(load=2, lowest=0, highest=1))
+        # any slots, clashes too; what stands behind the appointments is nobody's
+        self.assertEqual(bimtsure.ask_many(3, [(0, 1), (2, 0)], (9, 5, 0, 65535), [0, 2]), [(2, 5, 9), (1, 5, 5)])
+        self.assertEqual(bimtsure.ask_many(3, [(0, 1), (0, 2)], [5, 5], [0]), [(2, 5, 5)])
+        # one with itself, one with load 0, and one that is asked for twice
+        self.assertEqual(bimtsure.ask_many(2, [(0, 0)], [5], [0, 1, 0]), [(2, 5, 5), (0, None, None), (2, 5, 5)])
+        # a slot like any other
+        self.assertEqual(bimtsure.ask_many(2, [(0, 1)], [65535], [0]), [(1, 65535, 65535)])
+        self.assertEqual(bimtsure.ask_many(1, [(0, 0)] * 4096, [7] * 4096, [0] * 64), [(8192, 7, 7)] * 64)
+        self.assertEqual(bimtsure.ask_many(1024, [], [], [1023]), [(0, None, None)])
+        self.assertEqual(bimtsure.ask_many(0, [], [], []), [])
+
     def test_the_shape_of_rustworkx(self):
         edges = [(0, 1), (1, 2), (2, 3), (3, 0)]
         self.assertEqual(bimtsure.graph_bipartite_edge_color(4, edges), {0: 0, 1: 1, 2: 0, 3: 1})
@@ -203,8 +227,22 @@ class Calls(Trying):
         self.refused(4, 1, bimtsure.waiting, 3, [(0, 1), (None, 2)], [], 9)
         self.refused(5, 1, bimtsure.waiting, 2, EXAMPLE, [], 9)
 
+    def test_refusals_of_asking_for_many(self):
+        said = self.refused(14, 0, bimtsure.ask_many, 3, EXAMPLE, [0, 1], [0] * 65)
+        self.assertEqual(said, "more than 64 parties asked for")
+        said = self.refused(15, 1, bimtsure.ask_many, 3, EXAMPLE, [0, 1], [2, 3, 0, 9])
+        self.assertEqual(said, "query 1: a party asked for is not below the number of parties")
+        self.refused(15, 0, bimtsure.ask_many, 0, [], [], [0])
+        # 15 behind 14, 14 behind 7, and 7 behind all that the list is refused by
+        self.refused(14, 0, bimtsure.ask_many, 3, EXAMPLE, [0, 1], [9] * 65)
+        self.refused(7, 0, bimtsure.ask_many, 3, EXAMPLE, [0], [9] * 65)
+        self.refused(1, 0, bimtsure.ask_many, 1025, EXAMPLE, [], [9999] * 65)
+        self.refused(3, 0, bimtsure.ask_many, 2, [(0, 1)] * 4097, [], [9] * 65)
+        self.refused(4, 1, bimtsure.ask_many, 3, [(0, 3), (None, 2)], [], [9] * 65)
+        self.refused(5, 1, bimtsure.ask_many, 2, EXAMPLE, [], [9] * 65)
+
     def test_a_refusal_can_be_pickled(self):
-        for refusal in [Refused(4, 6), Refused(5, 0, "party 3"), GraphNotBipartite(9, 0)]:
+        for refusal in [Refused(4, 6), Refused(5, 0, "party 3"), Refused(15, 2), GraphNotBipartite(9, 0)]:
             again = pickle.loads(pickle.dumps(refusal))
             self.assertEqual((type(again), again.number, again.place, str(again)),
                              (type(refusal), refusal.number, refusal.place, str(refusal)))
@@ -242,6 +280,8 @@ class Mistakes(Trying):
             self.refused(1, 0, bimtsure.plan, 1025, [(0, 1), (0, end)])
             self.refused(5, 1, bimtsure.waiting, 2, [(0, 1), (0, end)], [0, 1], 0)
             self.refused(5, 0, bimtsure.waiting, 2, EXAMPLE[:1], [0], end)
+            self.refused(5, 1, bimtsure.ask_many, 2, [(0, 1), (0, end)], [0, 1], [0])
+            self.refused(15, 1, bimtsure.ask_many, 2, EXAMPLE[:1], [0], [0, end])
         for end in [65535, 65536, 65537, 1 << 32]:
             self.wrong(ValueError, bimtsure.file_plan, 2, [(0, end)], [0])
             self.wrong(ValueError, bimtsure.view, [(0, end)], [0], 0)
@@ -252,6 +292,7 @@ class Mistakes(Trying):
             self.refused(1, 0, bimtsure.plan, parties, EXAMPLE[:1])
             self.refused(1, 0, bimtsure.needs, parties, EXAMPLE[:1])
             self.refused(1, 0, bimtsure.waiting, parties, EXAMPLE[:1], [0], 0)
+            self.refused(1, 0, bimtsure.ask_many, parties, EXAMPLE[:1], [0], [0])
             self.refused(1, 0, bimtsure.file_plan, parties, EXAMPLE[:1], [0])
             self.refused(1, 0, bimtsure.graph_bipartite_edge_color, parties, EXAMPLE[:1])
 
@@ -263,13 +304,20 @@ class Mistakes(Trying):
             # behind the appointments too, and whatever the list is
             self.wrong(ValueError, bimtsure.waiting, 3, EXAMPLE, [0, 1, slot], 1)
             self.wrong(ValueError, bimtsure.waiting, 1025, EXAMPLE, [0, slot], 1)
+            self.wrong(ValueError, bimtsure.ask_many, 3, EXAMPLE, [0, slot], [1])
+            self.wrong(ValueError, bimtsure.ask_many, 3, EXAMPLE, [0, 1, slot], [])
         self.assertEqual(bimtsure.read_plan(bimtsure.file_plan(3, EXAMPLE, [0, 65535])).slots, [0, 65535])
+
+    def test_more_asked_for_than_16_bits_count(self):
+        for count in [65, 65535, 65536, 65537, 65600]:
+            self.refused(14, 0, bimtsure.ask_many, 3, EXAMPLE, [0, 1], [0] * count)
 
     def test_numbers_below_0(self):
         for call in [bimtsure.plan, bimtsure.graph_bipartite_edge_color]:
             self.wrong(ValueError, call, -1, [])
             self.wrong(ValueError, call, 2, [(0, 1), (0, -1)])
         self.wrong(ValueError, bimtsure.waiting, 2, EXAMPLE[:1], [0], -1)
+        self.wrong(ValueError, bimtsure.ask_many, 2, EXAMPLE[:1], [0], [0, -1])
         self.wrong(ValueError, bimtsure.view, EXAMPLE, [0, 1], -1)
         self.wrong(ValueError, bimtsure.file_plan, 2, [(0, -1)], [0])
 
@@ -280,6 +328,8 @@ class Mistakes(Trying):
             self.wrong(TypeError, bimtsure.needs, value, [])
             self.wrong(TypeError, bimtsure.waiting, 2, EXAMPLE[:1], [0], value)
             self.wrong(TypeError, bimtsure.waiting, 3, EXAMPLE, [0, value], 1)
+            self.wrong(TypeError, bimtsure.ask_many, 3, EXAMPLE, [0, 1], [0, value])
+            self.wrong(TypeError, bimtsure.ask_many, 3, EXAMPLE, [0, value], [0])
             self.wrong(TypeError, bimtsure.view, EXAMPLE, [0, value], 1)
             self.wrong(TypeError, bimtsure.view, EXAMPLE, [0, 1], value)
             self.wrong(TypeError, bimtsure.file_plan, 3, EXAMPLE, [0, value])
@@ -287,6 +337,10 @@ class Mistakes(Trying):
             self.wrong(TypeError, call, None, [])
         self.wrong(TypeError, bimtsure.waiting, 2, EXAMPLE[:1], [0], None)
         self.wrong(TypeError, bimtsure.waiting, 3, EXAMPLE, [0, None], 1)
+        # a name that isn't there, and a party where parties are asked for
+        self.wrong(TypeError, bimtsure.ask_many, 3, EXAMPLE, [0, 1], [0, None])
+        self.wrong(TypeError, bimtsure.ask_many, 3, EXAMPLE, [0, 1], 1)
+        self.wrong(TypeError, bimtsure.ask_many, 3, EXAMPLE, [0, 1], "01")
         # as it was called before it needed the slots; and a plan is more than its slots
         self.wrong(TypeError, bimtsure.waiting, 3, EXAMPLE, 1)
         self.wrong(TypeError, bimtsure.waiting, 3, EXAMPLE, 1, 1)
@@ -312,6 +366,9 @@ class Mistakes(Trying):
         self.wrong(TypeError, bimtsure.file_plan, 3, EXAMPLE, {0: 0, 1: 1})
         self.wrong(TypeError, bimtsure.waiting, 3, EXAMPLE, {0, 1}, 1)
         self.wrong(TypeError, bimtsure.waiting, 3, EXAMPLE, {0: 0, 1: 1}, 1)
+        self.wrong(TypeError, bimtsure.ask_many, 3, EXAMPLE, {0, 1}, [1])
+        self.wrong(TypeError, bimtsure.ask_many, 3, EXAMPLE, [0, 1], {0, 1})
+        self.wrong(TypeError, bimtsure.ask_many, 3, EXAMPLE, [0, 1], {0: 0, 1: 1})
 
     def test_a_number_of_bytes_is_no_filed_plan(self):
         for value in [4, "abcd", [3, 0, 0, 0], None]:

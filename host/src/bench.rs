@@ -1,10 +1,11 @@
 //! Times our planning call beside the Rust on the same lists, in turn and in one run: other programs disturb both alike, and the
 //! best of many rounds is what is left of them. The Rust's graph is built before its time begins; ours includes the checks and
-//! the clearing of scratch. Then the checks of a long list by themselves, and waiting, which the Rust doesn't have.
+//! the clearing of scratch. Then the checks of a long list by themselves, and what the Rust doesn't have: waiting, and asking for
+//! many parties in one call beside a call for each.
 
-use crate::bimtsure::{self, Needs, Plan, Waiting};
+use crate::bimtsure::{self, Many, Needs, Plan, Waiting};
 use crate::bipartite_coloring::bipartite_edge_color;
-use crate::desk;
+use crate::desk::{self, MOST_ASKED};
 use crate::format::write_list;
 use crate::list::{List, BLANK, MOST_APPOINTMENTS};
 use crate::lists;
@@ -22,8 +23,10 @@ const SIZES: [(usize, usize); 8] =
 const GROWTH: [[usize; 4]; 2] = [[8, 16, 32, 64], [9, 17, 33, 63]];
 const GROWTH_PARTIES: usize = 128;
 
-/// P and D of the list whose checks are timed, and of the one by whose plan a party waits: A is 4,096.
+/// P and D of the list whose checks are timed, and of those by whose plans a party waits and many are asked for: A is 4,096.
 const CHECKED: (usize, usize) = (1024, 8);
+/// How many parties are asked for: one, a desk's morning, and as many as can be.
+const ASKED: [usize; 3] = [1, 30, MOST_ASKED];
 
 /// Lists of each row, and for each at least this many rounds and this much time.
 const LISTS: usize = 3;
@@ -80,7 +83,8 @@ pub fn run(seed: u64) -> Result<(), String> {
     }
     println!("\nboth gave the same slots in every round\n");
     time_checks(&mut random)?;
-    time_waiting(&mut random)
+    time_waiting(&mut random)?;
+    time_asking(&mut random)
 }
 
 /// The checks of a list of 4,096 appointments without the planning: by `bimtsure_needs` for a list that passes, by the planning
@@ -128,6 +132,34 @@ fn time_waiting(random: &mut Random) -> Result<(), String> {
         let best = best_of(expected, || bimtsure::waiting(p, black_box(&list.ends), black_box(&slots), 0))?;
         let (count, load) = (list.count(), list.load(0));
         println!("{best:>9.2}  P {p}, A {count}, its load {load}, {told}: waits {waiting}");
+    }
+    Ok(())
+}
+
+/// Asking for some parties in one call, and for each of them in a call of its own.
+fn time_asking(random: &mut Random) -> Result<(), String> {
+    let (parties, degree) = CHECKED;
+    let list = lists::even_handed_part(random, parties, degree, 3);
+    let slots = planned_slots(&list)?;
+    let ask = |queries: &[u16], output: &mut [u16]| {
+        bimtsure::ask_many(parties as u16, black_box(&list.ends), black_box(&slots), black_box(queries), output)
+    };
+    let count = list.count();
+    println!("\nAsking for parties of a list with P {parties} and A {count}, microseconds, the best of the rounds:");
+    println!("all in one call, a call for each, and the ratio.");
+    let accepted = Many { number: 0, place: 0 };
+    for asked in ASKED {
+        let queries: Vec<u16> = (0..asked).map(|at| (at * parties / asked) as u16).collect();
+        let (mut together, mut alone) = (vec![0; 3 * asked], vec![0; 3 * asked]);
+        let one_call = best_of(accepted, || ask(&queries, &mut together))?;
+        let each = || queries.chunks(1).zip(alone.chunks_mut(3)).all(|(query, answer)| ask(query, answer) == accepted);
+        let a_call_each = best_of(true, each)?;
+        let mut expected = vec![0; 3 * asked];
+        desk::ask_many(&list, &slots, &queries, &mut expected).map_err(|refusal| format!("{refusal:?}"))?;
+        if together != expected || alone != expected {
+            return Err(format!("of {queries:?}, together {together:?} and alone {alone:?} instead of {expected:?}"));
+        }
+        println!("{one_call:>9.2} {a_call_each:>9.2} {:>6.2}  {asked} asked for", a_call_each / one_call);
     }
     Ok(())
 }

@@ -16,6 +16,8 @@ pub const MOST_APPOINTMENTS: usize = 4096;
 pub const MOST_CELLS: usize = 8192;
 /// Scratch that is enough for every list: 128·(8192 + 1024) words.
 pub const SCRATCH_WORDS: usize = 1179648;
+/// The most parties that can be asked for together.
+pub const MOST_ASKED: usize = 64;
 
 /// The calls as they are linked: a slice passes as its address and its number of entries, and a struct of numbers comes back.
 pub mod c {
@@ -41,6 +43,17 @@ pub mod c {
             slots_len: usize,
             party: u16,
         ) -> Waiting;
+        pub fn bimtsure_ask_many(
+            p: u16,
+            list: *const u16,
+            list_len: usize,
+            slots: *const u16,
+            slots_len: usize,
+            parties: *const u16,
+            parties_len: usize,
+            output: *mut u16,
+            output_len: usize,
+        ) -> Many;
         pub fn bimtsure_file_plan(
             p: u16,
             list: *const u16,
@@ -94,6 +107,14 @@ pub struct Waiting {
     pub number: u32,
     pub place: u32,
     pub waiting: u32,
+}
+
+/// What was asked for is in the output.
+#[repr(C)]
+#[derive(Clone, Copy, Debug, PartialEq, Eq)]
+pub struct Many {
+    pub number: u32,
+    pub place: u32,
 }
 
 #[repr(C)]
@@ -150,6 +171,24 @@ pub fn needs(p: u16, list: &[u16]) -> Needs {
 pub fn waiting(p: u16, list: &[u16], slots: &[u16], party: u16) -> Waiting {
     // SAFETY: the call reads list and slots within their lengths, and asks nothing.
     unsafe { c::bimtsure_waiting(p, list.as_ptr(), list.len(), slots.as_ptr(), slots.len(), party) }
+}
+
+/// Load, lowest slot and highest slot of each of the parties, three entries of the output in that order.
+pub fn ask_many(p: u16, list: &[u16], slots: &[u16], parties: &[u16], output: &mut [u16]) -> Many {
+    // SAFETY: the call reads list, slots and parties and writes output, all within their lengths, and asks nothing.
+    unsafe {
+        c::bimtsure_ask_many(
+            p,
+            list.as_ptr(),
+            list.len(),
+            slots.as_ptr(),
+            slots.len(),
+            parties.as_ptr(),
+            parties.len(),
+            output.as_mut_ptr(),
+            output.len(),
+        )
+    }
 }
 
 pub fn file_plan(p: u16, list: &[u16], slots: &[u16], output: &mut [u8]) -> Filed {

@@ -1,8 +1,14 @@
 //! The desk's calls once more, in Rust and after the papers' text, with no line taken from the definitions or the code: waiting
-//! (document 02's request 2), the filed plan and the viewer (document 01). Our exported calls are compared with these.
+//! (document 02's request 2), asking for many parties (its request 1), the filed plan and the viewer (document 01). Our exported
+//! calls are compared with these.
 
 use crate::list::{List, Refusal, MOST_APPOINTMENTS, MOST_PARTIES};
 use std::collections::BTreeSet;
+
+/// The most parties that are asked for together.
+pub const MOST_ASKED: usize = 64;
+/// What a party with load 0 gets for its lowest and its highest slot.
+const NO_SLOT: u16 = 65_535;
 
 fn refuse<T>(number: u8) -> Result<T, Refusal> {
     Err(Refusal { number, place: 0 })
@@ -35,6 +41,36 @@ pub fn waiting_in_the_hall(list: &List, slots: &[u16], party: usize) -> usize {
 pub fn slots_of(list: &List, slots: &[u16], party: usize) -> Vec<usize> {
     let names = |(first, second): (u16, u16)| [first, second].map(usize::from).contains(&party);
     list.appointments().zip(slots).filter(|(ends, _)| names(*ends)).map(|(_, &slot)| slot.into()).collect()
+}
+
+/// For each of up to 64 parties load, lowest slot and highest slot, three entries in that order. Checks 1 to 5 on the list, then
+/// 7; after those 14 if more than 64 are asked for, 15 if one is not below P, with the first such query as its place, and 13 if
+/// the output is too short. Later entries of the output stay.
+pub fn ask_many(list: &List, slots: &[u16], queries: &[u16], output: &mut [u16]) -> Result<(), Refusal> {
+    list.check_ends()?;
+    if slots.len() < list.count() {
+        return refuse(7);
+    }
+    if queries.len() > MOST_ASKED {
+        return refuse(14);
+    }
+    if let Some(place) = queries.iter().position(|&party| usize::from(party) >= list.parties) {
+        return Err(Refusal { number: 15, place });
+    }
+    let Some(room) = output.get_mut(..3 * queries.len()) else {
+        return refuse(13);
+    };
+    for (entries, &party) in room.chunks_exact_mut(3).zip(queries) {
+        entries.copy_from_slice(&asked_alone(list, slots, party.into()));
+    }
+    Ok(())
+}
+
+/// Load, lowest slot and highest slot of one party. (With itself it has a load of 2 and one slot.)
+fn asked_alone(list: &List, slots: &[u16], party: usize) -> [u16; 3] {
+    let own = slots_of(list, slots, party);
+    let entry = |slot: Option<&usize>| slot.map_or(NO_SLOT, |&slot| slot as u16);
+    [list.load(party) as u16, entry(own.iter().min()), entry(own.iter().max())]
 }
 
 /// P and A, then per appointment first end, second end, slot; all 16-bit, low byte first. Writing checks 1, 2, 3, 7, 13 and
@@ -216,6 +252,85 @@ mod tests {
         assert_eq!(refused(2, &[0, 1, 2, 65_535]), Refusal { number: 4, place: 1 });
         assert_eq!(refused(2, &[0, 65_535]), Refusal { number: 4, place: 0 });
         assert_eq!(refused(2, &[0, 1, 2, 1]), Refusal { number: 5, place: 1 });
+    }
+
+    /// What is asked for of such a list and its slots, in an output of just that many entries.
+    fn asked(parties: usize, ends: &[(usize, usize)], slots: &[u16], queries: &[u16]) -> Vec<u16> {
+        let mut output = vec![9; 3 * queries.len()];
+        assert_eq!(ask_many(&List::new(parties, ends), slots, queries, &mut output), Ok(()));
+        output
+    }
+
+    #[test]
+    fn all_parties_of_the_example_together() {
+        assert_eq!(asked(3, &[(0, 1), (1, 2)], &[0, 1], &[0, 1, 2]), [1, 0, 0, 2, 0, 1, 1, 1, 1]);
+        assert_eq!(asked(3, &[(0, 1), (1, 2)], &[0, 1], &[2, 0, 2]), [1, 1, 1, 1, 0, 0, 1, 1, 1]);
+    }
+
+    /// Slots needn't be below D nor free of clashes, and may come in any order; those past the appointments are nobody's.
+    #[test]
+    fn any_slots_can_be_asked_for() {
+        assert_eq!(asked(3, &[(0, 1), (0, 2)], &[5, 5], &[0]), [2, 5, 5]);
+        assert_eq!(asked(3, &[(2, 1), (0, 2), (2, 1)], &[7, 9, 3], &[2, 1]), [3, 3, 9, 2, 3, 7]);
+        assert_eq!(asked(3, &[(0, 1), (0, 2)], &[5, 6, 0, 65_535], &[0, 1]), [2, 5, 6, 1, 5, 5]);
+    }
+
+    /// 65,535 twice for load 0; but it is also a slot like any other.
+    #[test]
+    fn a_party_without_appointments_and_the_last_slot() {
+        assert_eq!(asked(2, &[(0, 0)], &[5], &[0, 1, 0]), [2, 5, 5, 0, 65_535, 65_535, 2, 5, 5]);
+        assert_eq!(asked(2, &[(0, 1)], &[65_535], &[0]), [1, 65_535, 65_535]);
+        assert_eq!(asked(1024, &[], &[], &[1023]), [0, 65_535, 65_535]);
+        assert_eq!(asked(1, &[(0, 0); 4096], &[1; 4096], &[0]), [8192, 1, 1]);
+    }
+
+    #[test]
+    fn up_to_64_can_be_asked_for() {
+        assert_eq!(asked(0, &[], &[], &[]), []);
+        assert_eq!(asked(1, &[(0, 0)], &[3], &[0; 64]), [2, 3, 3].repeat(64));
+        let refused = |queries: &[u16]| ask_many(&List::new(1, &[]), &[], queries, &mut []);
+        assert_eq!(refused(&[0; 65]), refuse(14));
+        assert_eq!(refused(&[7; 65]), refuse(14));
+        assert_eq!(refused(&[0; 64]), refuse(13));
+    }
+
+    #[test]
+    fn the_first_query_not_below_p_is_told() {
+        let refused = |parties, queries: &[u16]| ask_many(&List::new(parties, &[]), &[], queries, &mut []).unwrap_err();
+        assert_eq!(refused(1, &[0, 65_535]), Refusal { number: 15, place: 1 });
+        assert_eq!(refused(2, &[1, 0, 2, 9]), Refusal { number: 15, place: 2 });
+        assert_eq!(refused(0, &[0]), Refusal { number: 15, place: 0 });
+        assert_eq!(refused(2, &[1, 0]), Refusal { number: 13, place: 0 });
+    }
+
+    /// Two parties, in an output that is one entry too short, and in one that is longer than needed.
+    #[test]
+    fn an_output_that_is_too_short_or_too_long() {
+        let (list, slots) = example();
+        let mut output = [9; 8];
+        assert_eq!(ask_many(&list, &slots, &[0, 1], &mut output[..5]), refuse(13));
+        assert_eq!(output, [9; 8]);
+        assert_eq!(ask_many(&list, &slots, &[0, 1], &mut output), Ok(()));
+        assert_eq!(output, [1, 0, 0, 2, 0, 1, 9, 9]);
+        assert_eq!(ask_many(&list, &slots, &[], &mut output), Ok(()));
+        assert_eq!(output, [1, 0, 0, 2, 0, 1, 9, 9]);
+    }
+
+    /// Too many are asked for, one of them is not below P, and there is no output: what is told is the list's, and then the
+    /// slots'.
+    #[test]
+    fn asking_runs_checks_1_to_5_and_7_first() {
+        let refused = |parties, ends: &[u16]| {
+            let list = List { parties, ends: ends.to_vec() };
+            ask_many(&list, &[], &[9; 65], &mut []).unwrap_err()
+        };
+        assert_eq!(refused(1025, &[0]), Refusal { number: 1, place: 0 });
+        assert_eq!(refused(2, &[0, 1, 0]), Refusal { number: 2, place: 0 });
+        assert_eq!(refused(2, &[0; 8194]), Refusal { number: 3, place: 0 });
+        assert_eq!(refused(2, &[0, 2, 1, 65_535]), Refusal { number: 4, place: 1 });
+        assert_eq!(refused(2, &[0, 1, 2, 1]), Refusal { number: 5, place: 1 });
+        assert_eq!(refused(2, &[0, 1]), Refusal { number: 7, place: 0 });
+        assert_eq!(refused(2, &[]), Refusal { number: 14, place: 0 });
     }
 
     #[test]

@@ -7,6 +7,7 @@ use crate::format::{write_bytes, write_list};
 use crate::lent::BEHIND;
 use crate::list::{List, Refusal, BLANK, MOST_APPOINTMENTS, MOST_PARTIES};
 use crate::lists::Lists;
+use crate::many;
 use crate::random::Random;
 use std::collections::{BTreeMap, BTreeSet};
 use std::fmt::Debug;
@@ -23,8 +24,9 @@ struct Call {
     compare: fn(&Case, &mut Random, &mut Counts) -> Result<(), String>,
 }
 
-const CALLS: [Call; 4] = [
+const CALLS: [Call; 5] = [
     Call { name: "bimtsure_waiting", numbers: &[0, 1, 2, 3, 4, 5, 7], compare: waiting },
+    Call { name: "bimtsure_ask_many", numbers: &[0, 1, 2, 3, 4, 5, 7, 13, 14, 15], compare: many::compare },
     Call { name: "bimtsure_file_plan", numbers: &[0, 1, 2, 3, 7, 13], compare: file_plan },
     Call { name: "bimtsure_read_plan", numbers: &[0, 1, 3, 12, 13], compare: read_plan },
     Call { name: "bimtsure_view", numbers: &[0, 2, 7], compare: view },
@@ -32,12 +34,13 @@ const CALLS: [Call; 4] = [
 
 /// How often a call gave each number, and how often each kind of question came that its numbers don't tell apart.
 #[derive(Default)]
-struct Counts {
+pub struct Counts {
     numbers: BTreeMap<u32, usize>,
     kinds: BTreeMap<&'static str, usize>,
 }
 
 /// A list and its slots.
+#[derive(Clone)]
 pub struct Case {
     pub list: List,
     pub slots: Vec<u16>,
@@ -67,12 +70,12 @@ pub fn compare(count: usize, seed: u64) -> Result<(), String> {
 }
 
 impl Counts {
-    fn take(&mut self, number: u32) {
+    pub fn take(&mut self, number: u32) {
         *self.numbers.entry(number).or_default() += 1;
     }
 
     /// Each kind by its name, and whether the question was of it.
-    fn take_kinds<const N: usize>(&mut self, kinds: [(&'static str, bool); N]) {
+    pub fn take_kinds<const N: usize>(&mut self, kinds: [(&'static str, bool); N]) {
         for (kind, came) in kinds {
             *self.kinds.entry(kind).or_default() += usize::from(came);
         }
@@ -96,7 +99,7 @@ impl Counts {
 }
 
 /// An error says what was asked and what differs.
-fn same<T: Debug + PartialEq>(asked: impl Debug, expected: T, answered: T) -> Result<(), String> {
+pub fn same<T: Debug + PartialEq>(asked: impl Debug, expected: T, answered: T) -> Result<(), String> {
     if expected == answered {
         return Ok(());
     }
@@ -104,7 +107,7 @@ fn same<T: Debug + PartialEq>(asked: impl Debug, expected: T, answered: T) -> Re
 }
 
 /// The number and the place of a refusal.
-fn numbers_of(refusal: Refusal) -> (u32, u32) {
+pub fn numbers_of(refusal: Refusal) -> (u32, u32) {
     (u32::from(refusal.number), refusal.place as u32)
 }
 
@@ -294,7 +297,7 @@ impl Case {
 
 /// Slots for the list, or too few or too many. Waiting turns on which slots of a party are the same, which are neighbours and how
 /// far apart the outermost are, and entries of any value hardly ever agree or are neighbours: half of the cases have others.
-fn slots_for(list: &List, random: &mut Random) -> Vec<u16> {
+pub fn slots_for(list: &List, random: &mut Random) -> Vec<u16> {
     let entries = near(list.count(), random);
     let among: Vec<u16> = match random.below(10) {
         // few, so that they come again and clash
@@ -398,6 +401,11 @@ mod tests {
         assert_eq!(kinds(&[4, 4, 9], 0), [0, 0, 0, 0, 1, 0, 0]);
         assert_eq!(kinds(&[8, 4, 6], 0), [0, 0, 1, 0, 0, 1, 0]);
         assert_eq!(kinds(&[4, 5, 9, 7], 0), [0, 0, 0, 0, 0, 0, 1]);
+    }
+
+    #[test]
+    fn a_short_run_finds_no_difference() {
+        assert_eq!(compare(50, 1), Ok(()));
     }
 
     #[test]

@@ -8,6 +8,7 @@ use crate::fence::{reads, writes, Lent, Place, Slice};
 use crate::format::write_list;
 use crate::list::{List, MOST_APPOINTMENTS, MOST_PARTIES, MOST_WORDS};
 use crate::lists::Lists;
+use crate::many;
 use crate::random::Random;
 use std::collections::BTreeMap;
 use std::ptr;
@@ -30,7 +31,7 @@ macro_rules! told {
     }};
 }
 
-const CALLS: [Call; 6] = [
+const CALLS: [Call; 7] = [
     Call {
         name: "bimtsure_plan",
         numbers: &[0, 1, 2, 3, 4, 5, 6, 7, 8, 9],
@@ -59,6 +60,24 @@ const CALLS: [Call; 6] = [
         slices: |of| vec![reads(&of.list.ends), reads(&of.slots)],
         answer: |of, s| {
             told!(c::bimtsure_waiting(of.p(), s[0].at(), s[0].entries(), s[1].at(), s[1].entries(), of.party))
+        },
+    },
+    Call {
+        name: "bimtsure_ask_many",
+        numbers: &[0, 1, 2, 3, 4, 5, 7, 13, 14, 15],
+        slices: |of| vec![reads(&of.list.ends), reads(&of.slots), reads(&of.parties), writes(&of.answers)],
+        answer: |of, s| {
+            told!(c::bimtsure_ask_many(
+                of.p(),
+                s[0].at(),
+                s[0].entries(),
+                s[1].at(),
+                s[1].entries(),
+                s[2].at(),
+                s[2].entries(),
+                s[3].at(),
+                s[3].entries()
+            ))
         },
     },
     Call {
@@ -111,6 +130,8 @@ struct Input {
     filed: Vec<u8>,
     read_list: Vec<u16>,
     read_slots: Vec<u16>,
+    parties: Vec<u16>,
+    answers: Vec<u16>,
     party: u16,
     from: usize,
 }
@@ -257,12 +278,15 @@ impl Inputs {
         let filed = case.bytes(random);
         let announced = filed.get(2..4).map_or(0, |two| usize::from(u16::from_le_bytes([two[0], two[1]])));
         let announced = announced.min(MOST_APPOINTMENTS + 1);
+        let parties = many::queries(&case.list, random);
         Input {
             scratch: self.words[first_word..][..words].to_vec(),
             output: noise(near(4 + 6 * case.list.count(), random), random),
             filed,
             read_list: noise(near(2 * announced, random), random),
             read_slots: noise(near(announced, random), random),
+            answers: noise(near(3 * parties.len(), random), random),
+            parties,
             party: case.party(random),
             from: if random.chance(8) { usize::MAX } else { random.below(case.list.count() + 2) },
             slots: case.slots,
@@ -286,10 +310,12 @@ struct Now<'a> {
 
 impl Now<'_> {
     fn text(&self) -> String {
-        let Input { list, slots, scratch, output, read_list, read_slots, party, from, .. } = self.input;
-        let lengths = [slots.len(), scratch.len(), output.len(), read_list.len(), read_slots.len()];
+        let Input { list, slots, scratch, output, read_list, read_slots, parties, answers, party, from, .. } =
+            self.input;
+        let buffers = [slots.len(), scratch.len(), output.len(), read_list.len(), read_slots.len()];
+        let asked = [parties.len(), answers.len()];
         format!(
-            "{} in round {} on {}\nslots, scratch, output, list and slots to be read into have {lengths:?} entries, party {party}, from {from}",
+            "{} in round {} on {}\nslots, scratch, output, list and slots to be read into have {buffers:?} entries, party {party}, from {from}\nparties asked for and the output for them have {asked:?} entries",
             self.call,
             self.round,
             write_list(list)

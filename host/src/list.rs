@@ -62,7 +62,7 @@ impl List {
     }
 
     /// The first position with a blank end, what 4 looks for.
-    fn first_blank(&self) -> Option<usize> {
+    pub fn first_blank(&self) -> Option<usize> {
         self.first_with(|end| end == BLANK)
     }
 

@@ -24,6 +24,7 @@ mod lists;
 mod main_changes;
 mod main_inputs;
 mod main_text;
+mod many;
 mod needs;
 mod pieces;
 mod plan;
@@ -85,8 +86,8 @@ bimtsure-host two-color COUNT SEED
 bimtsure-host split COUNT SEED
     compare our split with the Rust's `rbmg_split_into_two` on COUNT random regular graphs of even degree
 bimtsure-host desk COUNT SEED
-    compare our waiting, filed plan and viewer with desk.rs, in COUNT rounds of random and of damaged input; from 1000 rounds on,
-    fails if a call never gave one of its numbers, or a kind of question about waiting never came
+    compare our waiting, asking for many parties, filed plan and viewer with desk.rs, in COUNT rounds of random and of damaged
+    input; from 1000 rounds on, fails if a call never gave one of its numbers, or a kind of question never came
 bimtsure-host needs COUNT SEED
     compare how much scratch we say that a list needs with list.rs, on the lists that papers name and on COUNT random and
     damaged ones, and have each planned with that many words and with one less; fails if one of the numbers 0 to 6 never came, or
@@ -111,7 +112,8 @@ bimtsure-host pieces
     feed the program its input late, break it off, and let its writes fail: it must print the whole plan or a refusal; as `bytes`,
     after `rt check bimtsure`
 bimtsure-host bench
-    time our planning call beside the Rust on the same lists, the checks of a long list alone, and waiting
+    time our planning call beside the Rust on the same lists, the checks of a long list alone, waiting, and asking for many
+    parties in one call beside a call for each
 bimtsure-host stack
     measure how much stack each exported call and the program need; fails if one needs more than the headers in host/include and
     docs/PROVED.md promise; from the repository's root, after `rt check bimtsure`

@@ -5,6 +5,7 @@
 use crate::bimtsure;
 use crate::bimtsure_calendar::{self, LAST_DAY, LAST_SLOT};
 use crate::bytes::PROGRAM;
+use crate::desk::MOST_ASKED;
 use crate::known;
 use crate::list::{List, MOST_APPOINTMENTS, MOST_CELLS, MOST_PARTIES};
 use crate::lists::{even_handed_part, Lists};
@@ -22,6 +23,7 @@ const CALLS: &[(&str, usize, fn(&mut Lent))] = &[
     ("bimtsure_plan", 16, |l| done(bimtsure::plan(l.p, &l.list, &mut l.slots, &mut l.scratch))),
     ("bimtsure_needs", 8, |l| done(bimtsure::needs(l.p, &l.list))),
     ("bimtsure_waiting", 80, |l| done(bimtsure::waiting(l.p, &l.list, &l.slots, l.party))),
+    ("bimtsure_ask_many", 8, |l| done(bimtsure::ask_many(l.p, &l.list, &l.slots, &l.parties, &mut l.answers))),
     ("bimtsure_file_plan", 1, |l| done(bimtsure::file_plan(l.p, &l.list, &l.slots, &mut l.filed))),
     ("bimtsure_read_plan", 1, |l| done(bimtsure::read_plan(&l.filed, &mut l.list, &mut l.slots))),
     ("bimtsure_view", 1, |l| done(bimtsure::view(&l.list, &l.slots, l.party, 0))),
@@ -59,6 +61,8 @@ struct Lent {
     slots: Vec<u16>,
     scratch: Vec<u32>,
     filed: Vec<u8>,
+    parties: Vec<u16>,
+    answers: Vec<u16>,
     party: u16,
 }
 
@@ -173,7 +177,8 @@ fn star(parties: usize, degree: usize) -> List {
 }
 
 impl Lent {
-    /// Buffers for the list, so many entries shorter than they have to be. The filed plan is the list's with all slots 0.
+    /// Buffers for the list, so many entries shorter than they have to be. The filed plan is the list's with all slots 0. As many
+    /// parties as can be are asked for, from the last one down.
     fn new(list: &List, missing: usize) -> Lent {
         let p = list.parties as u16;
         let mut filed = vec![0; 4 + 6 * list.count()];
@@ -181,12 +186,15 @@ impl Lent {
         bimtsure::file_plan(p, &list.ends, &slots, &mut filed);
         let shorter = |entries: usize| entries.saturating_sub(missing);
         filed.truncate(shorter(filed.len()));
+        let parties = (0..MOST_ASKED).map(|at| list.parties.saturating_sub(1 + at) as u16).collect();
         Lent {
             p,
             list: list.ends.clone(),
             slots: vec![0; shorter(list.count())],
             scratch: vec![0; shorter(list.check().map_or(0, |_| list.scratch_words()))],
             filed,
+            parties,
+            answers: vec![0; shorter(3 * MOST_ASKED)],
             party: list.parties.saturating_sub(1) as u16,
         }
     }

@@ -43,8 +43,8 @@ const LIBRARIES: [Library; 2] = [
         ],
         calls: &["bimtsure_plan"],
         reads_slices: true,
-        constants: &["BLANK", "MOST_PARTIES", "MOST_APPOINTMENTS", "MOST_CELLS", "SCRATCH_WORDS"],
-        numbers: ("bimtsure_number", 0..=13),
+        constants: &["BLANK", "MOST_PARTIES", "MOST_APPOINTMENTS", "MOST_CELLS", "SCRATCH_WORDS", "MOST_ASKED"],
+        numbers: ("bimtsure_number", 0..=15),
     },
     Library {
         file: "target/staticlib/libbimtsure_calendar.so",

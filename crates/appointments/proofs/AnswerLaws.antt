@@ -1,13 +1,14 @@
--- What an answer tells of its checks, what a lent buffer holds after acceptance, and an answer of one figure from the enum by which
--- code tells it to its numbers. Assumes nothing.
+-- What an answer tells of its checks, what a lent buffer holds after acceptance, and an answer of one figure or none from the enum by
+-- which code tells it to its numbers. Assumes nothing.
 use Prim.Native.Nat.{ℕ}
 use mathlib.Core.Path.{_≡_, refl}
 use mathlib.Core.List.{List, _++_}
 use native.Mathlib.Omega.{arith}
 use lib.ListN.{length, drop}
 use Rattle.appointments.specs.Checks.{Check}
-use Rattle.appointments.specs.Answers.{Answer, accepted, refused, answer, number-of, place-of, figure-of, after, answered-of}
+use Rattle.appointments.specs.Answers.{Answer, accepted, refused, answer, number-of, place-of, figure-of, after, answered-of, checked-of}
 use Rattle.appointments.specs.declared.Answered.the-variants as answered
+use Rattle.appointments.specs.declared.Checked.the-variants as checked
 
 module _ {F : Type 0} where
   -- no answer accepts and refuses; figures, number and place are those of the answer
@@ -57,3 +58,19 @@ accepted-says a n e = rw e (refl, (refl, refl))
 
 pub refused-says : (a : Answer ℕ) (n i : ℕ) → a ≡ refused n i → (n ≡ number-of a) × ((i ≡ place-of a) × (0 ≡ figure-of a))
 refused-says a n i e = rw e (refl, (refl, refl))
+
+-- ── an answer without a figure ──
+
+pub no-figure : (a : Answer Unit) → checked-of a ≡ checked.Passed → a ≡ accepted tt
+no-figure (accepted u) e = refl
+no-figure (refused k i) e = cc
+
+pub no-figure-refusal : (a : Answer Unit) (n i : ℕ) → checked-of a ≡ checked.Refused n i → a ≡ refused n i
+no-figure-refusal (accepted u) n i e = cc
+no-figure-refusal (refused k j) n i e = cc
+
+pub passed-says : (a : Answer Unit) → a ≡ accepted tt → (0 ≡ number-of a) × (0 ≡ place-of a)
+passed-says a e = rw e (refl, refl)
+
+pub barred-says : (a : Answer Unit) (n i : ℕ) → a ≡ refused n i → (n ≡ number-of a) × (i ≡ place-of a)
+barred-says a n i e = rw e (refl, refl)

@@ -6,6 +6,8 @@ use lib.ListN.{length, drop}
 use Rattle.appointments.specs.Checks.{Check}
 use Rattle.appointments.specs.declared.Answered.{Answered}
 use Rattle.appointments.specs.declared.Answered.the-variants.{Accepted, Refused}
+use Rattle.appointments.specs.declared.Checked.{Checked}
+use Rattle.appointments.specs.declared.Checked.the-variants as checked
 
 -- F is what the call tells: one figure, or a record of several.
 pub data Answer (F : Type 0) : Type 0 where
@@ -54,3 +56,8 @@ after (refused number place) new buffer = buffer
 abbrev pub answered-of : Answer ℕ → Answered
 answered-of (accepted n) = Accepted n
 answered-of (refused number place) = Refused number place
+
+-- The enum by which the code tells an answer without a figure.
+abbrev pub checked-of : Answer Unit → Checked
+checked-of (accepted u) = checked.Passed
+checked-of (refused number place) = checked.Refused number place

@@ -17,16 +17,16 @@ pub data First : Type 0 where
   at : ℕ → First
   nowhere : First
 
--- The first position, counted from i, whose appointment passes the test.
-unfoldable pub first-from : ℕ → (Appt → Bool) → List Appt → First
+-- The first position, counted from i, at which something passes the test: an appointment of a list, or a number.
+unfoldable pub first-from : {A : Type 0} → ℕ → (A → Bool) → List A → First
 first-from i test [] = nowhere
 first-from i test (x ∷ xs) = let later = first-from (i + 1) test xs in pick (test x) (at i) later
 
--- Position i is the first whose appointment passes the test.
-pub record First-at (test : Appt → Bool) (xs : List Appt) (i : ℕ) : Type 0 where
+-- Position i is the first at which something passes the test.
+pub record First-at {A : Type 0} (test : A → Bool) (xs : List A) (i : ℕ) : Type 0 where
   pub inside : i < length xs
-  pub holds : (d : Appt) → test (getD xs i d) ≡ true
-  pub before : (j : ℕ) (d : Appt) → j < i → test (getD xs j d) ≡ false
+  pub holds : (d : A) → test (getD xs i d) ≡ true
+  pub before : (j : ℕ) (d : A) → j < i → test (getD xs j d) ≡ false
 
 -- check 4: an end is blank
 abbrev pub has-blank : Appt → Bool
@@ -85,6 +85,10 @@ checks-1-to-5 P list next =
     (check-even list
     (check-count (length (appts list))
     (check-ends P list next)))
+
+-- Checks 1 to 5, then 7: those of a list with its slots, where nothing is planned.
+unfoldable pub checks-with-slots : ℕ → List ℕ → ℕ → Check → Check
+checks-with-slots P list slots next = checks-1-to-5 P list (check-slots slots (length (appts list)) next)
 
 -- Checks 1 to 6, those before any buffer is looked at. 6: D×P above 8,192
 unfoldable pub checks-1-to-6 : ℕ → List ℕ → Check → Check

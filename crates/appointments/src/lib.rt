@@ -1,10 +1,15 @@
 // Document 01's terms and checks as definitions and laws, and the enums by which code tells an answer. The code of the checks stands
 // in the crate `checking`.
 
-// What a call says: accepted, with its one figure, or refused with document 01's number and place. The figure of
-// checks is D (of 4 and 5 alone 0).
+// What a call says: accepted, with its one figure, or refused with document 01's number and place.
 pub enum Answered {
     Accepted(usize),
+    Refused(usize, usize),
+}
+
+// What a call without a figure says: its checks passed, or refused with document 01's number and place.
+pub enum Checked {
+    Passed,
     Refused(usize, usize),
 }
 

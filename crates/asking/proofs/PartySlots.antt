@@ -7,7 +7,7 @@ use mathlib.Core.List.{List, [], _∷_, _++_, append-nil}
 use native.Mathlib.Omega.{arith}
 use native.Mathlib.Numerals.{add-one}
 use native.Mathlib.Decide.{ℕ-discrete}
-use borrow.Author.Tests.{ltb-true}
+use borrow.Author.Tests.{ltb-true, ltb-false}
 use lib.ListN.{length, take, getD}
 use Rattle.words.specs.Basics.{pick, total, count, All}
 use Rattle.words.specs.Words.{word}
@@ -38,8 +38,9 @@ module _ (party : ℕ) (list slots : List ℕ) (i : ℕ) (h : i < length list / 
   abbrev with-this : List ℕ
   with-this = slots-of party (take (i + 1) (appts list)) slots
 
-  by-name : with-this ≡ so-far ++ pick (named-at party list i) (word slots i ∷ []) []
-  by-name =
+  -- its slot comes last, if it names the party:
+  pub slots-more : with-this ≡ so-far ++ pick (named-at party list i) (word slots i ∷ []) []
+  slots-more =
       let d : Appt = appt 0 0 in
       ap (λ (n : ℕ). slots-of party (take n (appts list)) slots) (add-one i)
       ∙ more party (appts list) slots i d (omega (arith, appts-count list)) k
@@ -47,11 +48,11 @@ module _ (party : ℕ) (list slots : List ℕ) (i : ℕ) (h : i < length list / 
 
   -- one that names the party gives its slot,
   pub slots-named : true ≡ named-at party list i → with-this ≡ so-far ++ (word slots i ∷ [])
-  slots-named e = by-name ∙ ap (λ (b : Bool). so-far ++ pick b (word slots i ∷ []) []) (sym e)
+  slots-named e = slots-more ∙ ap (λ (b : Bool). so-far ++ pick b (word slots i ∷ []) []) (sym e)
 
   -- any other none
   pub slots-other : false ≡ named-at party list i → with-this ≡ so-far
-  slots-other e = by-name ∙ ap (λ (b : Bool). so-far ++ pick b (word slots i ∷ []) []) (sym e) ∙ append-nil so-far
+  slots-other e = slots-more ∙ ap (λ (b : Bool). so-far ++ pick b (word slots i ∷ []) []) (sym e) ∙ append-nil so-far
 
 -- of no appointments there are none
 pub slots-none : (party : ℕ) (xs : List Appt) (slots : List ℕ) → slots-of party (take 0 xs) slots ≡ []
@@ -82,6 +83,17 @@ slots-load party (x ∷ xs) (s ∷ slots) = go (named party x) refl (slots-load 
         → length (pick b (s ∷ slots-of party xs slots) (slots-of party xs slots)) ≤ names party x + total (names party) xs
     go true e rest = omega (arith, ltb-true 0 (names party x) e)
     go false e rest = omega arith
+
+-- a party that the list names has a slot, if each appointment has one
+pub slots-some : (party : ℕ) (xs : List Appt) (slots : List ℕ) → length xs ≤ length slots → 0 < load party xs → 0 < length (slots-of party xs slots)
+unfolding slots-of load total
+slots-some party [] slots h k = k
+slots-some party (x ∷ xs) [] h k = absurd (omega arith)
+slots-some party (x ∷ xs) (s ∷ slots) h k = go (named party x) refl (slots-some party xs slots (omega arith))
+  where
+    go : (b : Bool) → named party x ≡ b → (0 < total (names party) xs → 0 < length (slots-of party xs slots)) → 0 < length (pick b (s ∷ slots-of party xs slots) (slots-of party xs slots))
+    go true e rest = omega arith
+    go false e rest = rest (omega (arith, ltb-false 0 (names party x) e))
 
 -- not more than the appointments
 pub slots-count : (party : ℕ) (xs : List Appt) (slots : List ℕ) → length (slots-of party xs slots) ≤ length xs

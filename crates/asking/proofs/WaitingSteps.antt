@@ -1,58 +1,46 @@
--- The waiting call case by case: a refusal of the list stays, then too few slot entries, a party that is not below P, and the figure.
+-- The waiting call case by case: a refusal of the list or its slots stays, then a party that is not below P, and the figure.
 -- Assumes nothing.
-use Prim.Native.Nat.{ℕ, _/_, _≤_, _<_}
+use Prim.Native.Nat.{ℕ, _≤_, _<_}
 use mathlib.Core.Path.{_≡_}
 use mathlib.Core.List.{List}
-use native.Mathlib.Omega.{arith}
-use borrow.Author.Tests.{lt-ltb, le-ltb, le-leb, lt-leb}
+use borrow.Author.Tests.{le-leb, lt-leb}
+use lib.Dec.{leb}
 use lib.ListN.{length}
-use Rattle.appointments.specs.Appointments.{appts, largest-load}
-use Rattle.appointments.specs.Checks.{Check, passed, checks-1-to-5}
+use Rattle.appointments.specs.Appointments.{appts}
+use Rattle.appointments.specs.Checks.{Check, passed, refused, bar, checks-with-slots}
 use Rattle.appointments.specs.Answers.{answered-of}
-use Rattle.appointments.specs.declared.Answered.{Answered}
 use Rattle.appointments.specs.declared.Answered.the-variants as answered
-use Rattle.appointments.proofs.Flat.{appts-count}
-use Rattle.appointments.proofs.ChecksLaws.{good-goes-on, passed-good}
-use Rattle.checking.specs.Checked.{checked}
-use Rattle.checking.proofs.Answering.{checked-passed, checked-number, refused-first}
-use Rattle.asking.specs.Waiting.{waiting, check-asked, waiting-checks, waiting-answer, Waiting-fits}
-
--- of a refusal no figure has to fit
-pub refused-fits : (told : Answered) (n i : ℕ) → told ≡ answered.Refused n i → Waiting-fits told
-refused-fits told n i e = rw e tt
+use Rattle.appointments.specs.declared.Checked.the-variants as checked
+use Rattle.checking.specs.Checked.{told}
+use Rattle.checking.proofs.Answering.{told-passed, told-number, refused-with-slots, slotted-goes-on, passed-slotted}
+use Rattle.asking.specs.Waiting.{waiting, waiting-checks, waiting-answer}
 
 module _ (P : ℕ) (list slots : List ℕ) (party : ℕ) where
-  -- what the checks of the list came to, as the code has it
-  abbrev came : Answered
-  came = checked (checks-1-to-5 P list passed) (largest-load P (appts list))
+  -- what the checks of the list and its slots came to
+  abbrev with-slots : Check
+  with-slots = checks-with-slots P list (length slots) passed
 
-  abbrev after-the-list : Check
-  after-the-list = check-asked P list (length slots) party
+  -- that of the party
+  abbrev of-the-party : Check
+  of-the-party = bar (leb P party) 5 passed
 
-  pub asked-refused : (n i : ℕ) → came ≡ answered.Refused n i → answered.Refused n i ≡ answered-of (waiting-answer P list slots party)
+  stays : (n i : ℕ) → told with-slots ≡ checked.Refused n i → waiting-checks P list (length slots) party ≡ refused n i
+  unfolding waiting-checks
+  stays n i e = refused-with-slots P list (length slots) of-the-party n i (told-number with-slots n i e)
+
+  pub asked-refused : (n i : ℕ) → told with-slots ≡ checked.Refused n i → answered.Refused n i ≡ answered-of (waiting-answer P list slots party)
   unfolding waiting-answer
-  asked-refused n i e =
-      let h = checked-number (checks-1-to-5 P list passed) (largest-load P (appts list)) n i e in
-      rw (refused-first P list after-the-list n i h)
+  asked-refused n i e = rw (stays n i e)
 
-  module _ (d : ℕ) (e : came ≡ answered.Accepted d) where
-    goes-on : waiting-checks P list (length slots) party ≡ after-the-list
+  module _ (e : told with-slots ≡ checked.Passed) where
+    goes-on : waiting-checks P list (length slots) party ≡ of-the-party
     unfolding waiting-checks
-    goes-on =
-        good-goes-on P list after-the-list
-        (passed-good P list passed (checked-passed (checks-1-to-5 P list passed) (largest-load P (appts list)) d e) .0)
+    goes-on = slotted-goes-on P list (length slots) of-the-party (passed-slotted P list (length slots) passed (told-passed with-slots e) .0)
 
-    pub asked-7 : length slots < length list / 2 → answered.Refused 7 0 ≡ answered-of (waiting-answer P list slots party)
+    pub asked-5 : P ≤ party → answered.Refused 5 0 ≡ answered-of (waiting-answer P list slots party)
     unfolding waiting-answer
-    asked-7 h = rw (goes-on, lt-ltb (length slots) (length (appts list)) (omega (arith, appts-count list)))
+    asked-5 h = rw (goes-on, le-leb P party h)
 
-    pub asked-5 : length list / 2 ≤ length slots → P ≤ party → answered.Refused 5 0 ≡ answered-of (waiting-answer P list slots party)
+    pub asked-waits : (n : ℕ) → party < P → n ≡ waiting (appts list) slots party → answered.Accepted n ≡ answered-of (waiting-answer P list slots party)
     unfolding waiting-answer
-    asked-5 h k = rw (goes-on, le-ltb (length slots) (length (appts list)) (omega (arith, appts-count list)), le-leb P party k)
-
-    pub asked-waits :
-        (n : ℕ) → length list / 2 ≤ length slots → party < P → n ≡ waiting (appts list) slots party →
-        answered.Accepted n ≡ answered-of (waiting-answer P list slots party)
-    unfolding waiting-answer
-    asked-waits n h k q =
-        rw (q, goes-on, le-ltb (length slots) (length (appts list)) (omega (arith, appts-count list)), lt-leb P party k)
+    asked-waits n h q = rw (q, goes-on, lt-leb P party h)

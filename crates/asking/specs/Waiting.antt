@@ -8,7 +8,7 @@ use lib.ListN.{length, take}
 use Rattle.words.specs.Basics.{is, count, All, sum-below}
 use Rattle.appointments.specs.Appointments.{Appt, appts, load}
 use Rattle.appointments.specs.Plans.{different}
-use Rattle.appointments.specs.Checks.{Check, passed, bar, check-slots, checks-1-to-5}
+use Rattle.appointments.specs.Checks.{Check, passed, bar, checks-with-slots}
 use Rattle.appointments.specs.Answers.{Answer, answer}
 use Rattle.appointments.specs.declared.Answered.{Answered}
 use Rattle.appointments.specs.declared.Answered.the-variants.{Accepted, Refused}
@@ -26,17 +26,9 @@ waiting xs slots party =
     let mine : List ℕ = slots-of party xs slots in
     free-between (lowest mine) (highest mine) mine
 
--- what is asked once the list has passed checks 1 to 5: 7, then 5 with place 0 if the party inquired about is not below P. Of the slot
--- buffer its length is asked.
-abbrev pub check-asked : ℕ → List ℕ → ℕ → ℕ → Check
-check-asked P list slots party =
-    check-slots slots (length (appts list))
-    (bar (leb P party) 5
-    passed)
-
--- Checks 1 to 5, then these.
+-- Checks 1 to 5 and 7, then 5 with place 0 if the party inquired about is not below P. Of the slot buffer its length is asked.
 unfoldable pub waiting-checks : ℕ → List ℕ → ℕ → ℕ → Check
-waiting-checks P list slots party = checks-1-to-5 P list (check-asked P list slots party)
+waiting-checks P list slots party = checks-with-slots P list slots (bar (leb P party) 5 passed)
 
 unfoldable pub waiting-answer : ℕ → List ℕ → List ℕ → ℕ → Answer ℕ
 unfolding waiting-checks waiting

@@ -2,6 +2,7 @@
 // its appointments. One walk of the list flags the party's slots and counts the different ones; the numbers from the lowest to
 // the highest less these are the waiting (the law `whole` in specs/Waiting.antt).
 use appointments::Answered;
+use appointments::Checked;
 ghost use mathlib.Core.Path.{_≡_};
 ghost use Prim.Native.Nat.{_+_, _*_, _/_, _^_, _<_, _≤_, min, max};
 ghost use lib.ListN.{length, replicate, set, take};
@@ -21,7 +22,7 @@ struct OwnSlots {
 }
 
 // The smaller of two slots.
-fn smaller(a: u16, b: u16) -> u16
+pub fn smaller(a: u16, b: u16) -> u16
     ensures { λ r. ⌜ r ≡ min a b ⌝ }
 {
     if b < a {
@@ -31,7 +32,7 @@ fn smaller(a: u16, b: u16) -> u16
 }
 
 // The larger of two slots.
-fn larger(a: u16, b: u16) -> u16
+pub fn larger(a: u16, b: u16) -> u16
     ensures { λ r. ⌜ r ≡ max a b ⌝ }
 {
     if a < b {
@@ -141,12 +142,9 @@ pub fn waiting(p: u16, list: &[u16], slots: &[u16], party: u16) -> Answered
     ensures answer { λ r. ⌜ r ≡ answered-of (waiting-answer p (now (list .entry)) (now (slots .entry)) party) ⌝ }
     ensures fits { λ r. ⌜ Waiting-fits r ⌝ }
 {
-    let listed = checking::check_list(p as usize, list);
-    let Answered::Accepted(_) = listed else {
-        return listed;
-    };
-    if slots.len() < list.len() / 2 {
-        return Answered::Refused(7, 0);
+    let listed = checking::check_with_slots(p as usize, list, slots.len());
+    if let Checked::Refused(number, place) = listed {
+        return Answered::Refused(number, place);
     }
     if p <= party {
         return Answered::Refused(5, 0);

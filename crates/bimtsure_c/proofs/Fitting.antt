@@ -7,8 +7,8 @@ use native.Mathlib.Omega.{arith}
 use borrow.Author.Tests.{ltb-false}
 use lib.Dec.{eqb, ltb, leb}
 use lib.ListN.{length}
-use Rattle.appointments.specs.Appointments.{Appt, appts}
-use Rattle.appointments.specs.Checks.{at, Check, first-from, has-blank, has-unlisted, bar, checks-1-to-5}
+use Rattle.appointments.specs.Appointments.{appts}
+use Rattle.appointments.specs.Checks.{at, Check, first-from, has-blank, has-unlisted, bar, checks-1-to-5, checks-with-slots}
 use Rattle.appointments.specs.Needed.{needing, needs-answer}
 use Rattle.checking.proofs.Answering.{needs-small, needs-refusal-small}
 use Rattle.appointments.proofs.AnswerLaws.{refused-checked}
@@ -17,7 +17,8 @@ use Rattle.appointments.proofs.FirstFrom.{found-is-first}
 use Rattle.appointments.specs.Answers.{accepted, refused}
 use Rattle.appointments.specs.declared.Answered.{Answered}
 use Rattle.appointments.specs.declared.Answered.the-variants as answered
-use Rattle.asking.specs.Waiting.{waiting, check-asked, waiting-checks, waiting-answer, Waiting-fits}
+use Rattle.asking.specs.Waiting.{waiting, waiting-checks, waiting-answer, Waiting-fits}
+use Rattle.asking_many.specs.Many.{many-checks, many-answer}
 use Rattle.filing.specs.Filed.{filed-length, writing-checks, writing-answer, header-of, header, reading-checks, reading-answer}
 use Rattle.viewing.specs.Viewer.{viewer-checks, viewer-answer}
 use Rattle.filing.proofs.FiledLaws.{accepted-writable, accepted-readable}
@@ -31,7 +32,7 @@ bar-fits : (t : Bool) (k : ℕ) (next : Check) (n i : ℕ) → k < 4294967296 �
 bar-fits t k next n i h later = bar-cause Both-fit t k next n i (λ q. (h, omega arith)) (λ q. later)
 
 -- the first position of a short list
-first-fits : (test : Appt → Bool) (xs : List Appt) (j : ℕ) → length xs ≤ 4096 → first-from 0 test xs ≡ at j → j < 4294967296
+first-fits : {A : Type 0} (test : A → Bool) (xs : List A) (j : ℕ) → length xs ≤ 4096 → first-from 0 test xs ≡ at j → j < 4294967296
 first-fits test xs j h e = omega (arith, found-is-first test xs j e .inside)
 
 -- ── how much scratch a list needs ──
@@ -49,7 +50,9 @@ module _ (P : ℕ) (list : List ℕ) where
 pub waiting-fits : (told : Answered) (n : ℕ) → told ≡ answered.Accepted n → Waiting-fits told → n < 4294967296
 waiting-fits told n e h = let fits : n ≤ 65534 = rw e at h in omega arith
 
-module _ (P : ℕ) (list slots : List ℕ) (party : ℕ) where
+-- ── checks 1 to 5 and 7, then others: waiting, and asking for many parties ──
+
+module _ (P : ℕ) (list slots : List ℕ) where
   checks-fit : (next : Check) (n i : ℕ) → (next ≡ Check.refused n i → Both-fit n i) → checks-1-to-5 P list next ≡ Check.refused n i → Both-fit n i
   unfolding checks-1-to-5
   checks-fit next n i later =
@@ -61,13 +64,26 @@ module _ (P : ℕ) (list slots : List ℕ) (party : ℕ) where
       bar-at-cause Both-fit (first-from 0 (has-unlisted P) (appts list)) 5 _ n i (λ j q. (omega arith, first-fits (has-unlisted P) (appts list) j few q)) λ q.
       later))
 
-  pub waiting-refusal-fits : (n i : ℕ) → waiting-answer P list slots party ≡ refused n i → Both-fit n i
-  unfolding waiting-answer
-  waiting-refusal-fits n i e =
-      checks-fit (check-asked P list (length slots) party) n i
-      (bar-fits (ltb (length slots) (length (appts list))) 7 _ n i (omega arith)
-      (bar-fits (leb P party) 5 Check.passed n i (omega arith) (never-refused n i)))
+  with-slots-fit : (next : Check) (n i : ℕ) → (next ≡ Check.refused n i → Both-fit n i) → checks-with-slots P list (length slots) next ≡ Check.refused n i → Both-fit n i
+  unfolding checks-with-slots
+  with-slots-fit next n i later = checks-fit _ n i (bar-fits (ltb (length slots) (length (appts list))) 7 next n i (omega arith) later)
+
+  pub waiting-refusal-fits : (party n i : ℕ) → waiting-answer P list slots party ≡ refused n i → Both-fit n i
+  unfolding waiting-answer waiting-checks
+  waiting-refusal-fits party n i e =
+      with-slots-fit _ n i
+      (bar-fits (leb P party) 5 Check.passed n i (omega arith) (never-refused n i))
       (refused-checked (waiting-checks P list (length slots) party) (waiting (appts list) slots party) n i e)
+
+  pub many-refusal-fits : (queries output : List ℕ) (n i : ℕ) → many-answer P list slots queries output ≡ refused n i → Both-fit n i
+  unfolding many-answer many-checks
+  many-refusal-fits queries output n i e =
+      with-slots-fit _ n i
+      (bar-cause Both-fit (ltb 64 (length queries)) 14 _ n i (λ q. (omega arith, omega arith)) λ t.
+      let few : length queries ≤ 64 = ltb-false 64 (length queries) t in
+      bar-at-cause Both-fit (first-from 0 (leb P) queries) 15 _ n i (λ j q. (omega arith, first-fits (leb P) queries j (omega arith) q)) λ q.
+      bar-fits (ltb (length output) (3 * length queries)) 13 Check.passed n i (omega arith) (never-refused n i))
+      (refused-checked (many-checks P list (length slots) queries (length output)) tt n i e)
 
 -- ── the filed plan ──
 

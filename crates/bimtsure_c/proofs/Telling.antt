@@ -1,4 +1,4 @@
--- From the enum that a call of several figures tells to the definitions' answer, and from that to its numbers. (Of one figure:
+-- From the enum that a call of several figures tells to the definitions' answer, and from that to its numbers. (Of one figure or none:
 -- `AnswerLaws` of `appointments`.) Assumes nothing.
 use Prim.Native.Nat.{ℕ}
 use mathlib.Core.Path.{_≡_, refl}
@@ -8,9 +8,8 @@ use Rattle.appointments.specs.Answers.{Answer, accepted, refused, number-of, pl
 use Rattle.filing.specs.Filed.{Header, header-of, parties-of, appointments-of}
 use Rattle.viewing.specs.Viewer.{Step, found, end}
 use Rattle.filing.specs.Told.{read-of}
-use Rattle.viewing.specs.Told.{opened-of, shown-of}
+use Rattle.viewing.specs.Told.{shown-of}
 use Rattle.filing.specs.declared.Read.the-variants as read
-use Rattle.viewing.specs.declared.Opened.the-variants as opened
 use Rattle.viewing.specs.declared.Shown.{Shown}
 use Rattle.bimtsure_c.specs.Viewed.{if-open, found-of, position-of, slot-of, shown-found, shown-position, shown-slot, shown-next}
 
@@ -37,14 +36,6 @@ read-plan (refused k i) P A e = cc
 pub read-refused : (a : Answer Header) (n i : ℕ) → read-of a ≡ read.Refused n i → a ≡ refused n i
 read-refused (accepted h) n i e = cc
 read-refused (refused k j) n i e = cc
-
-pub opened-open : (a : Answer Unit) → opened-of a ≡ opened.Open → a ≡ accepted tt
-opened-open (accepted u) e = refl
-opened-open (refused k i) e = cc
-
-pub opened-refused : (a : Answer Unit) (n i : ℕ) → opened-of a ≡ opened.Refused n i → a ≡ refused n i
-opened-refused (accepted u) n i e = cc
-opened-refused (refused k j) n i e = cc
 
 -- ── its numbers ──
 

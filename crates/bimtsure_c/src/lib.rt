@@ -9,14 +9,15 @@ ghost use Rattle.bimtsure_c.specs.Planned.{«answer-by»};
 ghost use Rattle.appointments.specs.Answers.{«number-of», «place-of», «figure-of»};
 ghost use Rattle.appointments.specs.Lent.{lent};
 ghost use Rattle.asking.specs.Waiting.{«waiting-answer»};
+ghost use Rattle.asking_many.specs.Many.{«many-answer», «many-output»};
 ghost use Rattle.filing.specs.Filed.{«writing-answer», «writing-output», «reading-answer», «reading-list», «reading-slots», «parties-of», «appointments-of»};
 ghost use Rattle.viewing.specs.Viewer.{«viewer-answer», «view-step», «view-next»};
 ghost use Rattle.bimtsure_c.specs.Viewed.{«if-open», «found-of», «position-of», «slot-of», «shown-found», «shown-position», «shown-slot», «shown-next»};
 use appointments::Answered;
+use appointments::Checked;
 use appointments::Needed;
 use filing::Read;
 use planning::Answer;
-use viewing::Opened;
 use viewing::Shown;
 
 // Number, place, and D.
@@ -42,6 +43,13 @@ pub struct BimtsureWaiting {
     pub number: u32,
     pub place: u32,
     pub waiting: u32,
+}
+
+// Number and place: asking for many parties has no figure, its answers stand in the output.
+#[repr(C)]
+pub struct BimtsureMany {
+    pub number: u32,
+    pub place: u32,
 }
 
 // Number, place, and how many bytes were written.
@@ -155,6 +163,32 @@ pub extern "C" fn bimtsure_waiting(
     }
 }
 
+// Load, lowest slot and highest slot of each party asked for.
+#[no_mangle]
+pub extern "C" fn bimtsure_ask_many(
+    p: u16,
+    list: &[u16],
+    slots: &[u16],
+    parties: &[u16],
+    output: &mut [u16],
+) -> BimtsureMany
+    ensures number { λ r. ⌜ r .number ≡ number-of (many-answer p (now (list .entry)) (now (slots .entry)) (now (parties .entry)) (now (output .entry))) ⌝ }
+    ensures place { λ r. ⌜ r .place ≡ place-of (many-answer p (now (list .entry)) (now (slots .entry)) (now (parties .entry)) (now (output .entry))) ⌝ }
+    ensures output { λ r. ⌜ now (output .exit) ≡ many-output p (now (list .entry)) (now (slots .entry)) (now (parties .entry)) (now (output .entry)) ⌝ }
+{
+    let asked = asking_many::ask_many(p, list, slots, parties, output);
+    match asked {
+        Checked::Passed => BimtsureMany {
+            number: 0,
+            place: 0,
+        },
+        Checked::Refused(number, place) => BimtsureMany {
+            number: number as u32,
+            place: place as u32,
+        },
+    }
+}
+
 // Writing a filed plan.
 #[no_mangle]
 pub extern "C" fn bimtsure_file_plan(
@@ -255,7 +289,7 @@ pub extern "C" fn bimtsure_view<'a>(
 {
     let opened = viewing::open_viewer(list, slots);
     match opened {
-        Opened::Refused(number, place) => BimtsureView {
+        Checked::Refused(number, place) => BimtsureView {
             number: number as u32,
             place: place as u32,
             found: 0,
@@ -263,7 +297,7 @@ pub extern "C" fn bimtsure_view<'a>(
             slot: 0,
             next: 0,
         },
-        Opened::Open => {
+        Checked::Passed => {
             let shown = viewing::view_step(party, list, slots, from);
             seen(shown)
         }

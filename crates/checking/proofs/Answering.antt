@@ -6,22 +6,24 @@ use mathlib.Core.List.{List}
 use native.Mathlib.Omega.{arith}
 use native.Mathlib.Numerals.{add-one}
 use native.Mathlib.Nat.{le-trans, mul-le-mul-left}
-use borrow.Author.Tests.{eq-eqb, ne-eqb, lt-ltb, le-ltb}
+use borrow.Author.Tests.{eq-eqb, ne-eqb, lt-ltb, le-ltb, ltb-false}
 use lib.Dec.{eqb, ltb}
 use lib.ListN.{length}
 use Rattle.words.specs.Words.{word}
 use Rattle.words.proofs.Sums.{count-le}
 use Rattle.appointments.specs.Appointments.{Appt, appts, load, largest-load, scratch-words}
-use Rattle.appointments.specs.Checks.{First, at, nowhere, first-from, has-blank, has-unlisted, Check, passed, refused, bar, bar-at, check-slots, checks-1-to-5, checks-1-to-6, checks-1-to-8, checks, check-ends}
+use Rattle.appointments.specs.Checks.{First, at, nowhere, first-from, has-blank, has-unlisted, Check, passed, refused, bar, bar-at, check-slots, checks-1-to-5, checks-with-slots, checks-1-to-6, checks-1-to-8, checks, check-ends}
 use Rattle.appointments.specs.Answers.{accepted}
 use Rattle.appointments.specs.Answers as answers
 use Rattle.appointments.specs.Needed.{needing, needs-answer, needed-of, scratch-enough}
-use Rattle.checking.specs.Checked.{checked, largest-word, Words-fit}
+use Rattle.checking.specs.Checked.{told, checked, largest-word, Words-fit}
 use Rattle.appointments.specs.declared.Answered.{Answered}
 use Rattle.appointments.specs.declared.Answered.the-variants.{Accepted, Refused}
+use Rattle.appointments.specs.declared.Checked.{Checked}
+use Rattle.appointments.specs.declared.Checked.the-variants as Checked
 use Rattle.appointments.specs.declared.Needed.the-variants as needs
 use Rattle.appointments.proofs.Loads.{largest-load-le, appts-length}
-use Rattle.appointments.proofs.ChecksLaws.{good-goes-on, sized-goes-on, passed-good, passed-sized}
+use Rattle.appointments.proofs.ChecksLaws.{Good-list, bar-passed, good-goes-on, sized-goes-on, passed-good, passed-sized}
 use Rattle.appointments.proofs.Causes.{never-refused, refused-cause, cause-number}
 use Rattle.appointments.proofs.Enough.{words-enough, enough, needed-words}
 use Rattle.appointments.proofs.AnswerLaws.{refused-checked}
@@ -67,11 +69,16 @@ module _ (P : ℕ) (list : List ℕ) where
         le-ltb 4096 (length (appts list)) (omega (arith, appts-count list)),
       )
 
--- a refusal stays, whatever D
-pub checked-refused : (c : Check) (d e n i : ℕ) → checked c d ≡ Refused n i → checked c e ≡ Refused n i
-checked-refused passed d e n i h = cc
-checked-refused (refused m j) d e n i h = h
+-- what was told is what the checks came to, without a figure
+pub told-passed : (c : Check) → told c ≡ Checked.Passed → c ≡ passed
+told-passed passed h = refl
+told-passed (refused m j) h = cc
 
+pub told-number : (c : Check) (n i : ℕ) → told c ≡ Checked.Refused n i → c ≡ refused n i
+told-number passed n i h = cc
+told-number (refused m j) n i h = cc
+
+-- and with D
 pub checked-passed : (c : Check) (d e : ℕ) → checked c d ≡ Accepted e → c ≡ passed
 checked-passed passed d e h = refl
 checked-passed (refused m j) d e h = cc
@@ -107,6 +114,49 @@ refused-first P list next n i h =
 bar-first : (t : Bool) (k : ℕ) (next : Check) (n i : ℕ) → bar t k passed ≡ refused n i → bar t k next ≡ refused n i
 bar-first true k next n i h = h
 bar-first false k next n i h = never-refused n i h
+
+-- The same of checks 1 to 5 with 7: what they refuse stays refused, and what they pass goes on.
+module _ (P : ℕ) (list : List ℕ) (slots : ℕ) where
+  pub refused-with-slots :
+      (next : Check) (n i : ℕ) → checks-with-slots P list slots passed ≡ refused n i → checks-with-slots P list slots next ≡ refused n i
+  unfolding checks-with-slots checks-1-to-5
+  refused-with-slots next n i h =
+      let t = ltb slots (length (appts list)) in
+      five-bars (ltb 1024 P) (eqb (length list % 2) 1) (ltb 4096 (length (appts list)))
+      (first-from 0 has-blank (appts list)) (first-from 0 (has-unlisted P) (appts list))
+      (bar t 7 passed) (bar t 7 next) n i (bar-first t 7 next n i) h
+
+  -- a good list, and a slot entry for each appointment
+  abbrev pub Slotted : Type 0
+  Slotted = Good-list P list × (length (appts list) ≤ slots)
+
+  pub slotted-goes-on : (next : Check) → Slotted → checks-with-slots P list slots next ≡ next
+  unfolding checks-with-slots
+  slotted-goes-on next g =
+      good-goes-on P list (check-slots slots (length (appts list)) next) (g .0) ∙ rw (le-ltb slots (length (appts list)) (g .1))
+
+  pub passed-slotted : (next : Check) → checks-with-slots P list slots next ≡ passed → Slotted × (next ≡ passed)
+  unfolding checks-with-slots
+  passed-slotted next h =
+      let c₅ = passed-good P list _ h in
+      let c₇ = bar-passed (ltb slots (length (appts list))) 7 next (c₅ .1) in
+      ((c₅ .0, ltb-false slots (length (appts list)) (c₇ .0)), c₇ .1)
+
+  -- a code's early answers
+  pub refuses-listed : (n i : ℕ) → checks-1-to-5 P list passed ≡ refused n i → checks-with-slots P list slots passed ≡ refused n i
+  unfolding checks-with-slots
+  refuses-listed n i h = refused-first P list (check-slots slots (length (appts list)) passed) n i h
+
+  module _ (ok : checks-1-to-5 P list passed ≡ passed) where
+    listed-goes-on : checks-with-slots P list slots passed ≡ check-slots slots (length (appts list)) passed
+    unfolding checks-with-slots
+    listed-goes-on = good-goes-on P list (check-slots slots (length (appts list)) passed) (passed-good P list passed ok .0)
+
+    pub refuses-short : slots < length list / 2 → checks-with-slots P list slots passed ≡ refused 7 0
+    refuses-short h = listed-goes-on ∙ rw (lt-ltb slots (length (appts list)) (omega (arith, appts-count list)))
+
+    pub passes-long : length list / 2 ≤ slots → checks-with-slots P list slots passed ≡ passed
+    passes-long h = listed-goes-on ∙ rw (le-ltb slots (length (appts list)) (omega (arith, appts-count list)))
 
 -- and what checks 1 to 6 refuse
 pub refused-sized :
@@ -186,26 +236,18 @@ d-small P list h =
     largest-load-le P (appts list) 8192
     (λ v k. omega (arith, load-count v list (good .even), count-le v list, appts-length list (good .even), good .few))
 
--- what the code knows once `check_list` has told it D: the product of check 6 fits
-pub record Listed (P : ℕ) (list : List ℕ) (D : ℕ) : Type 0 where
-  pub ok : checks-1-to-5 P list passed ≡ passed
-  pub figure : D ≡ largest-load P (appts list)
-  pub product : D * P ≤ 8388608
+-- where checks 1 to 5 have passed loads can be counted,
+pub countable : (P : ℕ) (list : List ℕ) → checks-1-to-5 P list passed ≡ passed → (P ≤ 1024) × (length list ≤ 8192) × (length list % 2 ≡ 0)
+countable P list ok =
+    let good = passed-good P list passed ok .0 in
+    (good .parties, omega (arith, good .few, good .even, appts-count list), good .even)
 
-pub listed :
-    (P : ℕ) (list : List ℕ) (D : ℕ) (told : Answered) →
-    told ≡ checked (checks-1-to-5 P list passed) (largest-load P (appts list)) → told ≡ Accepted D → Listed P list D
-listed P list D told e k =
-    let h = sym e ∙ k in
-    let ok = checked-passed (checks-1-to-5 P list passed) (largest-load P (appts list)) D h in
-    let figure = checked-figure (checks-1-to-5 P list passed) (largest-load P (appts list)) D h in
+-- and the product of check 6 fits
+pub product-fits : (P : ℕ) (list : List ℕ) (D : ℕ) → checks-1-to-5 P list passed ≡ passed → D ≡ largest-load P (appts list) → D * P ≤ 8388608
+product-fits P list D ok e =
     let d : D ≤ 8192 = omega (arith, d-small P list ok) in
     let p : P ≤ 1024 = passed-good P list passed ok .0 .parties in
-    record {
-      ok = ok;
-      figure = figure;
-      product = le-trans (mul-le-mul-left D p) (omega arith);
-    }
+    le-trans (mul-le-mul-left D p) (omega arith)
 
 -- what the code knows once `check_size` has told it D: W can be computed
 pub record Sized (P : ℕ) (list : List ℕ) (D : ℕ) : Type 0 where

@@ -4,11 +4,16 @@ use mathlib.Core.List.{List}
 use Rattle.words.specs.Words.{word}
 use Rattle.appointments.specs.Appointments.{scratch-words}
 use Rattle.appointments.specs.Checks.{Check}
-use Rattle.appointments.specs.Answers.{answer, answered-of}
+use Rattle.appointments.specs.Answers.{answer, answered-of, checked-of}
 use Rattle.appointments.specs.Needed.{scratch-enough}
 use Rattle.appointments.specs.declared.Answered.{Answered}
+use Rattle.appointments.specs.declared.Checked.{Checked}
 
--- what the checks came to as the code tells it: D where all passed, else the number and the place
+-- what the checks came to as the code tells it: passed, or the number and the place
+abbrev pub told : Check → Checked
+told c = checked-of (answer c tt)
+
+-- and with D where all passed
 abbrev pub checked : Check → ℕ → Answered
 checked c D = answered-of (answer c D)
 

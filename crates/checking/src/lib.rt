@@ -5,10 +5,11 @@ ghost use lib.ListN.{length};
 ghost use Rattle.words.specs.Basics.{count};
 ghost use Rattle.words.specs.Words.{word, «put-word»};
 ghost use Rattle.appointments.specs.Appointments.{appts, «largest-load», «scratch-words»};
-ghost use Rattle.appointments.specs.Checks.{«check-ends», «checks-1-to-5», «checks-1-to-6», checks, passed};
-ghost use Rattle.checking.specs.Checked.{checked, «largest-word», «Words-fit»};
+ghost use Rattle.appointments.specs.Checks.{«check-ends», «checks-1-to-5», «checks-with-slots», «checks-1-to-6», checks, passed};
+ghost use Rattle.checking.specs.Checked.{told, checked, «largest-word», «Words-fit»};
 ghost use Rattle.appointments.specs.Needed.{«needs-answer», «needed-of»};
 use appointments::Answered;
+use appointments::Checked;
 use appointments::Needed;
 use bad_ends::Found;
 use bad_ends::first_bad_ends;
@@ -63,40 +64,50 @@ fn largest_load(p: usize, list: &[u16]) -> usize
 
 // Checks 4 and 5, decided after one walk of the list: a blank end anywhere, else another end that is not below `p`. P fits 16 bits, since check 1 has
 // passed.
-fn check_ends(p: usize, list: &[u16]) -> Answered
+fn check_ends(p: usize, list: &[u16]) -> Checked
     requires { ⌜ p ≤ 1024 ⌝ }
-    ensures { λ r. ⌜ r ≡ checked (check-ends p (now (list .entry)) passed) 0 ⌝ }
+    ensures { λ r. ⌜ r ≡ told (check-ends p (now (list .entry)) passed) ⌝ }
 {
     let ends = first_bad_ends(p as u16, list);
     let blank = ends.blank;
     if let Found::At(i) = blank {
-        return Answered::Refused(4, i);
+        return Checked::Refused(4, i);
     }
     let unlisted = ends.unlisted;
     if let Found::At(i) = unlisted {
-        return Answered::Refused(5, i);
+        return Checked::Refused(5, i);
     }
-    Answered::Accepted(0)
+    Checked::Passed
 }
 
-// Checks 1 to 5, those of the list alone; passed, it gives D.
-pub fn check_list(p: usize, list: &[u16]) -> Answered
-    ensures { λ r. ⌜ r ≡ checked (checks-1-to-5 p (now (list .entry)) passed) (largest-load p (appts (now (list .entry)))) ⌝ }
+// Checks 1 to 5, those of the list alone.
+fn check_list(p: usize, list: &[u16]) -> Checked
+    ensures { λ r. ⌜ r ≡ told (checks-1-to-5 p (now (list .entry)) passed) ⌝ }
 {
     if 1024 < p {
-        return Answered::Refused(1, 0);
+        return Checked::Refused(1, 0);
     }
     if list.len() % 2 == 1 {
-        return Answered::Refused(2, 0);
+        return Checked::Refused(2, 0);
     }
     if 8192 < list.len() {
-        return Answered::Refused(3, 0);
+        return Checked::Refused(3, 0);
     }
-    let ends = check_ends(p, list);
-    if let Answered::Refused(number, place) = ends {
-        return Answered::Refused(number, place);
+    check_ends(p, list)
+}
+
+// Checks 1 to 5, then 7: those of a list with its slots, where nothing is planned. D is not asked for, so it isn't counted.
+pub fn check_with_slots(p: usize, list: &[u16], slots: usize) -> Checked
+    ensures { λ r. ⌜ r ≡ told (checks-with-slots p (now (list .entry)) slots passed) ⌝ }
+{
+    let listed = check_list(p, list);
+    let Checked::Passed = listed else {
+        return listed;
+    };
+    if slots < list.len() / 2 {
+        return Checked::Refused(7, 0);
     }
-    Answered::Accepted(largest_load(p, list))
+    Checked::Passed
 }
 
 // Checks 1 to 6, those before any buffer is looked at; passed, it gives D.
@@ -104,9 +115,10 @@ pub fn check_size(p: usize, list: &[u16]) -> Answered
     ensures { λ r. ⌜ r ≡ checked (checks-1-to-6 p (now (list .entry)) passed) (largest-load p (appts (now (list .entry)))) ⌝ }
 {
     let listed = check_list(p, list);
-    let Answered::Accepted(d) = listed else {
-        return listed;
-    };
+    if let Checked::Refused(number, place) = listed {
+        return Answered::Refused(number, place);
+    }
+    let d = largest_load(p, list);
     if 8192 < d * p {
         return Answered::Refused(6, 0);
     }

@@ -5,6 +5,7 @@ use mathlib.Core.List.{List, [], _∷_}
 use native.Mathlib.Omega.{arith}
 use lib.ListN.{length, getD, List·getD-eq-default}
 use Rattle.appointments.specs.Appointments.{appts}
+use Rattle.words.proofs.Filling.{Row-at, row-on}
 use Rattle.filing.specs.Filed.{bytes-of, numbers-of, rows, rows-list, rows-slots}
 use Rattle.filing.proofs.Bytes.{words-length}
 
@@ -43,27 +44,13 @@ word-past bytes k h =
 
 -- ── rows ──
 
--- the row of an appointment in the rows: its two ends and its slot
-pub record Row-at (ws : List ℕ) (i first second slot : ℕ) : Type 0 where
-  pub first-at : getD ws (3 * i) 0 ≡ first
-  pub second-at : getD ws (3 * i + 1) 0 ≡ second
-  pub slot-at : getD ws (3 * i + 2) 0 ≡ slot
-
--- a row later
-row-on : (a b s : ℕ) (ws : List ℕ) (i first second slot : ℕ) → Row-at ws i first second slot → Row-at (a ∷ b ∷ s ∷ ws) (suc i) first second slot
-row-on a b s ws i first second slot r =
-    let one : 3 * suc i ≡ suc (suc (suc (3 * i))) = omega arith in
-    let two : 3 * suc i + 1 ≡ suc (suc (suc (3 * i + 1))) = omega arith in
-    let three : 3 * suc i + 2 ≡ suc (suc (suc (3 * i + 2))) = omega arith in
-    record { first-at = rw one (r .first-at); second-at = rw two (r .second-at); slot-at = rw three (r .slot-at) }
-
 -- of the rows that are written
 pub rows-at : (list slots : List ℕ) (i : ℕ) → i < length list / 2 → i < length slots → Row-at (rows (appts list) slots) i (getD list (2 * i) 0) (getD list (2 * i + 1) 0) (getD slots i 0)
 unfolding appts rows
 rows-at [] slots i h k = absurd (omega arith)
 rows-at (a ∷ []) slots i h k = absurd (omega arith)
 rows-at (a ∷ b ∷ list) [] i h k = absurd (omega arith)
-rows-at (a ∷ b ∷ list) (s ∷ slots) zero h k = record { first-at = refl; second-at = refl; slot-at = refl }
+rows-at (a ∷ b ∷ list) (s ∷ slots) zero h k = record { first-at = refl; second-at = refl; third-at = refl }
 rows-at (a ∷ b ∷ list) (s ∷ slots) (suc i) h k =
     let on : 2 * suc i ≡ suc (suc (2 * i)) = omega arith in
     let off : 2 * suc i + 1 ≡ suc (suc (2 * i + 1)) = omega arith in
@@ -75,7 +62,7 @@ unfolding rows-list rows-slots
 read-at [] i h = absurd (omega arith)
 read-at (a ∷ []) i h = absurd (omega arith)
 read-at (a ∷ b ∷ []) i h = absurd (omega arith)
-read-at (a ∷ b ∷ s ∷ ws) zero h = record { first-at = refl; second-at = refl; slot-at = refl }
+read-at (a ∷ b ∷ s ∷ ws) zero h = record { first-at = refl; second-at = refl; third-at = refl }
 read-at (a ∷ b ∷ s ∷ ws) (suc i) h =
     let on : 2 * suc i ≡ suc (suc (2 * i)) = omega arith in
     let off : 2 * suc i + 1 ≡ suc (suc (2 * i + 1)) = omega arith in

@@ -1,7 +1,6 @@
 pub mod Bytes
 pub mod FiledLaws
 pub mod RoundTrip
-pub mod Filling
 pub mod ByIndex
 pub mod WritingSteps
 pub mod ReadingSteps

@@ -9,15 +9,16 @@ use borrow.Author.Tests.{eq-eqb, ne-eqb, lt-ltb, le-ltb}
 use lib.Dec.{ltb}
 use lib.ListN.{length, getD, drop, set, length-drop}
 use lib.Seq.{getD-drop}
+use Rattle.words.specs.Words.{filled}
+use Rattle.words.proofs.Filling.{filled-more, filled-all, Row-at}
 use Rattle.appointments.specs.Answers.{refused}
 use Rattle.filing.specs.Filed.{numbers-of, rows-list, rows-slots, header, filed-rows, reading-answer, reading-list, reading-slots}
-use Rattle.filing.specs.Buffers.{filled, take-row, take-slot}
+use Rattle.filing.specs.Buffers.{take-row, take-slot}
 use Rattle.filing.specs.Told.{read-of}
 use Rattle.filing.specs.declared.Read.the-variants as read
 use Rattle.filing.proofs.Bytes.{words-length, rows-list-length, rows-slots-length}
 use Rattle.filing.proofs.FiledLaws.{Readable, readable-accepted, reading-refused-list, reading-refused-slots, reading-list-read, reading-slots-read}
-use Rattle.filing.proofs.Filling.{filled-more, filled-all}
-use Rattle.filing.proofs.ByIndex.{Row-at, read-at}
+use Rattle.filing.proofs.ByIndex.{read-at}
 
 -- ── the entries, step by step ──
 
@@ -59,7 +60,7 @@ module _ (bytes : List ℕ) (count : ℕ) (whole : length bytes ≡ 6 * count + 
     slot-taken slots room =
         let new : List ℕ = rows-slots (filed-rows bytes) in
         filled-more new i (getD (numbers-of bytes) (3 * i + 4) 0) slots (omega (arith, slots-long)) (omega arith)
-        (in-rows (3 * i + 2) (3 * i + 4) (omega arith) ∙ row .slot-at)
+        (in-rows (3 * i + 2) (3 * i + 4) (omega arith) ∙ row .third-at)
 
 -- ── what the call tells and leaves ──
 

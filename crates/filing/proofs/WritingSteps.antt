@@ -5,20 +5,29 @@ use mathlib.Core.Path.{_≡_, refl, sym, _∙_, ap}
 use mathlib.Core.List.{List, _∷_, _++_}
 use native.Mathlib.Omega.{arith}
 use borrow.Author.Tests.{eq-eqb, ne-eqb, lt-ltb, le-ltb}
-use lib.ListN.{length, getD, drop}
+use lib.ListN.{length, getD, set, drop}
+use Rattle.words.specs.Words.{filled}
+use Rattle.words.proofs.Filling.{filled-more, filled-again, filled-all, Row-at}
 use Rattle.appointments.specs.Appointments.{appts}
 use Rattle.appointments.proofs.ChecksLaws.{test-even}
 use Rattle.appointments.proofs.Flat.{appts-count}
 use Rattle.appointments.specs.Answers.{refused, answered-of}
 use Rattle.filing.specs.Filed.{bytes-of, rows, filed-bytes, writing-answer, writing-output}
-use Rattle.filing.specs.Buffers.{filled, put-number, put-row}
+use Rattle.filing.specs.Buffers.{put-number, put-row}
 use Rattle.appointments.specs.declared.Answered.the-variants as answered
 use Rattle.filing.proofs.Bytes.{bytes-length, rows-length}
 use Rattle.filing.proofs.FiledLaws.{Writable, writable-accepted, writing-refused, writing-wrote}
-use Rattle.filing.proofs.Filling.{filled-number, filled-again, filled-all}
-use Rattle.filing.proofs.ByIndex.{byte-low, byte-high, Row-at, rows-at}
+use Rattle.filing.proofs.ByIndex.{byte-low, byte-high, rows-at}
 
 -- ── the bytes, step by step ──
+
+-- two bytes more, those of a number
+filled-number : (new : List ℕ) (n w : ℕ) (buffer : List ℕ) → n + 1 < length new → n + 1 < length buffer → getD new n 0 ≡ w % 256 → getD new (n + 1) 0 ≡ w / 256 % 256 → put-number (filled new n buffer) n w ≡ filled new (n + 2) buffer
+filled-number new n w buffer h k low high =
+    let two : n + 1 + 1 ≡ n + 2 = omega arith in
+    ap (λ (l : List ℕ). set l (n + 1) (w / 256 % 256)) (filled-more new n (w % 256) buffer (omega arith) (omega arith) (sym low))
+    ∙ filled-more new (n + 1) (w / 256 % 256) buffer h k (sym high)
+    ∙ ap (λ (m : ℕ). filled new m buffer) two
 
 module _ (P : ℕ) (list slots : List ℕ) where
   -- the 16-bit numbers of the filed plan
@@ -64,7 +73,7 @@ module _ (P : ℕ) (list slots : List ℕ) where
       ∙ ap (λ (l : List ℕ). put-number l (6 * i + 4 + 4) (getD slots i 0))
       (number-put (6 * i + 4 + 2) (suc (suc (3 * i + 1))) (getD list (2 * i + 1) 0) out (omega arith) (r .second-at) (omega arith) (omega arith)
       ∙ ap (λ (m : ℕ). filled new m out) four)
-      ∙ number-put (6 * i + 4 + 4) (suc (suc (3 * i + 2))) (getD slots i 0) out (omega arith) (r .slot-at) (omega arith) (omega arith)
+      ∙ number-put (6 * i + 4 + 4) (suc (suc (3 * i + 2))) (getD slots i 0) out (omega arith) (r .third-at) (omega arith) (omega arith)
       ∙ ap (λ (m : ℕ). filled new m out) six
 
 -- ── what the call tells and leaves ──

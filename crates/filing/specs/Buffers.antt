@@ -1,12 +1,8 @@
 -- What the steps of writing and reading a filed plan do to a lent buffer. Assumes nothing.
 use Prim.Native.Nat.{ℕ, _+_, _*_, _/_, _%_}
-use mathlib.Core.List.{List, _++_}
-use lib.ListN.{getD, take, drop, set}
+use mathlib.Core.List.{List}
+use lib.ListN.{getD, set}
 use Rattle.filing.specs.Filed.{numbers-of}
-
--- the first n entries are those of a new list, the others stay
-abbrev pub filled : List ℕ → ℕ → List ℕ → List ℕ
-filled new n buffer = take n new ++ drop n buffer
 
 -- the two bytes of a number at a place, low byte first
 abbrev pub put-number : List ℕ → ℕ → ℕ → List ℕ

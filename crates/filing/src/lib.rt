@@ -3,9 +3,10 @@ use appointments::Answered;
 ghost use mathlib.Core.Path.{_≡_};
 ghost use Prim.Native.Nat.{_+_, _*_, _/_, _<_, _≤_};
 ghost use lib.ListN.{length, getD};
+ghost use Rattle.words.specs.Words.{filled};
 ghost use Rattle.appointments.specs.Answers.{«answered-of»};
 ghost use Rattle.filing.specs.Filed.{«numbers-of», «filed-bytes», «filed-rows», «rows-list», «rows-slots», «writing-answer», «writing-output», «reading-answer», «reading-list», «reading-slots»};
-ghost use Rattle.filing.specs.Buffers.{filled, «put-number», «put-row», «take-row», «take-slot»};
+ghost use Rattle.filing.specs.Buffers.{«put-number», «put-row», «take-row», «take-slot»};
 ghost use Rattle.filing.specs.Told.{«read-of»};
 
 // What reading says: P and A, or refused with a number and a place.

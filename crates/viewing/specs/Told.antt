@@ -1,19 +1,11 @@
--- What opening and a step tell in the code, an enum for each, and the definitions' answer that each case stands for. Assumes nothing.
+-- What a step tells in the code, an enum, and the definitions' answer that each case stands for. Assumes nothing.
 use Prim.Native.Nat.{ℕ}
 use mathlib.Core.List.{List}
 use denote.Ref.{now}
-use Rattle.appointments.specs.Answers.{Answer, accepted, refused}
 use Rattle.viewing.specs.Viewer.{Step, found, end, view-step, view-next}
-use Rattle.viewing.specs.declared.Opened.{Opened}
-use Rattle.viewing.specs.declared.Opened.the-variants as opened
 use Rattle.viewing.specs.declared.Viewer.{Viewer}
 use Rattle.viewing.specs.declared.Shown.{Shown}
 use Rattle.viewing.specs.declared.Shown.the-variants as shown
-
--- Opening: accepted is open; a refusal has its number and place.
-abbrev pub opened-of : Answer Unit → Opened
-opened-of (accepted u) = opened.Open
-opened-of (refused number place) = opened.Refused number place
 
 -- A step and where the viewer then stands: what was found with its position and slot, or the end.
 abbrev pub shown-of : Step → ℕ → Shown

@@ -1,13 +1,9 @@
 // Document 01's viewer: opening it, its step as a search on slices, and the viewer itself, a struct over two slices with thin calls.
+use appointments::Checked;
 ghost use mathlib.Core.Path.{_≡_};
+ghost use Rattle.appointments.specs.Answers.{«checked-of»};
 ghost use Rattle.viewing.specs.Viewer.{«viewer-answer»};
-ghost use Rattle.viewing.specs.Told.{«opened-of», «step-shown», «stands-of», stepped};
-
-// What opening says: open, or refused with a number and a place.
-pub enum Opened {
-    Open,
-    Refused(usize, usize),
-}
+ghost use Rattle.viewing.specs.Told.{«step-shown», «stands-of», stepped};
 
 // What a step shows: an appointment's position, its slot, and where the viewer then stands; or the end, and where it stays.
 pub enum Shown {
@@ -16,16 +12,16 @@ pub enum Shown {
 }
 
 // Opening refuses 2, then 7.
-pub fn open_viewer(list: &[u16], slots: &[u16]) -> Opened
-    ensures { λ r. ⌜ r ≡ opened-of (viewer-answer (now (list .entry)) (now (slots .entry))) ⌝ }
+pub fn open_viewer(list: &[u16], slots: &[u16]) -> Checked
+    ensures { λ r. ⌜ r ≡ checked-of (viewer-answer (now (list .entry)) (now (slots .entry))) ⌝ }
 {
     if list.len() % 2 == 1 {
-        return Opened::Refused(2, 0);
+        return Checked::Refused(2, 0);
     }
     if slots.len() < list.len() / 2 {
-        return Opened::Refused(7, 0);
+        return Checked::Refused(7, 0);
     }
-    Opened::Open
+    Checked::Passed
 }
 
 // A step from a position, which may lie past the end: the first appointment from there on that names the party. One that

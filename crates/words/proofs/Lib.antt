@@ -8,3 +8,4 @@ pub mod Below
 pub mod PowersOfTwo
 pub mod Regions
 pub mod Puts
+pub mod Filling

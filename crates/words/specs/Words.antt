@@ -2,7 +2,7 @@
 -- Assumes nothing.
 use Prim.Native.Nat.{ℕ, zero, suc, _+_, _%_}
 use mathlib.Core.List.{List, [], _∷_, _++_}
-use lib.ListN.{getD, set}
+use lib.ListN.{getD, take, drop, set}
 
 -- A word is a number below this.
 abbrev pub word-limit : ℕ
@@ -19,6 +19,10 @@ put-word s i x = set s i (x % word-limit)
 -- x, cut to 16 bits, put at i; past the end nothing happens
 abbrev pub put-word16 : List ℕ → ℕ → ℕ → List ℕ
 put-word16 s i x = set s i (x % 65536)
+
+-- the first n entries are those of a new list, the others stay
+abbrev pub filled : List ℕ → ℕ → List ℕ → List ℕ
+filled new n buffer = take n new ++ drop n buffer
 
 -- the n words from a on, in order
 unfoldable pub region : List ℕ → ℕ → ℕ → List ℕ

@@ -1,42 +1,38 @@
--- `waiting` meets its contract: what the list's checks said stays, then the slots and the party are checked, and its waiting is found.
--- Assumes nothing.
-use mathlib.Core.Path.{sym, _∙_}
-use Rattle.asking.proofs.WaitingSteps.{asked-refused, asked-7, asked-5, asked-waits, refused-fits}
+-- `waiting` meets its contract: what the checks of the list and its slots said stays, then the party is checked, and its waiting is
+-- found. Assumes nothing.
+use mathlib.Core.Path.{_≡_, sym, _∙_}
+use lib.ListN.{length}
+use Rattle.appointments.specs.Checks.{passed, checks-with-slots}
+use Rattle.appointments.specs.declared.Checked.the-variants as checked
+use Rattle.checking.specs.Checked.{told}
+use Rattle.asking.proofs.WaitingSteps.{asked-refused, asked-5, asked-waits}
 use borrow.Author.Needs.{needs}
 use Rattle.asking.proofs.waiting.Statement.{statement}
 use Rattle.asking.proofs.waiting.Tie as tie
 
 returns : tie.Need-returns
 returns c =
-    let checked = c .before .before in
+    let checked = c .before .before .before in
     let a = checked .before .before .before .args in
-    let told = c .enum-told2 .given .1 in
-    (told ∙ asked-refused (a .p) (a .list .now) (a .slots .now) (a .party) _ _ (sym (checked .check-list .ensures) ∙ told), refused-fits _ _ _ told)
+    (asked-refused (a .p) (a .list .now) (a .slots .now) (a .party) _ _ (sym (checked .check-with-slots .ensures) ∙ c .before .listed .given .1), tt)
+
+-- the checks of the list and its slots have passed
+listed :
+    (c : tie.After-enum-told) →
+    let a = c .before .before .before .before .before .args in
+    told (checks-with-slots (a .p) (a .list .now) (length (a .slots .now)) passed) ≡ checked.Passed
+listed c = sym (c .before .before .check-with-slots .ensures) ∙ c .enum-told .given .1
 
 returns-2 : tie.Need-returns-2
 returns-2 c =
-    let passed = c .before in
-    let checked = passed .before .before in
-    let a = checked .before .before .before .args in
-    let came = sym (checked .check-list .ensures) ∙ passed .enum-told .given .1 in
-    (asked-7 (a .p) (a .list .now) (a .slots .now) (a .party) _ came (c .if1 .taken), tt)
+    let a = c .before .before .before .before .before .before .args in
+    (asked-5 (a .p) (a .list .now) (a .slots .now) (a .party) (listed (c .before)) (c .if1 .taken), tt)
 
 returns-3 : tie.Need-returns-3
 returns-3 c =
-    let passed = c .before .before in
-    let checked = passed .before .before in
-    let a = checked .before .before .before .args in
-    let came = sym (checked .check-list .ensures) ∙ passed .enum-told .given .1 in
-    (asked-5 (a .p) (a .list .now) (a .slots .now) (a .party) _ came (c .before .if1 .left) (c .if2 .taken), tt)
-
-returns-4 : tie.Need-returns-4
-returns-4 c =
-    let passed = c .before .before .before in
-    let checked = passed .before .before in
-    let a = checked .before .before .before .args in
-    let came = sym (checked .check-list .ensures) ∙ passed .enum-told .given .1 in
+    let a = c .before .before .before .before .before .before .before .args in
     let waits = c .waiting-of .ensures in
-    (asked-waits (a .p) (a .list .now) (a .slots .now) (a .party) _ came _ (c .before .before .if1 .left) (c .before .if2 .left) (waits .0), waits .1)
+    (asked-waits (a .p) (a .list .now) (a .slots .now) (a .party) (listed (c .before .before)) _ (c .before .if1 .left) (waits .0), waits .1)
 
 pub waiting-spec : {M : Type 1} → statement M
 waiting-spec =
@@ -44,9 +40,8 @@ waiting-spec =
     (tie.spec
     (λ c κs. search needs)
     (λ c. search needs)
-    (λ c. search needs)
     returns
+    (λ c. search needs)
     returns-2
-    returns-3
     (λ c κs. search needs)
-    returns-4)
+    returns-3)

@@ -3,7 +3,8 @@ use mathlib.Core.Path.{_≡_, sym, _∙_}
 use native.Mathlib.Omega.{arith}
 use Rattle.appointments.specs.Answers.{accepted, refused}
 use Rattle.viewing.specs.Viewer.{viewer-answer, view-step, view-next}
-use Rattle.bimtsure_c.proofs.Telling.{opened-open, opened-refused, closed-says, open-says}
+use Rattle.appointments.proofs.AnswerLaws.{no-figure, no-figure-refusal}
+use Rattle.bimtsure_c.proofs.Telling.{closed-says, open-says}
 use Rattle.bimtsure_c.proofs.Fitting.{viewer-refusal-fits}
 use borrow.Author.Needs.{needs}
 use Rattle.bimtsure_c.proofs.bimtsure_view.Statement.{statement}
@@ -13,7 +14,7 @@ use Rattle.bimtsure_c.proofs.bimtsure_view.Tie as tie
 refuses :
     (c : tie.After-known-told) →
     let a = c .before .before .before .before .before .before .args in viewer-answer (a .list .now) (a .slots .now) ≡ refused (c .before .opened .given .0 .0) (c .before .opened .given .0 .1 .0)
-refuses c = opened-refused _ _ _ (sym (c .before .before .before .open-viewer .ensures) ∙ c .before .opened .given .1)
+refuses c = no-figure-refusal _ _ _ (sym (c .before .before .before .open-viewer .ensures) ∙ c .before .opened .given .1)
 
 cast-t10 : tie.Need-cast-t10
 cast-t10 c = let a = c .before .before .before .before .before .before .args in omega (arith, viewer-refusal-fits (a .list .now) (a .slots .now) _ _ (refuses c))
@@ -28,7 +29,7 @@ returns-2 : tie.Need-returns-2
 returns-2 c =
     let a = c .before .before .before .before .before .before .before .args in
     let opens : viewer-answer (a .list .now) (a .slots .now) ≡ accepted tt =
-    opened-open _ (sym (c .before .before .before .before .open-viewer .ensures) ∙ c .before .before .enum-told .given .1) in
+    no-figure _ (sym (c .before .before .before .before .open-viewer .ensures) ∙ c .before .before .enum-told .given .1) in
     open-says (viewer-answer (a .list .now) (a .slots .now)) (view-step (a .party) (a .list .now) (a .slots .now) (a .from)) (c .before .view-step .result) (view-next (a .party) (a .list .now) (a .slots .now) (a .from)) _ _ _ _ _ _ opens (c .before .view-step .ensures) (c .seen .ensures)
 
 pub bimtsure-view-spec : {M : Type 1} → statement M

@@ -1,7 +1,8 @@
 -- `put_plan` meets its contract: the output holds the first bytes of the plan, six more with each turn. Assumes nothing.
 use Rattle.filing.proofs.WritingSteps.{header-put, from-header, row-put}
 use mathlib.Core.List.{List}
-use Rattle.filing.specs.Buffers.{filled, put-row}
+use Rattle.words.specs.Words.{filled}
+use Rattle.filing.specs.Buffers.{put-row}
 use Rattle.filing.specs.Filed.{filed-bytes}
 use lib.ListN.{length}
 use mathlib.Core.Path.{_≡_, refl, sym, _∙_, ap}

@@ -1,8 +1,9 @@
 -- `take_plan` meets its contract: the list and the slots hold the first ends and slots of the plan, one appointment more with each turn. Assumes nothing.
 use Rattle.filing.proofs.ReadingSteps.{row-taken, slot-taken, ends-long, slots-long}
-use Rattle.filing.proofs.Filling.{filled-length}
+use Rattle.words.proofs.Filling.{filled-length}
 use mathlib.Core.List.{List}
-use Rattle.filing.specs.Buffers.{filled, take-row, take-slot}
+use Rattle.words.specs.Words.{filled}
+use Rattle.filing.specs.Buffers.{take-row, take-slot}
 use Rattle.filing.specs.Filed.{filed-rows, rows-list, rows-slots}
 use lib.ListN.{length}
 use mathlib.Core.Path.{_≡_, _∙_, ap}

@@ -1,0 +1,4 @@
+pub mod Many
+pub mod Tables
+pub mod Computing
+pub mod Examples
