@@ -3,8 +3,8 @@
  *
  * A list has two ends for each appointment, and an end is a party: a number from 0 to P-1. An end that isn't known is
  * BIMTSURE_BLANK. 0 is a party like any other, so a list that was cleared by 0 plans what nobody asked for: fill the list with
- * BIMTSURE_BLANK before you store ends. Your compiler cuts P and ends to 16 bits, so that 65536 becomes 0 and 65537 parties
- * become 1: test them in your own width first.
+ * BIMTSURE_BLANK before you store ends. Your compiler cuts P, ends and parties that you ask for to 16 bits, so that 65536 becomes 0
+ * and 65537 parties become 1: test them in your own width first.
  *
  * A lent slice passes as its address and its number of entries. Where that is 0 the address may be NULL; else it is aligned for
  * its type. Slices that a call writes must not overlap the others. Nothing is kept after a call.
@@ -34,8 +34,8 @@
 #define BIMTSURE_MOST_ASKED 64
 
 /* The numbers of answers. The place of 4 and 5 is the position of the first such appointment, counted from 0; that of 15 is the
- * first such party among those asked for, from 0 too; that of 10 is the number of the line, from 1; every other place is 0. 10 and
- * 11 are the program's: no call gives them. */
+ * position of the first such party among those asked for, from 0 too; that of 10 is the number of the line, from 1; every other
+ * place is 0. 10 and 11 are the program's: no call gives them. */
 enum bimtsure_number {
     BIMTSURE_ACCEPTED = 0,
     BIMTSURE_TOO_MANY_PARTIES = 1,      /* more than 1,024 parties */

@@ -49,7 +49,7 @@ pub fn compare(case: &Case, random: &mut Random, counts: &mut Counts) -> Result<
     question.hold(random, counts)
 }
 
-/// Parties that the list names or that are below P, in one of three cases with one or two that aren't: none, some, 64, one more,
+/// Parties that the list names or that are below P, one time in three with one or two numbers not below P: none, some, 64, one more,
 /// or so many that 16 bits would cut their number to 64 or less.
 pub fn queries(list: &List, random: &mut Random) -> Vec<u16> {
     let count = match random.below(16) {
@@ -59,17 +59,17 @@ pub fn queries(list: &List, random: &mut Random) -> Vec<u16> {
         7 => (1 << 16) + random.below(MOST_ASKED + 1),
         _ => random.size(MOST_ASKED),
     };
-    let mut queries: Vec<u16> = (0..count).map(|_| listed(list, random)).collect();
+    let mut queries: Vec<u16> = (0..count).map(|_| named_or_below(list, random)).collect();
     if count > 0 && random.chance(3) {
         for _ in 0..random.between(1, 2) {
-            queries[random.below(count)] = unlisted(list, random);
+            queries[random.below(count)] = not_below(list, random);
         }
     }
     queries
 }
 
 /// A party that the list names, or one below P, if there is one.
-fn listed(list: &List, random: &mut Random) -> u16 {
+fn named_or_below(list: &List, random: &mut Random) -> u16 {
     if list.ends.is_empty() || random.chance(4) {
         return random.below(list.parties.max(1)) as u16;
     }
@@ -77,7 +77,7 @@ fn listed(list: &List, random: &mut Random) -> u16 {
 }
 
 /// A number not below P.
-fn unlisted(list: &List, random: &mut Random) -> u16 {
+fn not_below(list: &List, random: &mut Random) -> u16 {
     match random.below(3) {
         0 => list.parties as u16,
         1 => u16::MAX,
@@ -168,7 +168,7 @@ impl Question {
             15 => {
                 let at = random.below(queries.len().max(1));
                 queries.resize(queries.len().max(1), 0);
-                queries[at] = unlisted(list, random);
+                queries[at] = not_below(list, random);
             }
             13 if !queries.is_empty() => *room = random.below(3 * queries.len()),
             _ => {}
@@ -339,11 +339,11 @@ mod tests {
     }
 
     #[test]
-    fn what_is_unlisted_is_not_below_p() {
+    fn what_is_to_be_refused_by_15_is_not_below_p() {
         let mut random = Random::new(1);
         for parties in [0, 1, 1024, 65_535] {
             let list = List::new(parties, &[]);
-            assert!((0..100).all(|_| usize::from(unlisted(&list, &mut random)) >= parties));
+            assert!((0..100).all(|_| usize::from(not_below(&list, &mut random)) >= parties));
         }
     }
 }

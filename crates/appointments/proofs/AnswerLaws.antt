@@ -43,6 +43,13 @@ module _ {F : Type 0} where
   pub after-refused : (a : Answer F) (number place : ℕ) (new buffer : List ℕ) → a ≡ refused number place → after a new buffer ≡ buffer
   after-refused a number place new buffer e = rw e
 
+  -- its number and place
+  pub passed-says : (a : Answer F) (f : F) → a ≡ accepted f → (0 ≡ number-of a) × (0 ≡ place-of a)
+  passed-says a f e = rw e (refl, refl)
+
+  pub barred-says : (a : Answer F) (n i : ℕ) → a ≡ refused n i → (n ≡ number-of a) × (i ≡ place-of a)
+  barred-says a n i e = rw e (refl, refl)
+
 -- ── an answer of one figure, from what was told to its numbers ──
 
 pub one-figure : (a : Answer ℕ) (n : ℕ) → answered-of a ≡ answered.Accepted n → a ≡ accepted n
@@ -54,10 +61,10 @@ one-refusal (accepted m) n i e = cc
 one-refusal (refused k j) n i e = cc
 
 pub accepted-says : (a : Answer ℕ) (n : ℕ) → a ≡ accepted n → (0 ≡ number-of a) × ((0 ≡ place-of a) × (n ≡ figure-of a))
-accepted-says a n e = rw e (refl, (refl, refl))
+accepted-says a n e = let s = passed-says a n e in (s .0, (s .1, (rw e)))
 
 pub refused-says : (a : Answer ℕ) (n i : ℕ) → a ≡ refused n i → (n ≡ number-of a) × ((i ≡ place-of a) × (0 ≡ figure-of a))
-refused-says a n i e = rw e (refl, (refl, refl))
+refused-says a n i e = let s = barred-says a n i e in (s .0, (s .1, (rw e)))
 
 -- ── an answer without a figure ──
 
@@ -68,9 +75,3 @@ no-figure (refused k i) e = cc
 pub no-figure-refusal : (a : Answer Unit) (n i : ℕ) → checked-of a ≡ checked.Refused n i → a ≡ refused n i
 no-figure-refusal (accepted u) n i e = cc
 no-figure-refusal (refused k j) n i e = cc
-
-pub passed-says : (a : Answer Unit) → a ≡ accepted tt → (0 ≡ number-of a) × (0 ≡ place-of a)
-passed-says a e = rw e (refl, refl)
-
-pub barred-says : (a : Answer Unit) (n i : ℕ) → a ≡ refused n i → (n ≡ number-of a) × (i ≡ place-of a)
-barred-says a n i e = rw e (refl, refl)

@@ -9,6 +9,7 @@ use native.Mathlib.Numerals.{add-one}
 use lib.ListN.{length, getD, drop, drop-of-length-le}
 use lib.Seq.{drop-cons}
 use Rattle.words.specs.Basics.{All}
+use Rattle.words.proofs.Sums.{all-at}
 use Rattle.appointments.specs.Checks.{First, at, nowhere, first-from, First-at}
 
 -- it can't be both somewhere and nowhere
@@ -18,11 +19,11 @@ at-nowhere f i p q = let z : _≡_ {A = ℕ} 0 1 = cc in absurd (omega arith)
 module _ {A : Type 0} where
   -- ── one more in front ──
 
-  pub first-here : (k : ℕ) (test : A → Bool) (x : A) (xs : List A) → test x ≡ true → first-from k test (x ∷ xs) ≡ at k
+  first-here : (k : ℕ) (test : A → Bool) (x : A) (xs : List A) → test x ≡ true → first-from k test (x ∷ xs) ≡ at k
   unfolding first-from
   first-here k test x xs h = rw h
 
-  pub first-later : (k : ℕ) (test : A → Bool) (x : A) (xs : List A) → test x ≡ false → first-from k test (x ∷ xs) ≡ first-from (k + 1) test xs
+  first-later : (k : ℕ) (test : A → Bool) (x : A) (xs : List A) → test x ≡ false → first-from k test (x ∷ xs) ≡ first-from (k + 1) test xs
   unfolding first-from
   first-later k test x xs h = rw h
 
@@ -35,6 +36,9 @@ module _ {A : Type 0} where
       go : (b : Bool) → test x ≡ b → (first-from (k + 1) test xs ≡ nowhere → All (λ y. test y ≡ false) xs) → All (λ y. test y ≡ false) (x ∷ xs)
       go true h rest = at-nowhere (first-from k test (x ∷ xs)) k (first-here k test x xs h) e
       go false h rest = (h, rest (sym (first-later k test x xs h) ∙ e))
+
+  pub nowhere-at : (test : A → Bool) (xs : List A) (d : A) → first-from 0 test xs ≡ nowhere → (j : ℕ) → j < length xs → test (getD xs j d) ≡ false
+  nowhere-at test xs d e j h = all-at (λ x. test x ≡ false) xs d (nowhere-all 0 test xs e) j h
 
   pub all-nowhere : (k : ℕ) (test : A → Bool) (xs : List A) → All (λ x. test x ≡ false) xs → first-from k test xs ≡ nowhere
   unfolding first-from

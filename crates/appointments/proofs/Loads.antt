@@ -7,7 +7,7 @@ use native.Mathlib.Omega.{arith}
 use native.Mathlib.Decide.{ℕ-discrete, decLe}
 use lib.ListN.{length}
 use Rattle.words.specs.Basics.{is, total, All, sum-below}
-use Rattle.words.proofs.Sums.{total-append, total-reverse, total-cong-all, total-const, sum-below-add, sum-below-is, sum-below-total, all-map}
+use Rattle.words.proofs.Sums.{is-le, total-le, total-append, total-reverse, total-cong-all, total-const, sum-below-add, sum-below-is, sum-below-total, all-map}
 use Rattle.appointments.specs.Appointments.{Appt, appts, names, load, largest-load}
 use Rattle.appointments.specs.Plans.{Busiest}
 
@@ -58,6 +58,12 @@ load-append v xs ys = total-append (names v) xs ys
 pub load-reverse : (v : ℕ) (xs : List Appt) → load v (reverse xs) ≡ load v xs
 unfolding load
 load-reverse v xs = total-reverse (names v) xs
+
+-- no load is above twice the appointments
+pub load-most : (v : ℕ) (xs : List Appt) → load v xs ≤ 2 * length xs
+unfolding load names
+load-most v xs =
+    omega (arith, total-le {f = names v} {g = λ x. 2} (λ x. omega (arith, is-le v (x .first), is-le v (x .second))) xs, total-const 2 xs)
 
 -- ── all loads together ──
 

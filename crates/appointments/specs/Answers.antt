@@ -1,4 +1,4 @@
--- What a call gives back: it accepts and gives its figures, or it refuses with document 01's number and place; and what lent
+-- What a call gives back: it accepts and gives its figures, or it refuses with the papers' number and place; and what lent
 -- memory then holds. Assumes nothing.
 use Prim.Native.Nat.{ℕ}
 use mathlib.Core.List.{List, _++_}

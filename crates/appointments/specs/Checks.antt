@@ -7,6 +7,8 @@ use lib.Dec.{eqb, ltb, leb}
 use lib.ListN.{length, getD}
 use Rattle.words.specs.Basics.{pick}
 use Rattle.appointments.specs.Appointments.{Appt, appts, largest-load, scratch-words}
+use Rattle.appointments.specs.declared.Found.{Found}
+use Rattle.appointments.specs.declared.Found.the-variants.{At, Nowhere}
 
 -- The mark of a blank end.
 abbrev pub blank : ℕ
@@ -16,6 +18,11 @@ blank = 65535
 pub data First : Type 0 where
   at : ℕ → First
   nowhere : First
+
+-- the enum by which the code tells it
+abbrev pub first-of : Found → First
+first-of (At i) = at i
+first-of Nowhere = nowhere
 
 -- The first position, counted from i, at which something passes the test: an appointment of a list, or a number.
 unfoldable pub first-from : {A : Type 0} → ℕ → (A → Bool) → List A → First
@@ -86,7 +93,7 @@ checks-1-to-5 P list next =
     (check-count (length (appts list))
     (check-ends P list next)))
 
--- Checks 1 to 5, then 7: those of a list with its slots, where nothing is planned.
+-- Checks 1 to 5, then 7: what waiting and asking for many parties begin with.
 unfoldable pub checks-with-slots : ℕ → List ℕ → ℕ → Check → Check
 checks-with-slots P list slots next = checks-1-to-5 P list (check-slots slots (length (appts list)) next)
 

@@ -6,7 +6,7 @@ use mathlib.Core.Path.{_≡_, refl}
 use mathlib.Core.List.{List, [], _∷_}
 use Rattle.appointments.specs.Appointments.{appts, load, largest-load, scratch-words}
 use Rattle.appointments.specs.Plans.{different, meets}
-use Rattle.appointments.specs.Checks.{First, at, nowhere, first-from, has-blank, has-unlisted, passed, refused, bar, checks-1-to-8, checks}
+use Rattle.appointments.specs.Checks.{First, at, nowhere, first-from, has-blank, has-unlisted, passed, refused, bar, checks-with-slots, checks-1-to-8, checks}
 use Rattle.appointments.specs.Answers.{Answer, accepted, number-of, place-of}
 use Rattle.appointments.specs.Answers as answers
 use Rattle.appointments.specs.Needed.{Needs, needing, needs-answer, d-of, words-of, scratch-enough}
@@ -232,3 +232,12 @@ needs-odd = refl
 pub needs-4097 : needs-answer 0 (again 4097) ≡ answers.refused 3 0
 unfolding computing again
 needs-4097 = refl
+
+-- 7 comes after the list's own checks
+with-slots :
+    (checks-with-slots 2 (0 ∷ 1 ∷ 1 ∷ 2 ∷ []) 0 passed ≡ refused 5 1)
+    × (checks-with-slots 2 (0 ∷ 1 ∷ []) 0 passed ≡ refused 7 0)
+    × (checks-with-slots 2 (0 ∷ 1 ∷ []) 1 passed ≡ passed)
+    × (checks-with-slots 2 (0 ∷ 1 ∷ []) 1 (refused 14 0) ≡ refused 14 0)
+unfolding computing
+with-slots = (refl, refl, refl, refl)

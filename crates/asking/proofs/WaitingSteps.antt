@@ -10,9 +10,9 @@ use Rattle.appointments.specs.Appointments.{appts}
 use Rattle.appointments.specs.Checks.{Check, passed, refused, bar, checks-with-slots}
 use Rattle.appointments.specs.Answers.{answered-of}
 use Rattle.appointments.specs.declared.Answered.the-variants as answered
-use Rattle.appointments.specs.declared.Checked.the-variants as checked
-use Rattle.checking.specs.Checked.{told}
-use Rattle.checking.proofs.Answering.{told-passed, told-number, refused-with-slots, slotted-goes-on, passed-slotted}
+use Rattle.appointments.specs.declared.Checked.the-variants as Checked
+use Rattle.checking.specs.Checked.{checked}
+use Rattle.checking.proofs.Answering.{checked-stays, checked-slotted, slotted-goes-on}
 use Rattle.asking.specs.Waiting.{waiting, waiting-checks, waiting-answer}
 
 module _ (P : ℕ) (list slots : List ℕ) (party : ℕ) where
@@ -24,18 +24,18 @@ module _ (P : ℕ) (list slots : List ℕ) (party : ℕ) where
   abbrev of-the-party : Check
   of-the-party = bar (leb P party) 5 passed
 
-  stays : (n i : ℕ) → told with-slots ≡ checked.Refused n i → waiting-checks P list (length slots) party ≡ refused n i
+  stays : (n i : ℕ) → checked with-slots ≡ Checked.Refused n i → waiting-checks P list (length slots) party ≡ refused n i
   unfolding waiting-checks
-  stays n i e = refused-with-slots P list (length slots) of-the-party n i (told-number with-slots n i e)
+  stays n i e = checked-stays P list (length slots) of-the-party n i e
 
-  pub asked-refused : (n i : ℕ) → told with-slots ≡ checked.Refused n i → answered.Refused n i ≡ answered-of (waiting-answer P list slots party)
+  pub asked-refused : (n i : ℕ) → checked with-slots ≡ Checked.Refused n i → answered.Refused n i ≡ answered-of (waiting-answer P list slots party)
   unfolding waiting-answer
   asked-refused n i e = rw (stays n i e)
 
-  module _ (e : told with-slots ≡ checked.Passed) where
+  module _ (e : checked with-slots ≡ Checked.Passed) where
     goes-on : waiting-checks P list (length slots) party ≡ of-the-party
     unfolding waiting-checks
-    goes-on = slotted-goes-on P list (length slots) of-the-party (passed-slotted P list (length slots) passed (told-passed with-slots e) .0)
+    goes-on = slotted-goes-on P list (length slots) of-the-party (checked-slotted P list (length slots) e)
 
     pub asked-5 : P ≤ party → answered.Refused 5 0 ≡ answered-of (waiting-answer P list slots party)
     unfolding waiting-answer

@@ -1,4 +1,4 @@
--- The slots of one party's appointments, the lowest and the highest of them: what request 2 of document 02 asks of a list and its slots.
+-- The slots of one party's appointments, the lowest and the highest of them: what requests 1 and 2 of document 02 ask of a list and its slots.
 -- Assumes nothing.
 use Prim.Native.Nat.{ℕ, min, max}
 use mathlib.Core.List.{List, [], _∷_}

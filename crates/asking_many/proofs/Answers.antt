@@ -1,12 +1,13 @@
 -- The answers as rows of three: where the row of a query stands, how long they are, and one more of them put from the tables. Assumes nothing.
-use Prim.Native.Nat.{ℕ, zero, suc, _+_, _*_, _<_}
-use mathlib.Core.Path.{_≡_, refl, _∙_, ap}
+use Prim.Native.Nat.{ℕ, zero, suc, _+_, _*_, _≤_, _<_}
+use mathlib.Core.Path.{_≡_, refl}
 use mathlib.Core.List.{List, [], _∷_, _++_, append-nil}
 use native.Mathlib.Omega.{arith}
-use lib.ListN.{length, take, drop, drop-of-length-le}
+use lib.ListN.{length, take, drop}
 use Rattle.words.specs.Words.{word, filled}
 use Rattle.words.proofs.Filling.{filled-all, Row-at, row-on, filled-row}
 use Rattle.appointments.specs.Appointments.{Appt, load}
+use Rattle.appointments.specs.Answers.{over}
 use Rattle.asking.specs.PartySlots.{slots-of, lowest, highest}
 use Rattle.asking_many.specs.Many.{or-none, asked-of-one, asked-of-all}
 use Rattle.asking_many.specs.Tables.{Tables, put-three}
@@ -28,7 +29,7 @@ module _ (xs : List Appt) (slots : List ℕ) where
   asked-at (v ∷ queries) zero h = record { first-at = refl; second-at = refl; third-at = refl }
   asked-at (v ∷ queries) (suc j) h = row-on _ _ _ (asked-of-all xs slots queries) j _ _ _ (asked-at queries j (omega arith))
 
-  module _ (queries out₀ : List ℕ) (room : length out₀ ≡ 3 * length queries) where
+  module _ (queries out₀ : List ℕ) (room : 3 * length queries ≤ length out₀) where
     -- one query more
     pub answered-more :
         (j : ℕ) (loads low high out : List ℕ) → j < length queries → word queries j < 1024 → Tables xs slots loads low high →
@@ -39,13 +40,11 @@ module _ (xs : List Appt) (slots : List ℕ) where
         rw (e, t .of-loads .entry v k, t .of-lowest .entry v k, t .of-highest .entry v k)
         (filled-row (asked-of-all xs slots queries) j _ _ _ out₀ (asked-at queries j h) (omega (arith, answers-length queries)) (omega arith))
 
-    -- all of them: the output is nothing but the answers
-    pub answered-all : (j : ℕ) → j ≡ length queries → filled (asked-of-all xs slots queries) (3 * j) out₀ ≡ asked-of-all xs slots queries
+    -- all of them, and behind them what was there
+    pub answered-all : (j : ℕ) → j ≡ length queries → filled (asked-of-all xs slots queries) (3 * j) out₀ ≡ over (asked-of-all xs slots queries) out₀
     answered-all j e =
-        let none : drop (3 * j) out₀ ≡ [] = drop-of-length-le out₀ {i = 3 * j} (omega arith) in
-        filled-all (asked-of-all xs slots queries) (3 * j) out₀ (omega (arith, answers-length queries))
-        ∙ ap (λ (l : List ℕ). asked-of-all xs slots queries ++ l) none
-        ∙ append-nil (asked-of-all xs slots queries)
+        let long : 3 * j ≡ length (asked-of-all xs slots queries) = omega (arith, answers-length queries) in
+        rw long (filled-all (asked-of-all xs slots queries) _ out₀ refl)
 
 -- ── each as by itself ──
 

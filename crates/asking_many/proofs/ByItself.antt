@@ -7,13 +7,12 @@ use native.Mathlib.Omega.{arith}
 use lib.Dec.{ltb, leb}
 use lib.ListN.{length, take, drop, drop-of-length-le}
 use Rattle.words.specs.Words.{word}
-use Rattle.words.proofs.Sums.{all-at}
 use Rattle.appointments.specs.Appointments.{appts}
 use Rattle.appointments.specs.Checks.{first-from, passed, bar}
 use Rattle.appointments.specs.Answers.{accepted}
 use Rattle.appointments.proofs.AnswerLaws.{accepted-passed, after-accepted}
 use Rattle.appointments.proofs.ChecksLaws.{bar-passed, bar-at-passed}
-use Rattle.appointments.proofs.FirstFrom.{nowhere-all}
+use Rattle.appointments.proofs.FirstFrom.{nowhere-at}
 use Rattle.checking.proofs.Answering.{Slotted, slotted-goes-on, passed-slotted}
 use Rattle.asking_many.specs.Many.{asked-of-one, asked-of-all, check-queries, many-checks, many-answer, many-output, By-itself, Each-by-itself}
 use Rattle.asking_many.proofs.Answers.{answers-length, entries-at, one-alone}
@@ -29,7 +28,7 @@ module _ (P : ℕ) (list slots queries output : List ℕ) (e : many-answer P lis
   below j h =
       let c₁₄ = bar-passed (ltb 64 (length queries)) 14 _ (all-passed .1) in
       let c₁₅ = bar-at-passed (first-from 0 (leb P) queries) 15 _ (c₁₄ .1) in
-      all-at (λ v. leb P v ≡ false) queries 0 (nowhere-all 0 (leb P) queries (c₁₅ .0)) j h
+      nowhere-at (leb P) queries 0 (c₁₅ .0) j h
 
   module _ (j : ℕ) (h : j < length queries) (own : List ℕ) (three : length own ≡ 3) where
     abbrev v : ℕ

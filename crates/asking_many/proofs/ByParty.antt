@@ -12,10 +12,9 @@ use lib.ListN.{length, replicate, set, take, length-set, length-take, length-rep
 use lib.Seq.{take-suc, getD-set-same, getD-set-other, take-all}
 use Rattle.words.specs.Basics.{pick, is, total}
 use Rattle.words.specs.Words.{word}
-use Rattle.words.proofs.Sums.{is-le, total-le, total-const}
 use Rattle.appointments.specs.Appointments.{Appt, appt, appts, names, named, named-at, load}
 use Rattle.appointments.proofs.Flat.{appts-count, appt-at}
-use Rattle.appointments.proofs.Loads.{load-append}
+use Rattle.appointments.proofs.Loads.{load-append, load-most}
 use Rattle.asking.specs.PartySlots.{slots-of, lowest, highest}
 use Rattle.asking.proofs.PartySlots.{slots-more, slots-none, lowest-more, highest-more}
 use Rattle.asking_many.specs.Tables.{Walkable, By-party, Tables}
@@ -86,12 +85,6 @@ twice-once f again a b v x = go (eqb v a) (eqb v b)
     go false true = refl
     go false false = refl
 
--- no load is above twice the appointments
-pub load-most : (v : ℕ) (xs : List Appt) → load v xs ≤ 2 * length xs
-unfolding load names
-load-most v xs =
-    omega (arith, total-le {f = names v} {g = λ x. 2} (λ x. omega (arith, is-le v (x .first), is-le v (x .second))) xs, total-const 2 xs)
-
 -- ── one appointment more ──
 
 module _ (list slots : List ℕ) (i : ℕ) (walk : Walkable list slots) (inside : i < length list / 2) where
@@ -133,7 +126,7 @@ module _ (list slots : List ℕ) (i : ℕ) (walk : Walkable list slots) (inside 
       go true mine = more mine
       go false mine = ap fold (append-nil mine)
 
-  -- the three tables, once note has been called for both ends
+  -- the three tables, once enter has been called for both ends
   pub tables-more :
       (loads loads₁ loads₂ low low₁ low₂ high high₁ high₂ : List ℕ) → s ≤ 65535 → Tables so-far slots loads low high →
       Changed-twice (λ n. n + 1) a b loads loads₁ loads₂ → Changed-twice (λ n. min n s) a b low low₁ low₂ →

@@ -3,31 +3,30 @@
 use Prim.Native.Nat.{ℕ, _+_, _*_, _≤_, _<_}
 use mathlib.Core.Path.{_≡_, _∙_}
 use mathlib.Core.Bool.{false}
-use mathlib.Core.List.{List, _++_}
+use mathlib.Core.List.{List}
 use native.Mathlib.Omega.{arith}
 use borrow.Author.Tests.{lt-ltb, le-ltb, leb-false}
 use lib.Dec.{ltb, leb}
-use lib.ListN.{length, drop}
+use lib.ListN.{length}
 use Rattle.words.specs.Words.{word}
 use Rattle.words.proofs.Sums.{all-at}
 use Rattle.appointments.specs.Appointments.{Appt, appt, appts}
 use Rattle.appointments.specs.Checks.{at, nowhere, first-from, Check, passed, refused, bar, checks-with-slots}
-use Rattle.appointments.specs.Answers.{checked-of}
-use Rattle.appointments.specs.declared.Checked.the-variants as checked
-use Rattle.appointments.proofs.FirstFrom.{nowhere-all}
+use Rattle.appointments.specs.Answers.{over, checked-of}
+use Rattle.appointments.specs.declared.Checked.the-variants as Checked
+use Rattle.appointments.proofs.FirstFrom.{nowhere-at}
 use Rattle.appointments.proofs.Flat.{appts-count, appt-at}
 use Rattle.appointments.proofs.Loads.{Listed}
-use Rattle.checking.specs.Checked.{told}
-use Rattle.checking.proofs.Answering.{told-passed, told-number, refused-with-slots, Slotted, slotted-goes-on, passed-slotted}
+use Rattle.checking.specs.Checked.{checked}
+use Rattle.checking.proofs.Answering.{checked-stays, checked-slotted, Slotted, slotted-goes-on}
 use Rattle.asking_many.specs.Many.{asked-of-all, check-queries, many-checks, many-answer, many-output}
 use Rattle.asking_many.specs.Tables.{Walkable}
-use Rattle.asking_many.proofs.Answers.{answers-length}
 
 module _ (P : ℕ) (list slots queries output : List ℕ) where
   -- refused with a number and a place, the output as it was
   abbrev Barred : ℕ → ℕ → Type 0
   Barred number place =
-      (checked.Refused number place ≡ checked-of (many-answer P list slots queries output)) × (output ≡ many-output P list slots queries output)
+      (Checked.Refused number place ≡ checked-of (many-answer P list slots queries output)) × (output ≡ many-output P list slots queries output)
 
   barred : (n i : ℕ) → many-checks P list (length slots) queries (length output) ≡ refused n i → Barred n i
   unfolding many-answer many-output
@@ -40,14 +39,14 @@ module _ (P : ℕ) (list slots queries output : List ℕ) where
   abbrev then-13 : Check
   then-13 = bar (ltb (length output) (3 * length queries)) 13 passed
 
-  pub barred-first : (n i : ℕ) → told with-slots ≡ checked.Refused n i → Barred n i
+  pub barred-first : (n i : ℕ) → checked with-slots ≡ Checked.Refused n i → Barred n i
   unfolding many-checks
-  barred-first n i e = barred n i (refused-with-slots P list (length slots) (check-queries P queries then-13) n i (told-number with-slots n i e))
+  barred-first n i e = barred n i (checked-stays P list (length slots) (check-queries P queries then-13) n i e)
 
-  module _ (e : told with-slots ≡ checked.Passed) where
+  module _ (e : checked with-slots ≡ Checked.Passed) where
     goes-on : many-checks P list (length slots) queries (length output) ≡ check-queries P queries then-13
     unfolding many-checks
-    goes-on = slotted-goes-on P list (length slots) (check-queries P queries then-13) (passed-slotted P list (length slots) passed (told-passed with-slots e) .0)
+    goes-on = slotted-goes-on P list (length slots) (check-queries P queries then-13) (checked-slotted P list (length slots) e)
 
     pub barred-14 : 64 < length queries → Barred 14 0
     barred-14 h = barred 14 0 (goes-on ∙ rw (lt-ltb 64 (length queries) h))
@@ -66,16 +65,16 @@ module _ (P : ℕ) (list slots queries output : List ℕ) where
         -- the answers, and behind them what was there
         pub answered :
             3 * length queries ≤ length output →
-            (checked.Passed ≡ checked-of (many-answer P list slots queries output))
-            × (asked-of-all (appts list) slots queries ++ drop (3 * length queries) output ≡ many-output P list slots queries output)
+            (Checked.Passed ≡ checked-of (many-answer P list slots queries output))
+            × (over (asked-of-all (appts list) slots queries) output ≡ many-output P list slots queries output)
         unfolding many-answer many-output
-        answered h = (rw (all-passed h), rw (all-passed h, answers-length (appts list) slots queries))
+        answered h = (rw (all-passed h), rw (all-passed h))
 
 -- ── what the walk and the tables ask ──
 
-module _ (P : ℕ) (list slots : List ℕ) (e : told (checks-with-slots P list (length slots) passed) ≡ checked.Passed) where
+module _ (P : ℕ) (list slots : List ℕ) (e : checked (checks-with-slots P list (length slots) passed) ≡ Checked.Passed) where
   slotted : Slotted P list (length slots)
-  slotted = passed-slotted P list (length slots) passed (told-passed (checks-with-slots P list (length slots) passed) e) .0
+  slotted = checked-slotted P list (length slots) e
 
   pub walkable : Walkable list slots
   walkable =
@@ -92,5 +91,5 @@ module _ (P : ℕ) (list slots : List ℕ) (e : told (checks-with-slots P list (
   -- no query passes the test: each asks for a party
   pub queries-below : (queries : List ℕ) → first-from 0 (leb P) queries ≡ nowhere → (j : ℕ) → j < length queries → word queries j < 1024
   queries-below queries f j h =
-      let below : leb P (word queries j) ≡ false = all-at (λ v. leb P v ≡ false) queries 0 (nowhere-all 0 (leb P) queries f) j h in
+      let below : leb P (word queries j) ≡ false = nowhere-at (leb P) queries 0 f j h in
       omega (arith, leb-false P (word queries j) below, slotted .0 .parties)

@@ -40,10 +40,12 @@ told = (refl, refl, refl, refl, refl, refl)
 
 -- a refusal leaves the output: four asked need twelve entries, and 5 isn't below P
 left :
-    (leaves 5 five gaps (0 ∷ 1 ∷ 2 ∷ 3 ∷ []) ≡ held)
+    (many-answer 5 five gaps (0 ∷ 1 ∷ 2 ∷ 3 ∷ []) held ≡ refused 13 0)
+    × (leaves 5 five gaps (0 ∷ 1 ∷ 2 ∷ 3 ∷ []) ≡ held)
+    × (many-answer 5 five gaps (0 ∷ 5 ∷ []) held ≡ refused 15 1)
     × (leaves 5 five gaps (0 ∷ 5 ∷ []) ≡ held)
 unfolding computing
-left = (refl, refl)
+left = (refl, refl, refl, refl)
 
 -- 64 asked and 65, of one appointment of party 0 with itself; three entries for each and one less; the last party and one more
 limits :
@@ -54,8 +56,9 @@ limits :
     × (many-answer 5 five gaps (4 ∷ []) (0 ∷ 0 ∷ []) ≡ refused 13 0)
     × (many-answer 5 five gaps (5 ∷ []) (0 ∷ 0 ∷ 0 ∷ []) ≡ refused 15 0)
     × (many-answer 0 [] [] [] [] ≡ accepted tt)
+    × (many-answer 5 five gaps [] held ≡ accepted tt)
 unfolding computing
-limits = (refl, refl, refl, refl, refl, refl, refl)
+limits = (refl, refl, refl, refl, refl, refl, refl, refl)
 
 -- Everything that the list is refused for comes first, then 7, 14, 15 and 13.
 refusals :

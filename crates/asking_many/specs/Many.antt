@@ -57,12 +57,12 @@ many-output P list slots queries output = after (many-answer P list slots querie
 
 -- ── what the three entries mean ──
 
--- What is told of a party, where each appointment has a slot: with load 0 the two are 65,535; else they are slots of the party's own, and
+-- What is told of a party: with load 0 the two are 65,535; else, where each appointment has a slot, they are slots of the party's own, and
 -- none of its slots lies below the one or above the other.
 pub record Told-of (xs : List Appt) (slots : List ℕ) (v : ℕ) : Type 0 where
   pub without : load v xs ≡ 0 → asked-of-one xs slots v ≡ 0 ∷ 65535 ∷ 65535 ∷ []
   pub with : 0 < load v xs → asked-of-one xs slots v ≡ load v xs ∷ lowest (slots-of v xs slots) ∷ highest (slots-of v xs slots) ∷ []
-  pub own : 0 < load v xs → (0 < count (lowest (slots-of v xs slots)) (slots-of v xs slots)) × (0 < count (highest (slots-of v xs slots)) (slots-of v xs slots))
+  pub own : length xs ≤ length slots → 0 < load v xs → (0 < count (lowest (slots-of v xs slots)) (slots-of v xs slots)) × (0 < count (highest (slots-of v xs slots)) (slots-of v xs slots))
   pub between : All (λ s. (lowest (slots-of v xs slots) ≤ s) × (s ≤ highest (slots-of v xs slots))) (slots-of v xs slots)
 
 -- ── each as by itself ──

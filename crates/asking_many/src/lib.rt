@@ -1,21 +1,20 @@
 // Document 02's request 1, asking for many parties together: for each party asked for its load, its lowest slot and its highest slot, from one
 // walk of the list. The walk keeps these three for every party, in tables by party number, so its cost doesn't depend on what is asked.
 use appointments::Checked;
-use bad_ends::Found;
+use appointments::Found;
 ghost use mathlib.Core.Path.{_≡_};
-ghost use Prim.Native.Nat.{ℕ, _+_, _*_, _/_, _<_, min, max};
+ghost use Prim.Native.Nat.{ℕ, _+_, _*_, _/_, _<_, _≤_, min, max};
 ghost use lib.Dec.{leb};
 ghost use lib.ListN.{length, replicate, set, take};
 ghost use Rattle.words.specs.Words.{word};
 ghost use Rattle.appointments.specs.Appointments.{appts};
-ghost use Rattle.appointments.specs.Checks.{«first-from»};
-ghost use Rattle.appointments.specs.Answers.{«checked-of»};
-ghost use Rattle.bad_ends.specs.Noted.{«first-of»};
+ghost use Rattle.appointments.specs.Checks.{«first-of», «first-from»};
+ghost use Rattle.appointments.specs.Answers.{over, «checked-of»};
 ghost use Rattle.asking_many.specs.Many.{«or-none», «asked-of-all», «many-answer», «many-output»};
 ghost use Rattle.asking_many.specs.Tables.{Tables, Walkable, «put-three»};
 
-// Takes a slot into the three tables, for one end of its appointment.
-fn note(
+// Enters a slot into the three tables, for one end of its appointment.
+fn enter(
     loads: &mut [u16; 1024],
     lowest: &mut [u16; 1024],
     highest: &mut [u16; 1024],
@@ -32,9 +31,9 @@ fn note(
     highest[v] = asking::larger(highest[v], slot);
 }
 
-// Takes the appointment at a position into the tables, for both its ends. A party with itself is taken twice: its load is two
-// higher, and a slot that comes twice changes neither the lowest nor the highest.
-fn note_at(
+// Enters the appointment at a position, for both its ends. A party with itself is entered twice: its load is two higher, and a slot
+// that comes again changes neither the lowest nor the highest.
+fn enter_at(
     list: &[u16],
     slots: &[u16],
     i: usize,
@@ -48,12 +47,12 @@ fn note_at(
     ensures { λ r. ⌜ Tables (take (i + 1) (appts (now (list .entry)))) (now (slots .entry)) (now (loads .exit)) (now (lowest .exit)) (now (highest .exit)) ⌝ }
 {
     let slot = slots[i];
-    note(loads, lowest, highest, list[2 * i] as usize, slot);
-    note(loads, lowest, highest, list[2 * i + 1] as usize, slot);
+    enter(loads, lowest, highest, list[2 * i] as usize, slot);
+    enter(loads, lowest, highest, list[2 * i + 1] as usize, slot);
 }
 
-// The walk: takes every appointment into the tables.
-fn note_all(
+// The walk: enters every appointment.
+fn enter_all(
     list: &[u16],
     slots: &[u16],
     loads: &mut [u16; 1024],
@@ -67,7 +66,7 @@ fn note_all(
     let count = list.len() / 2;
     let mut i = 0;
     while i < count {
-        note_at(list, slots, i, loads, lowest, highest);
+        enter_at(list, slots, i, loads, lowest, highest);
         i += 1;
     }
 }
@@ -84,48 +83,48 @@ fn or_none(load: u16, slot: u16) -> u16
 
 // Answers one query: the three entries of the party that it names.
 fn answer_query(
-    parties: &[u16],
+    queries: &[u16],
     j: usize,
     loads: &[u16; 1024],
     lowest: &[u16; 1024],
     highest: &[u16; 1024],
     output: &mut [u16],
 )
-    requires { ⌜ (j < length (now parties)) × (word (now parties) j < 1024) × (3 * j + 2 < length (now output)) ⌝ }
-    ensures { λ r. ⌜ now (output .exit) ≡ put-three (now (output .entry)) j (word (now (parties .entry)) j) (now (loads .entry)) (now (lowest .entry)) (now (highest .entry)) ⌝ }
+    requires { ⌜ (j < length (now queries)) × (word (now queries) j < 1024) × (3 * j + 2 < length (now output)) ⌝ }
+    ensures { λ r. ⌜ now (output .exit) ≡ put-three (now (output .entry)) j (word (now (queries .entry)) j) (now (loads .entry)) (now (lowest .entry)) (now (highest .entry)) ⌝ }
 {
-    let v = parties[j] as usize;
+    let v = queries[j] as usize;
     let load = loads[v];
     output[3 * j] = load;
     output[3 * j + 1] = or_none(load, lowest[v]);
     output[3 * j + 2] = or_none(load, highest[v]);
 }
 
-// Answers all queries: one walk of the list, then three entries for each query. The output has room for these and for nothing else.
-fn answer_all(list: &[u16], slots: &[u16], parties: &[u16], output: &mut [u16])
+// Answers all queries: one walk of the list, then three entries for each query. Those behind them stay.
+fn answer_all(list: &[u16], slots: &[u16], queries: &[u16], output: &mut [u16])
     requires { ⌜ Walkable (now list) (now slots) ⌝ }
-    requires { ⌜ ((j : ℕ) → j < length (now parties) → word (now parties) j < 1024) ⌝ }
-    requires { ⌜ length (now output) ≡ 3 * length (now parties) ⌝ }
-    ensures { λ r. ⌜ now (output .exit) ≡ asked-of-all (appts (now (list .entry))) (now (slots .entry)) (now (parties .entry)) ⌝ }
+    requires { ⌜ ((j : ℕ) → j < length (now queries) → word (now queries) j < 1024) ⌝ }
+    requires { ⌜ 3 * length (now queries) ≤ length (now output) ⌝ }
+    ensures { λ r. ⌜ now (output .exit) ≡ over (asked-of-all (appts (now (list .entry))) (now (slots .entry)) (now (queries .entry))) (now (output .entry)) ⌝ }
 {
     let mut loads = [0u16; 1024];
     let mut lowest = [65535u16; 1024]; // no slot is above it
     let mut highest = [0u16; 1024];
-    note_all(list, slots, &mut loads, &mut lowest, &mut highest);
+    enter_all(list, slots, &mut loads, &mut lowest, &mut highest);
     let mut j = 0;
-    while j < parties.len() {
-        answer_query(parties, j, &loads, &lowest, &highest, output);
+    while j < queries.len() {
+        answer_query(queries, j, &loads, &lowest, &highest, output);
         j += 1;
     }
 }
 
 // The first query for a party that is not below P.
-fn first_not_below(p: u16, parties: &[u16]) -> Found
-    ensures { λ r. ⌜ first-of r ≡ first-from 0 (leb p) (now (parties .entry)) ⌝ }
+fn first_not_below(p: u16, queries: &[u16]) -> Found
+    ensures { λ r. ⌜ first-of r ≡ first-from 0 (leb p) (now (queries .entry)) ⌝ }
 {
     let mut j = 0;
-    while j < parties.len() {
-        if p <= parties[j] {
+    while j < queries.len() {
+        if p <= queries[j] {
             return Found::At(j);
         }
         j += 1;
@@ -133,28 +132,25 @@ fn first_not_below(p: u16, parties: &[u16]) -> Found
     Found::Nowhere
 }
 
-// Checks 1 to 5 and 7 of the list and its slots, then 14, 15 and 13; passed, the output's first entries are the answers. Only these
-// are lent on, so the others stay.
-pub fn ask_many(p: u16, list: &[u16], slots: &[u16], parties: &[u16], output: &mut [u16]) -> Checked
-    ensures answer { λ r. ⌜ r ≡ checked-of (many-answer p (now (list .entry)) (now (slots .entry)) (now (parties .entry)) (now (output .entry))) ⌝ }
-    ensures output { λ r. ⌜ now (output .exit) ≡ many-output p (now (list .entry)) (now (slots .entry)) (now (parties .entry)) (now (output .entry)) ⌝ }
+// Checks 1 to 5 and 7 of the list and its slots, then 14, 15 and 13; passed, the output's first entries are the answers.
+pub fn ask_many(p: u16, list: &[u16], slots: &[u16], queries: &[u16], output: &mut [u16]) -> Checked
+    ensures answer { λ r. ⌜ r ≡ checked-of (many-answer p (now (list .entry)) (now (slots .entry)) (now (queries .entry)) (now (output .entry))) ⌝ }
+    ensures output { λ r. ⌜ now (output .exit) ≡ many-output p (now (list .entry)) (now (slots .entry)) (now (queries .entry)) (now (output .entry)) ⌝ }
 {
     let listed = checking::check_with_slots(p as usize, list, slots.len());
     let Checked::Passed = listed else {
         return listed;
     };
-    if 64 < parties.len() {
+    if 64 < queries.len() {
         return Checked::Refused(14, 0);
     }
-    let unlisted = first_not_below(p, parties);
-    if let Found::At(j) = unlisted {
+    let first = first_not_below(p, queries);
+    if let Found::At(j) = first {
         return Checked::Refused(15, j);
     }
-    let room = output.len();
-    let end = 3 * parties.len();
-    if room < end {
+    if output.len() < 3 * queries.len() {
         return Checked::Refused(13, 0);
     }
-    answer_all(list, slots, parties, &mut output[..end]);
+    answer_all(list, slots, queries, output);
     Checked::Passed
 }

@@ -1,4 +1,4 @@
--- What the walk keeps while it goes on, and how its answer is read. Assumes nothing.
+-- What the walk keeps while it goes on. Assumes nothing.
 use Prim.Native.Nat.{ℕ, _≤_}
 use mathlib.Core.Path.{_≡_}
 use mathlib.Core.Bool.{Bool, _&&_}
@@ -8,13 +8,6 @@ use lib.ListN.{drop}
 use Rattle.words.specs.Basics.{pick}
 use Rattle.appointments.specs.Appointments.{Appt}
 use Rattle.appointments.specs.Checks.{First, at, nowhere, first-from}
-use Rattle.bad_ends.specs.declared.Found.{Found}
-use Rattle.bad_ends.specs.declared.Found.the-variants.{At, Nowhere}
-
--- the code's answer as a first position
-abbrev pub first-of : Found → First
-first-of (At i) = at i
-first-of Nowhere = nowhere
 
 -- what is kept as a first position: A stands for none
 abbrev pub kept-first : ℕ → ℕ → First

@@ -1,20 +1,15 @@
 // The first bad ends of a list, both from one walk: what check 4 asks, the first blank end, and what check 5 asks, the first other end that is not below
 // P. The walk goes to the end of the list: after one kind of bad end the other may still come.
+use appointments::Found;
 ghost use mathlib.Core.Path.{_≡_};
 ghost use lib.Dec.{eqb};
 ghost use Rattle.appointments.specs.Appointments.{appts};
-ghost use Rattle.appointments.specs.Checks.{blank, unlisted};
+ghost use Rattle.appointments.specs.Checks.{blank, «first-of», unlisted};
 ghost use Rattle.appointments.specs.BadEnds.{«First-bad-ends»};
-ghost use Rattle.bad_ends.specs.Noted.{noted, «kept-first», «first-of»};
+ghost use Rattle.bad_ends.specs.Noted.{noted, «kept-first»};
 
 // The mark of a blank end.
 const BLANK: u16 = 65535;
-
-// A first position, or none.
-pub enum Found {
-    At(usize),
-    Nowhere,
-}
 
 // What the walk remembers: the first position for 4 and the first for 5.
 pub struct BadEnds {

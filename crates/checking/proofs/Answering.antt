@@ -16,17 +16,16 @@ use Rattle.appointments.specs.Checks.{First, at, nowhere, first-from, has-blank
 use Rattle.appointments.specs.Answers.{accepted}
 use Rattle.appointments.specs.Answers as answers
 use Rattle.appointments.specs.Needed.{needing, needs-answer, needed-of, scratch-enough}
-use Rattle.checking.specs.Checked.{told, checked, largest-word, Words-fit}
+use Rattle.checking.specs.Checked.{checked, answered, largest-word, Words-fit}
 use Rattle.appointments.specs.declared.Answered.{Answered}
 use Rattle.appointments.specs.declared.Answered.the-variants.{Accepted, Refused}
-use Rattle.appointments.specs.declared.Checked.{Checked}
 use Rattle.appointments.specs.declared.Checked.the-variants as Checked
 use Rattle.appointments.specs.declared.Needed.the-variants as needs
 use Rattle.appointments.proofs.Loads.{largest-load-le, appts-length}
 use Rattle.appointments.proofs.ChecksLaws.{Good-list, bar-passed, good-goes-on, sized-goes-on, passed-good, passed-sized}
 use Rattle.appointments.proofs.Causes.{never-refused, refused-cause, cause-number}
 use Rattle.appointments.proofs.Enough.{words-enough, enough, needed-words}
-use Rattle.appointments.proofs.AnswerLaws.{refused-checked}
+use Rattle.appointments.proofs.AnswerLaws.{accepted-passed, refused-checked, no-figure, no-figure-refusal}
 use Rattle.appointments.proofs.Flat.{appts-count, load-count}
 
 -- one party further
@@ -70,26 +69,24 @@ module _ (P : ℕ) (list : List ℕ) where
       )
 
 -- what was told is what the checks came to, without a figure
-pub told-passed : (c : Check) → told c ≡ Checked.Passed → c ≡ passed
-told-passed passed h = refl
-told-passed (refused m j) h = cc
+pub checked-passed : (c : Check) → checked c ≡ Checked.Passed → c ≡ passed
+checked-passed c h = accepted-passed c tt tt (no-figure (answers.answer c tt) h) .0
 
-pub told-number : (c : Check) (n i : ℕ) → told c ≡ Checked.Refused n i → c ≡ refused n i
-told-number passed n i h = cc
-told-number (refused m j) n i h = cc
+pub checked-number : (c : Check) (n i : ℕ) → checked c ≡ Checked.Refused n i → c ≡ refused n i
+checked-number c n i h = refused-checked c tt n i (no-figure-refusal (answers.answer c tt) n i h)
 
 -- and with D
-pub checked-passed : (c : Check) (d e : ℕ) → checked c d ≡ Accepted e → c ≡ passed
-checked-passed passed d e h = refl
-checked-passed (refused m j) d e h = cc
+pub answered-passed : (c : Check) (d e : ℕ) → answered c d ≡ Accepted e → c ≡ passed
+answered-passed passed d e h = refl
+answered-passed (refused m j) d e h = cc
 
-pub checked-figure : (c : Check) (d e : ℕ) → checked c d ≡ Accepted e → e ≡ d
-checked-figure passed d e h = cc
-checked-figure (refused m j) d e h = cc
+pub answered-figure : (c : Check) (d e : ℕ) → answered c d ≡ Accepted e → e ≡ d
+answered-figure passed d e h = cc
+answered-figure (refused m j) d e h = cc
 
-pub checked-number : (c : Check) (d n i : ℕ) → checked c d ≡ Refused n i → c ≡ refused n i
-checked-number passed d n i h = cc
-checked-number (refused m j) d n i h = cc
+pub answered-number : (c : Check) (d n i : ℕ) → answered c d ≡ Refused n i → c ≡ refused n i
+answered-number passed d n i h = cc
+answered-number (refused m j) d n i h = cc
 
 five-bars :
     (t u w : Bool) (f g : First) (own next : Check) (n i : ℕ) → (own ≡ refused n i → next ≡ refused n i) →
@@ -115,16 +112,22 @@ bar-first : (t : Bool) (k : ℕ) (next : Check) (n i : ℕ) → bar t k passed �
 bar-first true k next n i h = h
 bar-first false k next n i h = never-refused n i h
 
+-- and with one check more
+refused-bar :
+    (P : ℕ) (list : List ℕ) (t : Bool) (k : ℕ) (next : Check) (n i : ℕ) → checks-1-to-5 P list (bar t k passed) ≡ refused n i →
+    checks-1-to-5 P list (bar t k next) ≡ refused n i
+unfolding checks-1-to-5
+refused-bar P list t k next n i h =
+    five-bars (ltb 1024 P) (eqb (length list % 2) 1) (ltb 4096 (length (appts list)))
+    (first-from 0 has-blank (appts list)) (first-from 0 (has-unlisted P) (appts list))
+    (bar t k passed) (bar t k next) n i (bar-first t k next n i) h
+
 -- The same of checks 1 to 5 with 7: what they refuse stays refused, and what they pass goes on.
 module _ (P : ℕ) (list : List ℕ) (slots : ℕ) where
   pub refused-with-slots :
       (next : Check) (n i : ℕ) → checks-with-slots P list slots passed ≡ refused n i → checks-with-slots P list slots next ≡ refused n i
-  unfolding checks-with-slots checks-1-to-5
-  refused-with-slots next n i h =
-      let t = ltb slots (length (appts list)) in
-      five-bars (ltb 1024 P) (eqb (length list % 2) 1) (ltb 4096 (length (appts list)))
-      (first-from 0 has-blank (appts list)) (first-from 0 (has-unlisted P) (appts list))
-      (bar t 7 passed) (bar t 7 next) n i (bar-first t 7 next n i) h
+  unfolding checks-with-slots
+  refused-with-slots next n i h = refused-bar P list (ltb slots (length (appts list))) 7 next n i h
 
   -- a good list, and a slot entry for each appointment
   abbrev pub Slotted : Type 0
@@ -141,6 +144,13 @@ module _ (P : ℕ) (list : List ℕ) (slots : ℕ) where
       let c₅ = passed-good P list _ h in
       let c₇ = bar-passed (ltb slots (length (appts list))) 7 next (c₅ .1) in
       ((c₅ .0, ltb-false slots (length (appts list)) (c₇ .0)), c₇ .1)
+
+  -- and of what the code was told
+  pub checked-stays : (next : Check) (n i : ℕ) → checked (checks-with-slots P list slots passed) ≡ Checked.Refused n i → checks-with-slots P list slots next ≡ refused n i
+  checked-stays next n i e = refused-with-slots next n i (checked-number _ n i e)
+
+  pub checked-slotted : checked (checks-with-slots P list slots passed) ≡ Checked.Passed → Slotted
+  checked-slotted e = passed-slotted passed (checked-passed _ e) .0
 
   -- a code's early answers
   pub refuses-listed : (n i : ℕ) → checks-1-to-5 P list passed ≡ refused n i → checks-with-slots P list slots passed ≡ refused n i
@@ -162,12 +172,8 @@ module _ (P : ℕ) (list : List ℕ) (slots : ℕ) where
 pub refused-sized :
     (P : ℕ) (list : List ℕ) (next : Check) (n i : ℕ) → checks-1-to-6 P list passed ≡ refused n i →
     checks-1-to-6 P list next ≡ refused n i
-unfolding checks-1-to-6 checks-1-to-5
-refused-sized P list next n i h =
-    let t = ltb 8192 (largest-load P (appts list) * P) in
-    five-bars (ltb 1024 P) (eqb (length list % 2) 1) (ltb 4096 (length (appts list)))
-    (first-from 0 has-blank (appts list)) (first-from 0 (has-unlisted P) (appts list))
-    (bar t 6 passed) (bar t 6 next) n i (bar-first t 6 next n i) h
+unfolding checks-1-to-6
+refused-sized P list next n i h = refused-bar P list (ltb 8192 (largest-load P (appts list) * P)) 6 next n i h
 
 -- a code's answers to check 6, of the D that it has
 module _ (P : ℕ) (list : List ℕ) where
@@ -256,12 +262,12 @@ pub record Sized (P : ℕ) (list : List ℕ) (D : ℕ) : Type 0 where
   pub room : Words-fit P D
 
 pub sized :
-    (P : ℕ) (list : List ℕ) (D : ℕ) (told : Answered) →
-    told ≡ checked (checks-1-to-6 P list passed) (largest-load P (appts list)) → told ≡ Accepted D → Sized P list D
-sized P list D told e k =
+    (P : ℕ) (list : List ℕ) (D : ℕ) (came : Answered) →
+    came ≡ answered (checks-1-to-6 P list passed) (largest-load P (appts list)) → came ≡ Accepted D → Sized P list D
+sized P list D came e k =
     let h = sym e ∙ k in
-    let ok = checked-passed (checks-1-to-6 P list passed) (largest-load P (appts list)) D h in
-    let figure = checked-figure (checks-1-to-6 P list passed) (largest-load P (appts list)) D h in
+    let ok = answered-passed (checks-1-to-6 P list passed) (largest-load P (appts list)) D h in
+    let figure = answered-figure (checks-1-to-6 P list passed) (largest-load P (appts list)) D h in
     let c = passed-sized P list passed ok in
     let product : D * P ≤ 8192 = rw figure (c .1) in
     let small : D ≤ 8192 = omega (arith, d-small P list (good-goes-on P list passed (c .0))) in

@@ -10,12 +10,12 @@ use Rattle.appointments.specs.declared.Answered.{Answered}
 use Rattle.appointments.specs.declared.Checked.{Checked}
 
 -- what the checks came to as the code tells it: passed, or the number and the place
-abbrev pub told : Check → Checked
-told c = checked-of (answer c tt)
+abbrev pub checked : Check → Checked
+checked c = checked-of (answer c tt)
 
 -- and with D where all passed
-abbrev pub checked : Check → ℕ → Answered
-checked c D = answered-of (answer c D)
+abbrev pub answered : Check → ℕ → Answered
+answered c D = answered-of (answer c D)
 
 -- the largest of the first p words
 unfoldable pub largest-word : ℕ → List ℕ → ℕ

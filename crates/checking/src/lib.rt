@@ -6,12 +6,12 @@ ghost use Rattle.words.specs.Basics.{count};
 ghost use Rattle.words.specs.Words.{word, «put-word»};
 ghost use Rattle.appointments.specs.Appointments.{appts, «largest-load», «scratch-words»};
 ghost use Rattle.appointments.specs.Checks.{«check-ends», «checks-1-to-5», «checks-with-slots», «checks-1-to-6», checks, passed};
-ghost use Rattle.checking.specs.Checked.{told, checked, «largest-word», «Words-fit»};
+ghost use Rattle.checking.specs.Checked.{checked, answered, «largest-word», «Words-fit»};
 ghost use Rattle.appointments.specs.Needed.{«needs-answer», «needed-of»};
 use appointments::Answered;
 use appointments::Checked;
+use appointments::Found;
 use appointments::Needed;
-use bad_ends::Found;
 use bad_ends::first_bad_ends;
 
 // Adds 1 to the load of a party.
@@ -66,7 +66,7 @@ fn largest_load(p: usize, list: &[u16]) -> usize
 // passed.
 fn check_ends(p: usize, list: &[u16]) -> Checked
     requires { ⌜ p ≤ 1024 ⌝ }
-    ensures { λ r. ⌜ r ≡ told (check-ends p (now (list .entry)) passed) ⌝ }
+    ensures { λ r. ⌜ r ≡ checked (check-ends p (now (list .entry)) passed) ⌝ }
 {
     let ends = first_bad_ends(p as u16, list);
     let blank = ends.blank;
@@ -82,7 +82,7 @@ fn check_ends(p: usize, list: &[u16]) -> Checked
 
 // Checks 1 to 5, those of the list alone.
 fn check_list(p: usize, list: &[u16]) -> Checked
-    ensures { λ r. ⌜ r ≡ told (checks-1-to-5 p (now (list .entry)) passed) ⌝ }
+    ensures { λ r. ⌜ r ≡ checked (checks-1-to-5 p (now (list .entry)) passed) ⌝ }
 {
     if 1024 < p {
         return Checked::Refused(1, 0);
@@ -96,9 +96,9 @@ fn check_list(p: usize, list: &[u16]) -> Checked
     check_ends(p, list)
 }
 
-// Checks 1 to 5, then 7: those of a list with its slots, where nothing is planned. D is not asked for, so it isn't counted.
+// Checks 1 to 5, then 7. D is not asked for, so it isn't counted.
 pub fn check_with_slots(p: usize, list: &[u16], slots: usize) -> Checked
-    ensures { λ r. ⌜ r ≡ told (checks-with-slots p (now (list .entry)) slots passed) ⌝ }
+    ensures { λ r. ⌜ r ≡ checked (checks-with-slots p (now (list .entry)) slots passed) ⌝ }
 {
     let listed = check_list(p, list);
     let Checked::Passed = listed else {
@@ -112,7 +112,7 @@ pub fn check_with_slots(p: usize, list: &[u16], slots: usize) -> Checked
 
 // Checks 1 to 6, those before any buffer is looked at; passed, it gives D.
 pub fn check_size(p: usize, list: &[u16]) -> Answered
-    ensures { λ r. ⌜ r ≡ checked (checks-1-to-6 p (now (list .entry)) passed) (largest-load p (appts (now (list .entry)))) ⌝ }
+    ensures { λ r. ⌜ r ≡ answered (checks-1-to-6 p (now (list .entry)) passed) (largest-load p (appts (now (list .entry)))) ⌝ }
 {
     let listed = check_list(p, list);
     if let Checked::Refused(number, place) = listed {
@@ -135,7 +135,7 @@ fn scratch_words(p: usize, d: usize) -> usize
 
 // Checks 1 to 8, of P, the list and the lengths of the slot buffer and of scratch; passed, it gives D.
 pub fn check_all(p: usize, list: &[u16], slots: usize, scratch: usize) -> Answered
-    ensures { λ r. ⌜ r ≡ checked (checks p (now (list .entry)) slots scratch) (largest-load p (appts (now (list .entry)))) ⌝ }
+    ensures { λ r. ⌜ r ≡ answered (checks p (now (list .entry)) slots scratch) (largest-load p (appts (now (list .entry)))) ⌝ }
 {
     let sized = check_size(p, list);
     let Answered::Accepted(d) = sized else {

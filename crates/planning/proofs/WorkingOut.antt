@@ -9,7 +9,7 @@ use lib.ListN.{length, take, drop, replicate, length-take, length-replicate, dro
 use Rattle.words.specs.Basics.{All}
 use Rattle.appointments.specs.Appointments.{Appt, appts}
 use Rattle.appointments.specs.Checks.{Check, passed}
-use Rattle.checking.specs.Checked.{checked}
+use Rattle.checking.specs.Checked.{answered}
 use Rattle.appointments.specs.Answers.{Answer, accepted, refused}
 use Rattle.appointments.specs.Lent.{Lent, lent-appts, lent-d, lent-words, lent-checks}
 use Rattle.appointments.specs.declared.Answered.{Answered}
@@ -17,7 +17,7 @@ use Rattle.appointments.specs.declared.Answered.the-variants.{Accepted, Refused
 use Rattle.appointments.proofs.Loads.{Listed, largest-load-empty}
 use Rattle.appointments.proofs.ChecksLaws.{Passes, passes-passed, good-goes-on}
 use Rattle.appointments.proofs.LentLaws.{lent-passes, lent-goes-on}
-use Rattle.checking.proofs.Answering.{checked-passed, checked-figure, checked-number, d-small}
+use Rattle.checking.proofs.Answering.{answered-passed, answered-figure, answered-number, d-small}
 use Rattle.bipartition.specs.TwoColor.{sides, not-bipartite, two-color}
 use Rattle.two_color.specs.Contract.{Colored}
 use Rattle.two_color.specs.declared.TwoColoring.the-variants.{Sides, NotBipartite}
@@ -126,14 +126,14 @@ module _ (l : Lent) where
   stated a slots scratch e f g = (e, (f, (g, rw (e, f) (demand-3 l))))
 
   abbrev pub Told : Answered → Type 0
-  Told c = c ≡ checked (lent-checks l passed) (lent-d l)
+  Told c = c ≡ answered (lent-checks l passed) (lent-d l)
 
   pub told-as : {r c : Answered} → r ≡ c → Told r → Told c
   told-as e t = sym e ∙ t
 
   module _ {number place : ℕ} (told : Told (Refused number place)) where
     barred : lent-checks l passed ≡ Check.refused number place
-    barred = checked-number (lent-checks l passed) (lent-d l) number place (sym told)
+    barred = answered-number (lent-checks l passed) (lent-d l) number place (sym told)
 
     answers : plan-answer l ≡ refused number place
     answers = barred-answer l number place barred
@@ -145,10 +145,10 @@ module _ (l : Lent) where
 
   module _ {D : ℕ} (told : Told (Accepted D)) where
     ok : lent-checks l passed ≡ passed
-    ok = checked-passed (lent-checks l passed) (lent-d l) D (sym told)
+    ok = answered-passed (lent-checks l passed) (lent-d l) D (sym told)
 
     figure : D ≡ lent-d l
-    figure = checked-figure (lent-checks l passed) (lent-d l) D (sym told)
+    figure = answered-figure (lent-checks l passed) (lent-d l) D (sym told)
 
     passes : Passes (l .parties) (l .list) (length (l .slots)) (length (l .scratch))
     passes = lent-passes l ok

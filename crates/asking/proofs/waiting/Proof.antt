@@ -3,8 +3,8 @@
 use mathlib.Core.Path.{_≡_, sym, _∙_}
 use lib.ListN.{length}
 use Rattle.appointments.specs.Checks.{passed, checks-with-slots}
-use Rattle.appointments.specs.declared.Checked.the-variants as checked
-use Rattle.checking.specs.Checked.{told}
+use Rattle.appointments.specs.declared.Checked.the-variants as Checked
+use Rattle.checking.specs.Checked.{checked}
 use Rattle.asking.proofs.WaitingSteps.{asked-refused, asked-5, asked-waits}
 use borrow.Author.Needs.{needs}
 use Rattle.asking.proofs.waiting.Statement.{statement}
@@ -12,15 +12,15 @@ use Rattle.asking.proofs.waiting.Tie as tie
 
 returns : tie.Need-returns
 returns c =
-    let checked = c .before .before .before in
-    let a = checked .before .before .before .args in
-    (asked-refused (a .p) (a .list .now) (a .slots .now) (a .party) _ _ (sym (checked .check-with-slots .ensures) ∙ c .before .listed .given .1), tt)
+    let decided = c .before .before .before in
+    let a = decided .before .before .before .args in
+    (asked-refused (a .p) (a .list .now) (a .slots .now) (a .party) _ _ (sym (decided .check-with-slots .ensures) ∙ c .before .listed .given .1), tt)
 
 -- the checks of the list and its slots have passed
 listed :
     (c : tie.After-enum-told) →
     let a = c .before .before .before .before .before .args in
-    told (checks-with-slots (a .p) (a .list .now) (length (a .slots .now)) passed) ≡ checked.Passed
+    checked (checks-with-slots (a .p) (a .list .now) (length (a .slots .now)) passed) ≡ Checked.Passed
 listed c = sym (c .before .before .check-with-slots .ensures) ∙ c .enum-told .given .1
 
 returns-2 : tie.Need-returns-2

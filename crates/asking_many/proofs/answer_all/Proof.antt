@@ -12,11 +12,11 @@ use Rattle.asking_many.proofs.answer_all.Statement.{statement}
 use Rattle.asking_many.proofs.answer_all.Tie as tie
 
 abbrev Inv-loop : tie.InvT-loop
-Inv-loop list slots parties output₀ loads lowest highest j₀ output j =
-    (j ≤ length parties) × ((length output ≡ length output₀) × (output ≡ filled (asked-of-all (appts list) slots parties) (3 * j) output₀))
+Inv-loop list slots queries output₀ loads lowest highest j₀ output j =
+    (j ≤ length queries) × ((length output ≡ length output₀) × (output ≡ filled (asked-of-all (appts list) slots queries) (3 * j) output₀))
 
 abbrev μ-loop : tie.MeasureT-loop
-μ-loop list slots parties output₀ loads lowest highest j₀ output j = length parties - j
+μ-loop list slots queries output₀ loads lowest highest j₀ output j = length queries - j
 
 loop-holds : tie.Need-loop-holds Inv-loop μ-loop
 loop-holds c = (omega arith, (refl, refl))
@@ -39,7 +39,7 @@ loop-again c =
       (
         search needs,
         answered .answer-query .ensures
-            ∙ answered-more (appts (a .list .now)) (a .slots .now) (a .parties .now) (a .output .now) (start .pre .1 .1) j _ _ _ _ (omega arith) (start .pre .1 .0 j (omega arith)) (at-loop .before .note-all .ensures) (at-loop .loop .inv .1 .1),
+            ∙ answered-more (appts (a .list .now)) (a .slots .now) (a .queries .now) (a .output .now) (start .pre .1 .1) j _ _ _ _ (omega arith) (start .pre .1 .0 j (omega arith)) (at-loop .before .enter-all .ensures) (at-loop .loop .inv .1 .1),
       ),
     )
 
@@ -49,7 +49,7 @@ returns c =
     let start = at-loop .before .before .before .before .before .before .before .before .before in
     let a = start .args in
     at-loop .loop .inv .1 .1
-    ∙ answered-all (appts (a .list .now)) (a .slots .now) (a .parties .now) (a .output .now) (start .pre .1 .1) (at-loop .loop .j) (omega arith)
+    ∙ answered-all (appts (a .list .now)) (a .slots .now) (a .queries .now) (a .output .now) (start .pre .1 .1) (at-loop .loop .j) (omega arith)
 
 pub answer-all-spec : {M : Type 1} → statement M
 answer-all-spec =

@@ -17,7 +17,7 @@ returns c =
     let lowest-told = c .before .before in
     let a = lowest-told .before .before .before .before .before .before .args in
     let at = 3 * a .j in
-    let v = word (a .parties .now) (a .j) in
+    let v = word (a .queries .now) (a .j) in
     let load = word (a .loads .now) v in
     let one = set (a .output .now) at load in
     ap (λ (n : ℕ). set (set one (at + 1) n) (at + 2) (c .or-none2 .result)) (lowest-told .or-none .ensures)

@@ -1,6 +1,5 @@
 -- `or_none` meets its contract: by the test that led to each answer. Assumes nothing.
 use borrow.Author.Tests.{eq-eqb, ne-eqb}
-use borrow.Author.Needs.{needs}
 use Rattle.asking_many.proofs.or_none.Statement.{statement}
 use Rattle.asking_many.proofs.or_none.Tie as tie
 

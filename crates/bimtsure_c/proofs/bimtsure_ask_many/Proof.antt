@@ -35,7 +35,7 @@ passes c = no-figure _ (sym (c .before .before .before .before .ask-many .ensure
 
 returns : tie.Need-returns
 returns c =
-    let says = passed-says _ (passes c) in
+    let says = passed-says _ tt (passes c) in
     (says .0, (says .1, c .before .before .before .before .ask-many .ensures .1))
 
 returns-2 : tie.Need-returns-2

@@ -4,7 +4,7 @@ use mathlib.Core.Path.{sym, _∙_, ap}
 use native.Mathlib.Omega.{arith}
 use Rattle.appointments.specs.Checks.{passed, checks-1-to-6}
 use Rattle.appointments.specs.declared.Answered.the-variants.{Accepted}
-use Rattle.checking.proofs.Answering.{checked-number, all-refused, refuses-7, refuses-8, passes-all, sized}
+use Rattle.checking.proofs.Answering.{answered-number, all-refused, refuses-7, refuses-8, passes-all, sized}
 use borrow.Author.Needs.{needs}
 use Rattle.checking.proofs.check_all.Statement.{statement}
 use Rattle.checking.proofs.check_all.Tie as tie
@@ -13,7 +13,7 @@ returns : tie.Need-returns
 returns c =
     let a = c .before .before .before .before .args in
     let h = sym (c .before .before .check-size .ensures) ∙ c .enum-told .given .1 in
-    let e = all-refused (a .p) (a .list .now) (a .slots) (a .scratch) _ _ (checked-number (checks-1-to-6 (a .p) (a .list .now) passed) _ _ _ h) in
+    let e = all-refused (a .p) (a .list .now) (a .slots) (a .scratch) _ _ (answered-number (checks-1-to-6 (a .p) (a .list .now) passed) _ _ _ h) in
     rw e (c .enum-told .given .1)
 
 returns-2 : tie.Need-returns-2

@@ -1,7 +1,7 @@
 -- `checking::check_ends` meets its contract: what the walk remembers is what the definition finds; 4 decides where there is a blank end, else 5. Assumes
 -- nothing.
 use mathlib.Core.Path.{sym, _∙_, ap}
-use Rattle.bad_ends.specs.Noted.{first-of}
+use Rattle.appointments.specs.Checks.{first-of}
 use borrow.Author.Needs.{needs}
 use Rattle.checking.proofs.check_ends.Statement.{statement}
 use Rattle.checking.proofs.check_ends.Tie as tie

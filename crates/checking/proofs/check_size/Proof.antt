@@ -4,21 +4,21 @@ use mathlib.Core.Path.{_≡_, sym, _∙_, ap}
 use native.Mathlib.Omega.{arith}
 use Rattle.appointments.specs.Checks.{passed, checks-1-to-5}
 use Rattle.appointments.specs.declared.Answered.the-variants.{Accepted}
-use Rattle.checking.proofs.Answering.{told-passed, told-number, still-refused, refuses-6, passes-6, countable, product-fits}
+use Rattle.checking.proofs.Answering.{checked-passed, checked-number, still-refused, refuses-6, passes-6, countable, product-fits}
 use borrow.Author.Needs.{needs}
 use Rattle.checking.proofs.check_size.Statement.{statement}
 use Rattle.checking.proofs.check_size.Tie as tie
 
 returns : tie.Need-returns
 returns c =
-    let checked = c .before .before .before in
-    let a = checked .before .before .args in
-    let h = sym (checked .check-list .ensures) ∙ c .before .listed .given .1 in
-    rw (still-refused (a .p) (a .list .now) _ _ (told-number (checks-1-to-5 (a .p) (a .list .now) passed) _ _ h))
+    let decided = c .before .before .before in
+    let a = decided .before .before .args in
+    let h = sym (decided .check-list .ensures) ∙ c .before .listed .given .1 in
+    rw (still-refused (a .p) (a .list .now) _ _ (checked-number (checks-1-to-5 (a .p) (a .list .now) passed) _ _ h))
 
 -- the list's own checks have passed
 listed : (c : tie.After-enum-told) → let a = c .before .before .before .before .args in checks-1-to-5 (a .p) (a .list .now) passed ≡ passed
-listed c = told-passed _ (sym (c .before .before .check-list .ensures) ∙ c .enum-told .given .1)
+listed c = checked-passed _ (sym (c .before .before .check-list .ensures) ∙ c .enum-told .given .1)
 
 largest-load-requires : tie.Need-largest-load-requires
 largest-load-requires c κs = let a = c .before .before .before .before .args in countable (a .p) (a .list .now) (listed c)

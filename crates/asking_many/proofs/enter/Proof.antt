@@ -1,10 +1,10 @@
--- `note` meets its contract: one entry of each table is changed. Assumes nothing.
+-- `enter` meets its contract: one entry of each table is changed. Assumes nothing.
 use Prim.Native.Nat.{ℕ}
 use mathlib.Core.Path.{refl, ap}
 use lib.ListN.{set}
 use borrow.Author.Needs.{needs}
-use Rattle.asking_many.proofs.note.Statement.{statement}
-use Rattle.asking_many.proofs.note.Tie as tie
+use Rattle.asking_many.proofs.enter.Statement.{statement}
+use Rattle.asking_many.proofs.enter.Tie as tie
 
 returns : tie.Need-returns
 returns c =
@@ -17,8 +17,8 @@ returns c =
       ),
     )
 
-pub note-spec : {M : Type 1} → statement M
-note-spec =
+pub enter-spec : {M : Type 1} → statement M
+enter-spec =
     tie.close
     (tie.spec
     (λ c. search needs)
