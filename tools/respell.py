@@ -134,7 +134,7 @@ def turn_antt(text, table, own, walk):
 
 
 def turn_use(line, table, own):
-    m = re.search(r"\buse\s+(" + PART + r"+(?:\." + PART + r"+)*)(\.\{([^}]*)\}|.*)$", line)
+    m = re.search(r"\buse\s+(" + PART + r"+(?:\." + PART + r"+)*)(\.\{([^}]*)\}|.*);?$", line)
     if not m:
         return line
     crate = re.match(r"Rattle\.(\w+)", m.group(1))

@@ -5,9 +5,9 @@ ghost use Rattle.std.specs.Prelude.{◌≡◌, ◌+◌, ◌*◌, ◌/◌, ◌^�
 ghost use Rattle.words.specs.Basics.{is};
 ghost use Rattle.words.specs.Words.{word};
 ghost use Rattle.appointments.specs.Appointments.{appts};
-ghost use Rattle.appointments.specs.Answers.{«answered-of»};
-ghost use Rattle.asking.specs.PartySlots.{«slots-of»};
-ghost use Rattle.asking.specs.Waiting.{waiting, «waiting-answer», «Waiting-fits»};
+ghost use Rattle.appointments.specs.Answers.{answered_of};
+ghost use Rattle.asking.specs.PartySlots.{slots_of};
+ghost use Rattle.asking.specs.Waiting.{waiting, waiting_answer, WaitingFits};
 ghost use Rattle.asking.specs.Noted.{Noted};
 
 use appointments::{Answered, Checked};

@@ -3,10 +3,10 @@
 ghost use Rattle.std.specs.Prelude.{◌≡◌, ℕ, ◌+◌, ◌*◌, ◌/◌, ◌<◌, ◌≤◌, min, max, leb, length, replicate, set, take};
 ghost use Rattle.words.specs.Words.{word};
 ghost use Rattle.appointments.specs.Appointments.{appts};
-ghost use Rattle.appointments.specs.Checks.{«first_of», «first-from»};
-ghost use Rattle.appointments.specs.Answers.{over, «checked-of»};
-ghost use Rattle.asking_many.specs.Many.{«or-none», «asked-of-all», «many-answer», «many-output»};
-ghost use Rattle.asking_many.specs.Tables.{Tables, Walkable, «put_three»};
+ghost use Rattle.appointments.specs.Checks.{first_of, first_from};
+ghost use Rattle.appointments.specs.Answers.{over, checked_of};
+ghost use Rattle.asking_many.specs.Many.{or_none, asked_of_all, many_answer, many_output};
+ghost use Rattle.asking_many.specs.Tables.{Tables, Walkable, put_three};
 
 use appointments::{Checked, Found};
 

@@ -2,9 +2,9 @@
 // P. The walk goes to the end of the list: after one kind of bad end the other may still come.
 ghost use Rattle.std.specs.Prelude.{◌≡◌, eqb};
 ghost use Rattle.appointments.specs.Appointments.{appts};
-ghost use Rattle.appointments.specs.Checks.{blank, «first_of», unlisted};
-ghost use Rattle.appointments.specs.BadEnds.{«First-bad-ends»};
-ghost use Rattle.bad_ends.specs.Noted.{noted, «kept-first»};
+ghost use Rattle.appointments.specs.Checks.{blank, first_of, unlisted};
+ghost use Rattle.appointments.specs.BadEnds.{FirstBadEnds};
+ghost use Rattle.bad_ends.specs.Noted.{noted, kept_first};
 
 use appointments::Found;
 

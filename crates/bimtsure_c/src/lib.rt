@@ -2,17 +2,17 @@
 // the answer's enum into numbers, and says that they are the definitions', for acceptance and for every refusal.
 // host/include/bimtsure.h declares them.
 ghost use Rattle.std.specs.Prelude.{◌≡◌};
-ghost use Rattle.appointments.specs.Needed.{«needs-answer», «d-of», «words_of»};
-ghost use Rattle.planning.specs.Planning.{«plan-answer», «plan-slots», «plan-scratch»};
-ghost use Rattle.planning.specs.Demand3.{«Demand-3»};
-ghost use Rattle.bimtsure_c.specs.Planned.{«answer-by»};
-ghost use Rattle.appointments.specs.Answers.{«number_of», «place_of», «figure-of»};
+ghost use Rattle.appointments.specs.Needed.{needs_answer, d_of, words_of};
+ghost use Rattle.planning.specs.Planning.{plan_answer, plan_slots, plan_scratch};
+ghost use Rattle.planning.specs.Demand3.{Demand3};
+ghost use Rattle.bimtsure_c.specs.Planned.{answer_by};
+ghost use Rattle.appointments.specs.Answers.{number_of, place_of, figure_of};
 ghost use Rattle.appointments.specs.Lent.{lent};
-ghost use Rattle.asking.specs.Waiting.{«waiting-answer»};
-ghost use Rattle.asking_many.specs.Many.{«many-answer», «many-output»};
-ghost use Rattle.filing.specs.Filed.{«writing-answer», «writing-output», «reading-answer», «reading-list», «reading-slots», «parties-of», «appointments-of»};
-ghost use Rattle.viewing.specs.Viewer.{«viewer-answer», «view-step», «view-next»};
-ghost use Rattle.bimtsure_c.specs.Viewed.{«if-open», «found_of», «position-of», «slot_of», «shown-found», «shown-position», «shown-slot», «shown-next»};
+ghost use Rattle.asking.specs.Waiting.{waiting_answer};
+ghost use Rattle.asking_many.specs.Many.{many_answer, many_output};
+ghost use Rattle.filing.specs.Filed.{writing_answer, writing_output, reading_answer, reading_list, reading_slots, parties_of, appointments_of};
+ghost use Rattle.viewing.specs.Viewer.{viewer_answer, view_step, view_next};
+ghost use Rattle.bimtsure_c.specs.Viewed.{if_open, found_of, position_of, slot_of, shown_found, shown_position, shown_slot, shown_next};
 
 use appointments::{Answered, Checked, Needed};
 use filing::Read;

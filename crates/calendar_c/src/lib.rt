@@ -2,8 +2,8 @@
 // numbers, and says that they are the definitions', for acceptance and for every refusal. host/include/bimtsure_calendar.h declares
 // them.
 ghost use Rattle.std.specs.Prelude.{◌≡◌};
-ghost use Rattle.appointments.specs.Answers.{«number_of», «place_of», «figure-of»};
-ghost use Rattle.calendar.specs.Calendar.{«clock-answer», «day-of», «hours-of», «minutes-of», «slot-answer»};
+ghost use Rattle.appointments.specs.Answers.{number_of, place_of, figure_of};
+ghost use Rattle.calendar.specs.Calendar.{clock_answer, day_of, hours_of, minutes_of, slot_answer};
 
 use appointments::Answered;
 use calendar::Clocked;

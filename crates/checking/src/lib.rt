@@ -1,11 +1,11 @@
 // Checks 1 to 8 of a list of appointments, and how much scratch it needs. Scratch is not touched before check 8 has passed, so loads stand in a local array.
 ghost use Rattle.std.specs.Prelude.{◌≡◌, ℕ, ◌+◌, ◌*◌, ◌%◌, ◌<◌, ◌≤◌, length};
 ghost use Rattle.words.specs.Basics.{count};
-ghost use Rattle.words.specs.Words.{word, «put_word»};
-ghost use Rattle.appointments.specs.Appointments.{appts, «largest-load», «scratch-words»};
-ghost use Rattle.appointments.specs.Checks.{«check-ends», «checks-1-to-5», «checks-with-slots», «checks-1-to-6», checks, passed};
-ghost use Rattle.checking.specs.Checked.{checked, answered, «largest-word», «Words-fit»};
-ghost use Rattle.appointments.specs.Needed.{«needs-answer», «needed_of»};
+ghost use Rattle.words.specs.Words.{word, put_word};
+ghost use Rattle.appointments.specs.Appointments.{appts, largest_load, scratch_words};
+ghost use Rattle.appointments.specs.Checks.{check_ends, checks_1_to_5, checks_with_slots, checks_1_to_6, checks, passed};
+ghost use Rattle.checking.specs.Checked.{checked, answered, largest_word, WordsFit};
+ghost use Rattle.appointments.specs.Needed.{needs_answer, needed_of};
 
 use appointments::{Answered, Checked, Found, Needed};
 use bad_ends::first_bad_ends;

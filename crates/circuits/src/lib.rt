@@ -6,11 +6,11 @@
 //
 // Ported from rustworkx-core, `rbmg_split_into_two` in bipartite_coloring.rs (Apache License 2.0, see NOTICE).
 ghost use Rattle.std.specs.Prelude.{◌≡◌, ℕ, ◌+◌, ◌*◌, ◌-◌, ◌/◌, ◌<◌, ◌≤◌, length};
-ghost use Rattle.words.specs.Words.{«word-limit»};
-ghost use Rattle.circuits.specs.Model.{Lies, twoStartM, twoSiftM, twoSiftAllM, twoNoteM, twoFillM};
-ghost use Rattle.circuits.specs.Model.{twoStepM, twoCircuitM, twoFromM, twoWalkM, splitTwoM, fewSumM};
-ghost use Rattle.circuits.specs.Bounds.{«Two-sifts», «Two-sifts-all», «Two-notes», «Two-fills», «Two-steps», «Two-circuits»};
-ghost use Rattle.circuits.specs.Bounds.{«Two-froms», «Two-walks», «Two-splits»};
+ghost use Rattle.words.specs.Words.{word_limit};
+ghost use Rattle.circuits.specs.Model.{Lies, two_start_m, two_sift_m, two_sift_all_m, two_note_m, two_fill_m};
+ghost use Rattle.circuits.specs.Model.{two_step_m, two_circuit_m, two_from_m, two_walk_m, split_two_m, few_sum_m};
+ghost use Rattle.circuits.specs.Bounds.{TwoSifts, TwoSiftsAll, TwoNotes, TwoFills, TwoSteps, TwoCircuits};
+ghost use Rattle.circuits.specs.Bounds.{TwoFroms, TwoWalks, TwoSplits};
 
 use euler::{head, many, push};
 use multigraph::end_of;

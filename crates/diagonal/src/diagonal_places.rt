@@ -2,9 +2,9 @@
 // left i and right i; its pair's number goes to `diag + i`. Each party's place stands at `b` plus the party. Of a graph with m pairs
 // the numbers from m on are free: the row m + i of the table of ends is place i's own.
 ghost use Rattle.std.specs.Prelude.{◌≡◌, ◌+◌, ◌<◌};
-ghost use Rattle.words.specs.Words.{word, «word-limit»};
-ghost use Rattle.diagonal.specs.Contract.{«Can-diagonal», «Diagonal-set»};
-ghost use Rattle.diagonal.specs.DiagonalPlaces.{begun, Begins, «Diag-small», «Diag-fit», Begun, Looks, «Looked-at», «Diag-ready», Looked};
+ghost use Rattle.words.specs.Words.{word, word_limit};
+ghost use Rattle.diagonal.specs.Contract.{CanDiagonal, DiagonalSet};
+ghost use Rattle.diagonal.specs.DiagonalPlaces.{begun, Begins, DiagSmall, DiagFit, Begun, Looks, LookedAt, DiagReady, Looked};
 
 use list_pairs::Bases;
 use list_pairs::ends::same_ends;

@@ -3,7 +3,7 @@
 //
 // Ported from rustworkx-core, the first half of `bipartite_edge_color_given_partition` in bipartite_coloring.rs (Apache License 2.0, see NOTICE).
 ghost use Rattle.std.specs.Prelude.{◌≡◌, ◌+◌, ◌*◌, ◌≤◌};
-ghost use Rattle.diagonal.specs.Contract.{«Can-diagonal», «Diagonal-set»};
+ghost use Rattle.diagonal.specs.Contract.{CanDiagonal, DiagonalSet};
 
 use crate::diagonal_places::diagonal_at;
 use list_pairs::Bases;

@@ -5,10 +5,10 @@
 //
 // Ported from rustworkx-core, `rbmg_edge_color_when_power_of_two` and `rbmg_edge_color` in bipartite_coloring.rs (Apache License 2.0, see NOTICE).
 ghost use Rattle.std.specs.Prelude.{◌≡◌, ◌+◌, ◌*◌, ◌-◌, ◌^◌, ◌<◌, ◌≤◌};
-ghost use Rattle.words.specs.Words.{«word-limit»};
-ghost use Rattle.multigraph.specs.Places.{«Adds-matching», «Removes-matching»};
-ghost use Rattle.words.specs.PowersOfTwo.{«log-up»};
-ghost use Rattle.edge_color.specs.Room.{«Power-fits», «Power-colored», «Color-fits», «Aside-stored», Colored};
+ghost use Rattle.words.specs.Words.{word_limit};
+ghost use Rattle.multigraph.specs.Places.{AddsMatching, RemovesMatching};
+ghost use Rattle.words.specs.PowersOfTwo.{log_up};
+ghost use Rattle.edge_color.specs.Room.{PowerFits, PowerColored, ColorFits, AsideStored, Colored};
 
 use mark::Mark;
 use matching::Table;

@@ -4,8 +4,8 @@
 //
 // Ported from rustworkx-core, `rbmg_split_into_two` in bipartite_coloring.rs (Apache License 2.0, see NOTICE).
 ghost use Rattle.std.specs.Prelude.{◌≡◌, ℕ, ◌+◌, ◌*◌, ◌<◌, ◌≤◌, length};
-ghost use Rattle.words.specs.Words.{«word-limit»};
-ghost use Rattle.euler.specs.Entries.{manyM, pushM, headM};
+ghost use Rattle.words.specs.Words.{word_limit};
+ghost use Rattle.euler.specs.Entries.{many_m, push_m, head_m};
 
 use words::set_word;
 

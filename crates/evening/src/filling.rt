@@ -1,10 +1,10 @@
 // Evening out: module 8, "from the first left and first right party below D, the smaller shortfall is added as copies, moving on when
 // a party is full". A party's degree stands in its counter of the rows: at first that is how many half-edges it has.
 ghost use Rattle.std.specs.Prelude.{◌≡◌, ◌+◌, ◌-◌, ◌<◌, min};
-ghost use Rattle.words.specs.Words.{«word-limit»};
-ghost use Rattle.evening.specs.Contract.{«Can-even», «Evened-out»};
-ghost use Rattle.list_pairs.specs.Adding.{«Has-place»};
-ghost use Rattle.evening.specs.Filling.{«Fill-small», «Pair-found», Filled, «Step-taken»};
+ghost use Rattle.words.specs.Words.{word_limit};
+ghost use Rattle.evening.specs.Contract.{CanEven, EvenedOut};
+ghost use Rattle.list_pairs.specs.Adding.{HasPlace};
+ghost use Rattle.evening.specs.Filling.{FillSmall, PairFound, Filled, StepTaken};
 
 use list_pairs::Bases;
 use list_pairs::adding::add_pair;

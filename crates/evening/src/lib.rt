@@ -4,7 +4,7 @@
 //
 // Ported from rustworkx-core, the first half of `bipartite_edge_color_given_partition` in bipartite_coloring.rs (Apache License 2.0, see NOTICE).
 ghost use Rattle.std.specs.Prelude.{◌≡◌, ◌+◌, ◌*◌, ◌≤◌};
-ghost use Rattle.evening.specs.Contract.{«Can-pad», «Sides-padded», «Can-even», «Evened-out»};
+ghost use Rattle.evening.specs.Contract.{CanPad, SidesPadded, CanEven, EvenedOut};
 
 use crate::filling::even_at;
 use crate::sides::{larger, pad_side};

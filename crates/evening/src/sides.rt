@@ -1,6 +1,6 @@
 // New parties on the shorter side: module 8, "new parties, numbered on from P, are appended to the shorter side".
 ghost use Rattle.std.specs.Prelude.{◌≡◌, max};
-ghost use Rattle.evening.specs.Sides.{«Can-pad-side», Padding};
+ghost use Rattle.evening.specs.Sides.{CanPadSide, Padding};
 
 use words::put;
 

@@ -1,10 +1,10 @@
 // Document 01's filed plan: writing it as bytes, and reading it back.
 ghost use Rattle.std.specs.Prelude.{◌≡◌, ◌+◌, ◌*◌, ◌/◌, ◌<◌, ◌≤◌, length, get_or};
 ghost use Rattle.words.specs.Words.{filled};
-ghost use Rattle.appointments.specs.Answers.{«answered-of»};
-ghost use Rattle.filing.specs.Filed.{«numbers_of», «filed-bytes», «filed-rows», «rows-list», «rows-slots», «writing-answer», «writing-output», «reading-answer», «reading-list», «reading-slots»};
-ghost use Rattle.filing.specs.Buffers.{«put-number», «put-row», «take_row», «take-slot»};
-ghost use Rattle.filing.specs.Told.{«read_of»};
+ghost use Rattle.appointments.specs.Answers.{answered_of};
+ghost use Rattle.filing.specs.Filed.{numbers_of, filed_bytes, filed_rows, rows_list, rows_slots, writing_answer, writing_output, reading_answer, reading_list, reading_slots};
+ghost use Rattle.filing.specs.Buffers.{put_number, put_row, take_row, take_slot};
+ghost use Rattle.filing.specs.Told.{read_of};
 
 use appointments::Answered;
 

@@ -6,8 +6,8 @@
 // Ported from rustworkx-core, `bipartite_edge_color_given_partition` in bipartite_coloring.rs (Apache License 2.0, see NOTICE).
 ghost use Rattle.std.specs.Prelude.{◌≡◌, ℕ, zero, ◌+◌, ◌*◌, ◌<◌, ◌≤◌, length};
 ghost use Rattle.appointments.specs.Appointments.{appts};
-ghost use Rattle.edge_color.specs.Room.{«Color-fits», Colored};
-ghost use Rattle.given_partition.specs.Steps.{«left-side», «right_side», Sided, Prepared, «Slots-planned»};
+ghost use Rattle.edge_color.specs.Room.{ColorFits, Colored};
+ghost use Rattle.given_partition.specs.Steps.{left_side, right_side, Sided, Prepared, SlotsPlanned};
 
 use list_pairs::Bases;
 use mark::Mark;

@@ -1,8 +1,8 @@
 // Copies are added to a pair, or the pair is new: `add_edge` of module 1, in a graph in which the entry at place i has number i, so
 // that a pair's number is its place. The graph at g: a header, how many pairs it has, and for each its number and its copies.
 ghost use Rattle.std.specs.Prelude.{◌≡◌, ◌+◌, ◌*◌, ◌<◌, length};
-ghost use Rattle.words.specs.Words.{word, «put_word», «word-limit»};
-ghost use Rattle.list_pairs.specs.Adding.{pushed, «Has-place», «Adds-pair»};
+ghost use Rattle.words.specs.Words.{word, put_word, word_limit};
+ghost use Rattle.list_pairs.specs.Adding.{pushed, HasPlace, AddsPair};
 
 use words::{EdgeIndex, NodeIndex, set_word, word_at};
 

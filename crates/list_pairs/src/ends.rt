@@ -1,7 +1,7 @@
 // Has an appointment, or a pair, two given ends, whichever way round? The answer is 1 or 0.
 ghost use Rattle.std.specs.Prelude.{◌+◌, ◌*◌, ◌<◌, length};
-ghost use Rattle.words.specs.Words.{«word-limit»};
-ghost use Rattle.multigraph.specs.Regular.{«Same-ends»};
+ghost use Rattle.words.specs.Words.{word_limit};
+ghost use Rattle.multigraph.specs.Regular.{SameEnds};
 ghost use Rattle.list_pairs.specs.Ends.{Says, Earlier, Joins};
 
 use words::{get16, word16_at};

@@ -1,8 +1,8 @@
 // The pairs of the list, one appointment after the other: module 8, "pairs from the list".
 ghost use Rattle.std.specs.Prelude.{◌≡◌, ◌+◌, ◌/◌, ◌<◌, length};
-ghost use Rattle.words.specs.Words.{«put_word», «word-limit»};
-ghost use Rattle.list_pairs.specs.Contract.{«Can-pair», «Pairs-made»};
-ghost use Rattle.list_pairs.specs.FromList.{«pair_of», Building, Built};
+ghost use Rattle.words.specs.Words.{put_word, word_limit};
+ghost use Rattle.list_pairs.specs.Contract.{CanPair, PairsMade};
+ghost use Rattle.list_pairs.specs.FromList.{pair_of, Building, Built};
 
 use crate::Bases;
 use crate::adding::add_pair;

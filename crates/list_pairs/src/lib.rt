@@ -6,7 +6,7 @@
 //
 // Ported from rustworkx-core, the first half of `bipartite_edge_color_given_partition` in bipartite_coloring.rs (Apache License 2.0, see NOTICE).
 ghost use Rattle.std.specs.Prelude.{◌≡◌, ◌+◌, ◌*◌, ◌≤◌};
-ghost use Rattle.list_pairs.specs.Contract.{«Can-pair», «Pairs-made»};
+ghost use Rattle.list_pairs.specs.Contract.{CanPair, PairsMade};
 
 use crate::from_list::pairs_at;
 use mark::Mark;

@@ -3,8 +3,8 @@
 // `map`, has for each other end met in the row the first appointment with it. The map isn't cleared between two rows: what stands in
 // it is looked at. The representative of appointment i goes to `apair + i`, where later its pair's number will stand.
 ghost use Rattle.std.specs.Prelude.{◌≡◌, ◌<◌};
-ghost use Rattle.words.specs.Words.{«word-limit»};
-ghost use Rattle.list_pairs.specs.Representatives.{mate, Finds, «Rep-found», «Reps-fit», «Row-done», «Reps-done»};
+ghost use Rattle.words.specs.Words.{word_limit};
+ghost use Rattle.list_pairs.specs.Representatives.{mate, Finds, RepFound, RepsFit, RowDone, RepsDone};
 
 use crate::ends::earlier;
 use crate::rows::RowBases;

@@ -1,8 +1,8 @@
 // Rows of half-edges. A position `h` of the flat list is a half-edge of the party that stands there: appointment i has the half-edges
 // 2·i and 2·i + 1. A party's half-edges lie side by side in its row, in list order, and a counter says how many they are.
 ghost use Rattle.std.specs.Prelude.{◌≡◌, ◌+◌, ◌*◌, ◌<◌, ◌≤◌, length};
-ghost use Rattle.words.specs.Words.{word, «put_word», «word-limit»};
-ghost use Rattle.list_pairs.specs.Rows.{Cleared, Pushes, «row_pushed», «Rows-fit», «Rows-filled»};
+ghost use Rattle.words.specs.Words.{word, put_word, word_limit};
+ghost use Rattle.list_pairs.specs.Rows.{Cleared, Pushes, row_pushed, RowsFit, RowsFilled};
 
 use words::{NodeIndex, set_word, word_at, word16_at};
 

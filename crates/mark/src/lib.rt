@@ -1,6 +1,6 @@
 // The scratch mark: one small record of how many words of the scratch are taken, lent to each step, which changes it.
 ghost use Rattle.std.specs.Prelude.{◌≡◌, ◌+◌, ◌≤◌};
-ghost use Rattle.mark.specs.Taking.{«taken_more», «given_back»};
+ghost use Rattle.mark.specs.Taking.{taken_more, given_back};
 
 // How many words are taken, all of them at the start of the scratch, and how many there are.
 #[derive(Drop)]

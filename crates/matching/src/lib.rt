@@ -4,13 +4,13 @@
 //
 // Ported from rustworkx-core, `rbmg_find_perfect_matching` in bipartite_coloring.rs (Apache License 2.0, see NOTICE).
 ghost use Rattle.std.specs.Prelude.{◌≡◌, ℕ, ◌+◌, ◌*◌, ◌-◌, ◌/◌, ◌^◌, ◌<◌, ◌≤◌, length};
-ghost use Rattle.words.specs.Words.{word, «put_word», «word-limit»};
-ghost use Rattle.multigraph.specs.Stored.{«graph_at»};
-ghost use Rattle.multigraph.specs.Places.{size, «Adds-edge»};
-ghost use Rattle.perfect_matching.specs.Matching.{«flagged-pairs»};
-ghost use Rattle.words.specs.PowersOfTwo.{«log-up»};
-ghost use Rattle.matching.specs.Choosing.{«flagged-by», «flagged-entry», Whole, fewer, Chooses, Copies, «Copying», «Can-copy», «Inside-both», «Side-by-side», «Goes_on»};
-ghost use Rattle.matching.specs.Searched.{«Adds-diagonal», «Builds-graph», «Can-halve», Halved, «Can-halve-all», «Halved-all», «Can-search», «Search-done», «Searches-done», «Reads-matching», «Can-find», «Matching-found»};
+ghost use Rattle.words.specs.Words.{word, put_word, word_limit};
+ghost use Rattle.multigraph.specs.Stored.{graph_at};
+ghost use Rattle.multigraph.specs.Places.{size, AddsEdge};
+ghost use Rattle.perfect_matching.specs.Matching.{flagged_pairs};
+ghost use Rattle.words.specs.PowersOfTwo.{log_up};
+ghost use Rattle.matching.specs.Choosing.{flagged_by, flagged_entry, Whole, fewer, Chooses, Copies, Copying, CanCopy, InsideBoth, SideBySide, GoesOn};
+ghost use Rattle.matching.specs.Searched.{AddsDiagonal, BuildsGraph, CanHalve, Halved, CanHalveAll, HalvedAll, CanSearch, SearchDone, SearchesDone, ReadsMatching, CanFind, MatchingFound};
 
 use mark::Mark;
 use words::{EdgeIndex, get, put, set_word, word_at};

@@ -6,9 +6,9 @@
 //
 // Ported from rustworkx-core, `RegularBipartiteMultiGraph` in bipartite_coloring.rs (Apache License 2.0, see NOTICE).
 ghost use Rattle.std.specs.Prelude.{◌≡◌, ℕ, ◌+◌, ◌*◌, ◌-◌, ◌<◌, ◌≤◌, length, take, drop};
-ghost use Rattle.words.specs.Words.{word, «put_word», «word-limit»};
-ghost use Rattle.multigraph.specs.Places.{size, «copies_of», «Maps-places», «Adds-edge», «Adds-matching», «Removes-matching»};
-ghost use Rattle.multigraph.specs.Steps.{Writes, «less-of», «rest-words», «rest-next», «Copies-rest»};
+ghost use Rattle.words.specs.Words.{word, put_word, word_limit};
+ghost use Rattle.multigraph.specs.Places.{size, copies_of, MapsPlaces, AddsEdge, AddsMatching, RemovesMatching};
+ghost use Rattle.multigraph.specs.Steps.{Writes, less_of, rest_words, rest_next, CopiesRest};
 
 use words::{EdgeIndex, NodeIndex, get, put};
 

@@ -6,10 +6,10 @@ ghost use Rattle.std.specs.Prelude.{◌≡◌, ℕ, zero, ◌+◌, ◌*◌, ◌<
 ghost use Rattle.appointments.specs.Appointments.{appts};
 ghost use Rattle.appointments.specs.Lent.{lent};
 ghost use Rattle.given_partition.specs.Steps.{Ready};
-ghost use Rattle.planning.specs.Planning.{«plan-answer», «plan-slots», «plan-scratch»};
-ghost use Rattle.planning.specs.Demand3.{«Demand-3»};
-ghost use Rattle.planning.specs.Told.{«answer-of»};
-ghost use Rattle.planning.specs.Steps.{«Worked-out»};
+ghost use Rattle.planning.specs.Planning.{plan_answer, plan_slots, plan_scratch};
+ghost use Rattle.planning.specs.Demand3.{Demand3};
+ghost use Rattle.planning.specs.Told.{answer_of};
+ghost use Rattle.planning.specs.Steps.{WorkedOut};
 
 use appointments::Answered;
 use two_color::TwoColoring;

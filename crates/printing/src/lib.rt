@@ -2,8 +2,8 @@
 // and gives the place behind them.
 ghost use Rattle.std.specs.Prelude.{◌≡◌, [], ◌∷◌, ◌+◌, ◌*◌, ◌<◌, length};
 ghost use Rattle.appointments.specs.Appointments.{appts};
-ghost use Rattle.printing.specs.Printing.{decimal, «party-line», «appointment-lines», «party-lines», «plan-lines», «refusal-line»};
-ghost use Rattle.printing.specs.Placed.{Placed, Printed, Room, field, «appointment-line-at»};
+ghost use Rattle.printing.specs.Printing.{decimal, party_line, appointment_lines, party_lines, plan_lines, refusal_line};
+ghost use Rattle.printing.specs.Placed.{Placed, Printed, Room, field, appointment_line_at};
 
 // Puts one byte.
 fn put_byte(out: &mut [u8], at: usize, byte: u8) -> usize

@@ -1,8 +1,8 @@
 // What main reads: the line of P, then a line for each appointment.
 ghost use Rattle.std.specs.Prelude.{◌≡◌, ◌+◌, ◌<◌, ◌≤◌, length, set};
-ghost use Rattle.words.specs.Ascii.{«line-feed»};
-ghost use Rattle.reading.specs.Reading.{parts, «digits_value», number, «end_of», «appointment-of», «read-lines», «read-text», «read-input»};
-ghost use Rattle.reading.specs.Told.{«First-at», «value_of», «ends_of», «Next-line», «Read-as»};
+ghost use Rattle.words.specs.Ascii.{line_feed};
+ghost use Rattle.reading.specs.Reading.{parts, digits_value, number, end_of, appointment_of, read_lines, read_text, read_input};
+ghost use Rattle.reading.specs.Told.{FirstAt, value_of, ends_of, NextLine, ReadAs};
 
 // The value of a text, or nothing if it is malformed.
 #[derive(Drop)]

@@ -4,7 +4,7 @@
 // numbers are cut to 16 bits.
 ghost use Rattle.std.specs.Prelude.{◌≡◌, [], ◌∷◌, ◌+◌, ◌<◌, ◌≤◌, length};
 ghost use Rattle.appointments.specs.Lent.{lent};
-ghost use Rattle.replay.specs.Stored.{Decides, «answer-told»};
+ghost use Rattle.replay.specs.Stored.{Decides, answer_told};
 
 use libc::{STDIN_FILENO, STDOUT_FILENO};
 use planning::Answer;

@@ -3,9 +3,9 @@
 //
 // Ported from rustworkx-core, `euler_cycles` in bipartite_coloring.rs (Apache License 2.0, see NOTICE).
 ghost use Rattle.std.specs.Prelude.{◌≡◌, ℕ, ◌<◌, ◌≤◌};
-ghost use Rattle.words.specs.Words.{«word-limit»};
-ghost use Rattle.rings.specs.Model.{Fits, appendM, startRingM, startM, siftM, siftAllM, ringEndM, endsM, fillM};
-ghost use Rattle.rings.specs.Bounds.{Appends, Sifts, «Sifts-all», «Rings-end», «Fills-ends», Fills};
+ghost use Rattle.words.specs.Words.{word_limit};
+ghost use Rattle.rings.specs.Model.{Fits, append_m, start_ring_m, start_m, sift_m, sift_all_m, ring_end_m, ends_m, fill_m};
+ghost use Rattle.rings.specs.Bounds.{Appends, Sifts, SiftsAll, RingsEnd, FillsEnds, Fills};
 
 use multigraph::end_of;
 use words::{EdgeIndex, NodeIndex, set_word, word_at};

@@ -11,8 +11,8 @@
 //
 // Ported from rustworkx-core, the second half of `bipartite_edge_color_given_partition` in bipartite_coloring.rs (Apache License 2.0, see NOTICE).
 ghost use Rattle.std.specs.Prelude.{◌≡◌, ◌+◌, ◌*◌, ◌<◌, ◌≤◌, length};
-ghost use Rattle.words.specs.Words.{word, «put_word», «word-limit»};
-ghost use Rattle.slot_chains.specs.Steps.{pushed, «matching-pushed», «all-pushed»};
+ghost use Rattle.words.specs.Words.{word, put_word, word_limit};
+ghost use Rattle.slot_chains.specs.Steps.{pushed, matching_pushed, all_pushed};
 
 use multigraph::matching;
 use words::{EdgeIndex, get, put};

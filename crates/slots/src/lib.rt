@@ -6,9 +6,9 @@
 //
 // Ported from rustworkx-core, the second half of `bipartite_edge_color_given_partition` in bipartite_coloring.rs (Apache License 2.0, see NOTICE).
 ghost use Rattle.std.specs.Prelude.{◌≡◌, ◌+◌, ◌*◌, ◌<◌, ◌≤◌, length};
-ghost use Rattle.words.specs.Words.{word, «word-limit»};
-ghost use Rattle.slots.specs.Stored.{«Gives-slots»};
-ghost use Rattle.slot_chains.specs.Steps.{«taken-words», «taken-slots», «given-words», «given-slots»};
+ghost use Rattle.words.specs.Words.{word, word_limit};
+ghost use Rattle.slots.specs.Stored.{GivesSlots};
+ghost use Rattle.slot_chains.specs.Steps.{taken_words, taken_slots, given_words, given_slots};
 
 use slot_chains::{first_link, push_all, set_first_link};
 use words::{EdgeIndex, get, put16};

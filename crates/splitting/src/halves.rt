@@ -1,10 +1,10 @@
 // A half of a split, written entry by entry: first the pairs of 2 copies or more, with half their copies and one more where the
 // walk has marked them for this half, then those of one copy, as the walk has dealt them.
 ghost use Rattle.std.specs.Prelude.{◌≡◌, ℕ, ◌+◌, ◌*◌, ◌-◌, ◌/◌, ◌<◌, ◌≤◌};
-ghost use Rattle.words.specs.Words.{«word-limit»};
+ghost use Rattle.words.specs.Words.{word_limit};
 ghost use Rattle.rings.specs.Model.{Fits};
-ghost use Rattle.splitting.specs.Model.{moreM, entryM, entriesM, singleM, singlesM, halfM};
-ghost use Rattle.splitting.specs.Bounds.{«Entry-fits», «Entries-fit», «Single-fits», «Singles-fit», «Half-fits»};
+ghost use Rattle.splitting.specs.Model.{more_m, entry_m, entries_m, single_m, singles_m, half_m};
+ghost use Rattle.splitting.specs.Bounds.{EntryFits, EntriesFit, SingleFits, SinglesFit, HalfFits};
 
 use euler::{head, many, push};
 use rings::Rings;

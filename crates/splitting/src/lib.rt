@@ -3,12 +3,12 @@
 //
 // Ported from rustworkx-core, `rbmg_split_into_two` in bipartite_coloring.rs (Apache License 2.0, see NOTICE).
 ghost use Rattle.std.specs.Prelude.{◌≡◌, ℕ, ◌+◌, ◌*◌, ◌<◌, ◌≤◌};
-ghost use Rattle.words.specs.Words.{«word-limit»};
+ghost use Rattle.words.specs.Words.{word_limit};
 ghost use Rattle.rings.specs.Model.{Fits};
-ghost use Rattle.splitting.specs.Model.{splitM};
-ghost use Rattle.splitting.specs.Bounds.{«Split-fits»};
-ghost use Rattle.euler.specs.Room.{Splits, «Halves-stored»};
-ghost use Rattle.mark.specs.Taking.{«taken_more»};
+ghost use Rattle.splitting.specs.Model.{split_m};
+ghost use Rattle.splitting.specs.Bounds.{SplitFits};
+ghost use Rattle.euler.specs.Room.{Splits, HalvesStored};
+ghost use Rattle.mark.specs.Taking.{taken_more};
 
 use circuits::Two;
 use mark::Mark;

@@ -1,8 +1,8 @@
 // Single steps of the planner, exported so that the host can hold them beside the Rust's. No part of the product.
 ghost use Rattle.std.specs.Prelude.{◌≡◌, ◌%◌, ◌+◌, ◌*◌};
-ghost use Rattle.words.specs.Words.{«word-limit»};
-ghost use Rattle.steps_c.specs.Compared.{«Two-colored», «refusal-number»};
-ghost use Rattle.euler.specs.Room.{Splits, «Halves-stored»};
+ghost use Rattle.words.specs.Words.{word_limit};
+ghost use Rattle.steps_c.specs.Compared.{TwoColored, refusal_number};
+ghost use Rattle.euler.specs.Room.{Splits, HalvesStored};
 
 use appointments::Answered;
 use mark::Mark;

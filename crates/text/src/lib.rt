@@ -4,7 +4,7 @@ ghost use Rattle.std.specs.Prelude.{◌≡◌, ◌≤◌, length, take};
 ghost use Rattle.appointments.specs.Answers.{over};
 ghost use Rattle.reading.specs.Reading.{input};
 ghost use Rattle.printing.specs.Printing.{printed};
-ghost use Rattle.text.specs.Text.{«input-report», «text-output»};
+ghost use Rattle.text.specs.Text.{input_report, text_output};
 ghost use Rattle.printing.specs.Placed.{Printed};
 
 use planning::Answer;

@@ -5,8 +5,8 @@
 //
 // Ported from rustworkx-core, `two_color` in coloring.rs (Apache License 2.0, see NOTICE).
 ghost use Rattle.std.specs.Prelude.{◌≡◌, ◌+◌, ◌*◌, ◌≤◌};
-ghost use Rattle.mark.specs.Taking.{«taken_more»};
-ghost use Rattle.two_color.specs.Contract.{«Can-color», Colored};
+ghost use Rattle.mark.specs.Taking.{taken_more};
+ghost use Rattle.two_color.specs.Contract.{CanColor, Colored};
 
 use mark::Mark;
 use two_color_steps::{all_steps, prepare};

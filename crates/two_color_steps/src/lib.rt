@@ -14,9 +14,9 @@
 //
 // Ported from rustworkx-core, `two_color` in coloring.rs (Apache License 2.0, see NOTICE).
 ghost use Rattle.std.specs.Prelude.{◌≡◌, ◌+◌, ◌*◌, ◌/◌, ◌<◌, ◌≤◌, length};
-ghost use Rattle.words.specs.Words.{word, «word-limit»};
-ghost use Rattle.two_color_steps.specs.Model.{Small, appendM, clearStateM, startPartyM, startPartiesM, pushEndM, fillRowsM, colorPartyM, touchM, lookM, touchAllM, takeOffM, nextPartyM, step_m, stepsM, prepareM};
-ghost use Rattle.two_color_steps.specs.Bounds.{«Can-append», «Can-push», «Can-fill», «Can-prepare», «Can-color-party», «Can-touch», «Can-look», «Can-look-all», «Can-take-off», «Can-go-on», «Can-step», «Can-step-all»};
+ghost use Rattle.words.specs.Words.{word, word_limit};
+ghost use Rattle.two_color_steps.specs.Model.{Small, append_m, clear_state_m, start_party_m, start_parties_m, push_end_m, fill_rows_m, color_party_m, touch_m, look_m, touch_all_m, take_off_m, next_party_m, step_m, steps_m, prepare_m};
+ghost use Rattle.two_color_steps.specs.Bounds.{CanAppend, CanPush, CanFill, CanPrepare, CanColorParty, CanTouch, CanLook, CanLookAll, CanTakeOff, CanGoOn, CanStep, CanStepAll};
 
 use words::{NodeIndex, set_word, word_at, word16_at};
 

@@ -1,8 +1,8 @@
 // Document 01's viewer: opening it, its step as a search on slices, and the viewer itself, a struct over two slices with thin calls.
 ghost use Rattle.std.specs.Prelude.{◌≡◌};
-ghost use Rattle.appointments.specs.Answers.{«checked-of»};
-ghost use Rattle.viewing.specs.Viewer.{«viewer-answer»};
-ghost use Rattle.viewing.specs.Told.{«step-shown», «stands_of», stepped};
+ghost use Rattle.appointments.specs.Answers.{checked_of};
+ghost use Rattle.viewing.specs.Viewer.{viewer_answer};
+ghost use Rattle.viewing.specs.Told.{step_shown, stands_of, stepped};
 
 use appointments::Checked;
 

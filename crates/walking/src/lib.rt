@@ -3,9 +3,9 @@
 //
 // Ported from rustworkx-core, `euler_cycles` in bipartite_coloring.rs (Apache License 2.0, see NOTICE).
 ghost use Rattle.std.specs.Prelude.{◌≡◌, ℕ, ◌+◌, ◌*◌, ◌<◌};
-ghost use Rattle.words.specs.Words.{«word-limit»};
+ghost use Rattle.words.specs.Words.{word_limit};
 ghost use Rattle.rings.specs.Model.{Fits};
-ghost use Rattle.walking.specs.Model.{Stage, Small, popM, unlinkM, takeM, back_m, stuckM, step_m, walk_m, begun};
+ghost use Rattle.walking.specs.Model.{Stage, Small, pop_m, unlink_m, take_m, back_m, stuck_m, step_m, walk_m, begun};
 ghost use Rattle.walking.specs.Bounds.{Pops, Unlinks, Takes, Backs, Steps, Walks};
 
 use rings::Rings;
