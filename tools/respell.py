@@ -46,6 +46,10 @@ def declared():
     for p in files(".antt"):
         lines = bare(read(p)).split("\n")
         for k, l in enumerate(lines):
+            m = re.match(r"\s*(?:pub )?(?:record|data) (" + PART + "+)", l)
+            if m:
+                types.add(m.group(1))
+                all_names.add(m.group(1))
             m = HEAD.match(l)
             if not m or m.group(3) in ("let", "in"):
                 continue

@@ -11,7 +11,7 @@ use Rattle.words.proofs.Runs.{ran_then}
 use Rattle.multigraph.specs.Multigraph.{Pair}
 use Rattle.multigraph.specs.Regular.{names, Across}
 use Rattle.euler.specs.Euler.{Tour, tour_below, euler_cycles}
-use Rattle.euler.specs.Halved.{Cycles-of}
+use Rattle.euler.specs.Halved.{CyclesOf}
 use Rattle.euler.proofs.Taken.{ends}
 use Rattle.euler.proofs.Trail.{aslant}
 use Rattle.euler.proofs.Tours.{Toured, tour_below_tours}
@@ -55,10 +55,10 @@ beyond N side r h v n = total_all_zero (ends v) r (all_map off r h)
 -- 0, 2, .. as at places 1, 3, ..
 pub euler_law :
     (N : ℕ) (side : ℕ → ℕ) (r : List Pair) → All (Across N side) r →
-    ((v : ℕ) → v < N → total (λ p. names v p.first p.second) r % 2 ≡ 0) → Ran (Cycles-of r) (euler_cycles N r)
+    ((v : ℕ) → v < N → total (λ p. names v p.first p.second) r % 2 ≡ 0) → Ran (CyclesOf r) (euler_cycles N r)
 unfolding euler_cycles
 euler_law N side r h even =
-    ran_then (Toured r N) (Cycles-of r) (tour_below N r) (λ t. ran t.cycles)
+    ran_then (Toured r N) (CyclesOf r) (tour_below N r) (λ t. ran t.cycles)
     (tour_below_tours side r (none_aslant N side r h) all_even N) finish
   where
     all_even : (v : ℕ) → total (ends v) r % 2 ≡ 0
@@ -67,7 +67,7 @@ euler_law N side r h even =
     nothing : (t : Tour) → Toured r N t → (f : Pair → ℕ) → total f t.left ≡ 0
     nothing t k = none_left N side t.left (omega (arith, none_astray N side r h, k.whole (astray N side))) k.below
 
-    finish : (t : Tour) → Toured r N t → Cycles-of r t.cycles
+    finish : (t : Tour) → Toured r N t → CyclesOf r t.cycles
     finish t k =
         record {
           whole = λ f. omega (arith, nothing t k f, k.whole f);

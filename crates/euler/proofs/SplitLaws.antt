@@ -15,7 +15,7 @@ use Rattle.multigraph.proofs.Adding.{across_add_edge, positive_add_edge, agrees_
 use Rattle.multigraph.proofs.Matchings.{Sound}
 use Rattle.euler.specs.Euler.{euler_cycles}
 use Rattle.euler.specs.Split.{Halves, add_halves, rest, deal, rbmg_split_into_two}
-use Rattle.euler.specs.Halved.{Cycles-of, SplitOf}
+use Rattle.euler.specs.Halved.{CyclesOf, SplitOf}
 use Rattle.euler.proofs.Taken.{ends}
 use Rattle.euler.proofs.EulerLaws.{astray, astray_across, none_astray, euler_law}
 use Rattle.euler.proofs.Dealing.{rest_zero, weigh_parts, weigh_add_halves, weigh_deal, cycles_parts, cycles_balanced, Kept, Both, add_halves_keeps, deal_keeps}
@@ -31,7 +31,7 @@ halves g cs = deal (undealt g) cs
 -- A property of graphs that is kept when copies of a pair p with f p ≡ 0 are added holds of both halves.
 both_keep :
     (Q : Graph → Type 0) (f : Pair → ℕ) → Kept Q f → ((m : ℕ) (p : Pair) → f (with_copies m p) ≡ f p) → Q [] →
-    (g : Graph) → total f g ≡ 0 → (cs : List (List Pair)) → Cycles-of (rest g) cs → Both Q (halves g cs)
+    (g : Graph) → total f g ≡ 0 → (cs : List (List Pair)) → CyclesOf (rest g) cs → Both Q (halves g cs)
 both_keep Q f kept same none g z cs c =
     let half : Q (add_halves [] g) = add_halves_keeps Q f kept [] g z none in
     deal_keeps Q f kept (undealt g) cs (c.whole f ∙ rest_zero f same g z) (half, half)
@@ -47,7 +47,7 @@ sound_kept N side h p m z pos s =
     }
 
 both_sound :
-    (N : ℕ) (side : ℕ → ℕ) (g : Graph) → All (Across N side) g → (cs : List (List Pair)) → Cycles-of (rest g) cs →
+    (N : ℕ) (side : ℕ → ℕ) (g : Graph) → All (Across N side) g → (cs : List (List Pair)) → CyclesOf (rest g) cs →
     Both (Sound N side) (halves g cs)
 both_sound N side g h =
     both_keep (Sound N side) (astray N side) (sound_kept N side) (λ m p. refl)
@@ -60,7 +60,7 @@ abbrev misflagged : (ℕ → ℕ → ℕ) → Pair → ℕ
 misflagged flag p = (p.bad - flag p.first p.second) + (flag p.first p.second - p.bad)
 
 both_agree :
-    (flag : ℕ → ℕ → ℕ) (g : Graph) → Agrees flag g → (cs : List (List Pair)) → Cycles-of (rest g) cs →
+    (flag : ℕ → ℕ → ℕ) (g : Graph) → Agrees flag g → (cs : List (List Pair)) → CyclesOf (rest g) cs →
     Both (Agrees flag) (halves g cs)
 both_agree flag g a =
     both_keep (Agrees flag) (misflagged flag)
@@ -71,7 +71,7 @@ both_agree flag g a =
 
 -- every weight's share of both halves, before the rest is dealt and after
 both_copies :
-    (w : ℕ → ℕ → ℕ) → Symmetric w → (g : Graph) (cs : List (List Pair)) → Cycles-of (rest g) cs →
+    (w : ℕ → ℕ → ℕ) → Symmetric w → (g : Graph) (cs : List (List Pair)) → CyclesOf (rest g) cs →
     weigh w (halves g cs).first_half + weigh w (halves g cs).second_half ≡ weigh w g
 both_copies w s g cs c =
     let at : Pair → ℕ = λ p. w p.first p.second in
@@ -87,14 +87,14 @@ both_copies w s g cs c =
 
 -- every party has the same degree in both halves
 same_degree :
-    (v : ℕ) (g : Graph) (cs : List (List Pair)) → Cycles-of (rest g) cs →
+    (v : ℕ) (g : Graph) (cs : List (List Pair)) → CyclesOf (rest g) cs →
     degree v (halves g cs).first_half ≡ degree v (halves g cs).second_half
 same_degree v g cs c =
     omega (arith, weigh_deal (names v) (names_symmetric v) (undealt g) cs, cycles_balanced (ends v) cs (c.balanced v))
 
 -- so each half has half the degree
 both_half :
-    (v k : ℕ) (g : Graph) (cs : List (List Pair)) → Cycles-of (rest g) cs → degree v g ≡ 2 * k →
+    (v k : ℕ) (g : Graph) (cs : List (List Pair)) → CyclesOf (rest g) cs → degree v g ≡ 2 * k →
     Both (λ h. degree v h ≡ k) (halves g cs)
 both_half v k g cs c d = omega (arith, same_degree v g cs c, both_copies (names v) (names_symmetric v) g cs c)
 
@@ -106,7 +106,7 @@ rest_even v k g h = omega (arith, weigh_parts (names v) g)
 
 halves_law :
     (N : ℕ) (side : ℕ → ℕ) (k : ℕ) (g : Graph) → Regular N side (2 * k) g → (cs : List (List Pair)) →
-    Cycles-of (rest g) cs → SplitOf N side k g (halves g cs)
+    CyclesOf (rest g) cs → SplitOf N side k g (halves g cs)
 halves_law N side k g r cs c =
     let sound : Both (Sound N side) (halves g cs) = both_sound N side g r.across cs c in
     let half : (v : ℕ) → v < N → Both (λ h. degree v h ≡ k) (halves g cs) = λ v l. both_half v k g cs c (r.even v l) in
@@ -127,7 +127,7 @@ pub split_law :
     Ran (SplitOf N side k g) (rbmg_split_into_two N g)
 unfolding rbmg_split_into_two
 split_law N side k g r =
-    ran_then (Cycles-of (rest g)) (SplitOf N side k g) (euler_cycles N (rest g)) (λ cs. ran (halves g cs))
+    ran_then (CyclesOf (rest g)) (SplitOf N side k g) (euler_cycles N (rest g)) (λ cs. ran (halves g cs))
     (euler_law N side (rest g) across (λ v l. rest_even v k g (r.even v l))) (halves_law N side k g r)
   where
     across : All (Across N side) (rest g)

@@ -7,7 +7,7 @@ use Rattle.euler.specs.Split.{Halves, evens, odds}
 
 -- The cycles hold the pairs of the rest, each once (every weight agrees), and in each cycle every party stands as often at
 -- places 0, 2, .. as at places 1, 3, ..
-pub record Cycles-of (r : List Pair) (cs : List (List Pair)) : Type 0 where
+pub record CyclesOf (r : List Pair) (cs : List (List Pair)) : Type 0 where
   pub whole : (f : Pair → ℕ) → total (λ (c : List Pair). total f c) cs ≡ total f r
   pub balanced :
       (v : ℕ) →

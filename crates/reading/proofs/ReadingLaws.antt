@@ -128,15 +128,15 @@ line_is bytes x e = go (parts comma bytes) (parts_spread comma bytes) e
 input_malformed {ℓ} : {Y : Type ℓ} (i : Input) (P : ℕ) (list : List ℕ) (n : ℕ) → i ≡ input P list → i ≡ malformed n → Y
 input_malformed i P list n p q = let z : ◌≡◌ {A = ℕ} 0 1 = cc in absurd (omega arith)
 
-pub record Lines-read (ps : List (List ℕ)) (P Q : ℕ) (list : List ℕ) : Type 0 where
+pub record LinesRead (ps : List (List ℕ)) (P Q : ℕ) (list : List ℕ) : Type 0 where
   pub same : P ≡ Q
   pub two_each : length list + 2 ≡ 2 * length ps
   pub ends : All (λ (e : ℕ). e < 65536) list
   pub short : length list + 1 ≤ spread ps
 
 -- one line more
-with_line : (line : List ℕ) (ps : List (List ℕ)) (P Q : ℕ) (x : Appt) (list : List ℕ) → LineRead line x → Lines-read ps P Q list
-    → Lines-read (line ∷ ps) P Q (x.first ∷ x.second ∷ list)
+with_line : (line : List ℕ) (ps : List (List ℕ)) (P Q : ℕ) (x : Appt) (list : List ℕ) → LineRead line x → LinesRead ps P Q list
+    → LinesRead (line ∷ ps) P Q (x.first ∷ x.second ∷ list)
 unfolding total
 with_line line ps P Q x list l r =
     record {
@@ -146,27 +146,27 @@ with_line line ps P Q x list l r =
       short = omega (arith, r.short, l.some_byte);
     }
 
-lines_are : (P n : ℕ) (ps : List (List ℕ)) (Q : ℕ) (list : List ℕ) → read_lines P n ps ≡ input Q list → Lines-read ps P Q list
+lines_are : (P n : ℕ) (ps : List (List ℕ)) (Q : ℕ) (list : List ℕ) → read_lines P n ps ≡ input Q list → LinesRead ps P Q list
 unfolding read_lines total
 lines_are P n [] Q list e = input_malformed (malformed n) Q list n e refl
 lines_are P n (rest ∷ []) Q list e = go (eqb (length rest) 0) e
   where
-    go : (t : Bool) → pick t (input P []) (malformed n) ≡ input Q list → Lines-read (rest ∷ []) P Q list
+    go : (t : Bool) → pick t (input P []) (malformed n) ≡ input Q list → LinesRead (rest ∷ []) P Q list
     go true q =
         let same : P ≡ Q = cc in
         let none_left : [] ≡ list = cc in
-        subst (λ (l : List ℕ). Lines-read (rest ∷ []) P Q l) none_left (record { same = same; two_each = refl; ends = tt; short = omega arith })
+        subst (λ (l : List ℕ). LinesRead (rest ∷ []) P Q l) none_left (record { same = same; two_each = refl; ends = tt; short = omega arith })
     go false q = input_malformed (malformed n) Q list n q refl
 lines_are P n (line ∷ next ∷ more) Q list e = go (appointment_of line) refl (read_lines P (n + 1) (next ∷ more)) (lines_are P (n + 1) (next ∷ more) Q) e
   where
-    go : (o : Option Appt) → appointment_of line ≡ o → (later : Input) → ((l : List ℕ) → later ≡ input Q l → Lines-read (next ∷ more) P Q l)
-        → and_then_lines n o later ≡ input Q list → Lines-read (line ∷ next ∷ more) P Q list
+    go : (o : Option Appt) → appointment_of line ≡ o → (later : Input) → ((l : List ℕ) → later ≡ input Q l → LinesRead (next ∷ more) P Q l)
+        → and_then_lines n o later ≡ input Q list → LinesRead (line ∷ next ∷ more) P Q list
     go none h later rest q = input_malformed (malformed n) Q list n q refl
     go (some x) h (malformed m) rest q = input_malformed (malformed m) Q list m q refl
     go (some x) h (input R l) rest q =
         let same : R ≡ Q = cc in
         let longer : x.first ∷ x.second ∷ l ≡ list = cc in
-        subst (λ (k : List ℕ). Lines-read (line ∷ next ∷ more) P Q k) longer
+        subst (λ (k : List ℕ). LinesRead (line ∷ next ∷ more) P Q k) longer
         (with_line line (next ∷ more) P Q x l (line_is line x h) (rest l (ap (λ (k : ℕ). input k l) same)))
 
 -- What main reads.
@@ -185,7 +185,7 @@ reads bytes P list e = go (parts line_feed bytes) (parts_spread line_feed bytes)
         → with_parties o ps ≡ input P list → Read bytes P list
     first none line ps h l k q = input_malformed (malformed 1) P list 1 q refl
     first (some Q) line ps h l k q =
-        let r : Lines-read ps Q P list = lines_are Q 2 ps P list q in
+        let r : LinesRead ps Q P list = lines_are Q 2 ps P list q in
         let n : Number line Q = number_is line Q h in
         record {
           parties = omega (arith, r.same, n.below);
