@@ -1,5 +1,6 @@
 // Document 01's terms and checks as definitions and laws, and the enums by which code tells an answer. The code of the checks stands
 // in the crate `checking`.
+#![tactic(auto)]
 
 // What a call says: accepted, with its one figure, or refused with the papers' number and place.
 #[derive(Drop)]

@@ -1,6 +1,8 @@
 // Waiting of a party in the hall: the whole numbers strictly between its lowest and its highest slot that are the slot of none of
 // its appointments. One walk of the list flags the party's slots and counts the different ones; the numbers from the lowest to
 // the highest less these are the waiting (the law `whole` in specs/Waiting.antt).
+#![tactic(auto)]
+
 ghost use Rattle.std.specs.Prelude.{◌≡◌, ◌+◌, ◌*◌, ◌/◌, ◌^◌, ◌<◌, ◌≤◌, min, max, length, replicate, set, take};
 ghost use Rattle.words.specs.Basics.{is};
 ghost use Rattle.words.specs.Words.{word};

@@ -1,5 +1,7 @@
 // Document 02's request 1, asking for many parties together: for each party asked for its load, its lowest slot and its highest slot, from one
 // walk of the list. The walk keeps these three for every party, in tables by party number, so its cost doesn't depend on what is asked.
+#![tactic(auto)]
+
 ghost use Rattle.std.specs.Prelude.{◌≡◌, ℕ, ◌+◌, ◌*◌, ◌/◌, ◌<◌, ◌≤◌, min, max, leb, length, replicate, set, take};
 ghost use Rattle.words.specs.Words.{word};
 ghost use Rattle.appointments.specs.Appointments.{appts};

@@ -1,5 +1,7 @@
 // The first bad ends of a list, both from one walk: what check 4 asks, the first blank end, and what check 5 asks, the first other end that is not below
 // P. The walk goes to the end of the list: after one kind of bad end the other may still come.
+#![tactic(auto)]
+
 ghost use Rattle.std.specs.Prelude.{◌≡◌, eqb};
 ghost use Rattle.appointments.specs.Appointments.{appts};
 ghost use Rattle.appointments.specs.Checks.{blank, first_of, unlisted};

@@ -1,5 +1,7 @@
 // The program: reads standard input, and writes to standard output what the text crate makes of it. What is read and written no
 // contract can say, so these lines are kept few (docs/PROVED.md says which of them are trusted).
+#![tactic(auto)]
+
 ghost use Rattle.std.specs.Prelude.{◌+◌, ◌<◌, ◌≤◌, length};
 
 use libc::{STDERR_FILENO, STDIN_FILENO, STDOUT_FILENO};

@@ -1,6 +1,8 @@
 // The planning call and the desk's calls for C and Rust: numbers and slices in, a struct of numbers out. Each entry only turns
 // the answer's enum into numbers, and says that they are the definitions', for acceptance and for every refusal.
 // host/include/bimtsure.h declares them.
+#![tactic(auto)]
+
 ghost use Rattle.std.specs.Prelude.{◌≡◌};
 ghost use Rattle.appointments.specs.Needed.{needs_answer, d_of, words_of};
 ghost use Rattle.planning.specs.Planning.{plan_answer, plan_slots, plan_scratch};

@@ -1,5 +1,7 @@
 // Document 02's hall calendar: the day and clock time of a slot, and the slot of a day and clock time. A time is packed decimal, a
 // byte for the hours and one for the minutes, a digit in each four bits: 16:30 is 0x16 and 0x30. Nothing is lent.
+#![tactic(auto)]
+
 ghost use Rattle.std.specs.Prelude.{◌≡◌, ◌%◌, get_or};
 ghost use Rattle.appointments.specs.Answers.{answered_of};
 ghost use Rattle.calendar.specs.Calendar.{times, number_in, clock_answer, clocked_of, slot_answer};

@@ -1,6 +1,8 @@
 // The hall calendar's calls for C and Rust: numbers in, a struct of numbers out. Each entry only turns the answer's enum into
 // numbers, and says that they are the definitions', for acceptance and for every refusal. host/include/bimtsure_calendar.h declares
 // them.
+#![tactic(auto)]
+
 ghost use Rattle.std.specs.Prelude.{◌≡◌};
 ghost use Rattle.appointments.specs.Answers.{number_of, place_of, figure_of};
 ghost use Rattle.calendar.specs.Calendar.{clock_answer, day_of, hours_of, minutes_of, slot_answer};

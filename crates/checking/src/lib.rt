@@ -1,4 +1,6 @@
 // Checks 1 to 8 of a list of appointments, and how much scratch it needs. Scratch is not touched before check 8 has passed, so loads stand in a local array.
+#![tactic(auto)]
+
 ghost use Rattle.std.specs.Prelude.{◌≡◌, ℕ, ◌+◌, ◌*◌, ◌%◌, ◌<◌, ◌≤◌, length};
 ghost use Rattle.words.specs.Basics.{count};
 ghost use Rattle.words.specs.Words.{word, put_word};

@@ -19,7 +19,7 @@ use Rattle.euler.proofs.Taken.{ends}
 use Rattle.euler.proofs.Places.{keep}
 use Rattle.circuits.proofs.CircuitFill as Fill
 use Rattle.circuits.proofs.CircuitFill.{Ground}
-use Rattle.circuits.proofs.CircuitGrounds as Two-grounds
+use Rattle.circuits.proofs.CircuitGrounds as TwoGrounds
 use Rattle.euler.proofs.Grounds.{across_at}
 
 module _ {s : List ℕ} {u table graph n width : ℕ} (q : Splits s u table graph n width) (sum : copies_sum_m graph (word s (graph + 1)) s ≡ 2 * n) where
@@ -41,7 +41,7 @@ module _ {s : List ℕ} {u table graph n width : ℕ} (q : Splits s u table grap
 
   -- the degree is 2
   pub is_two : 2 * q.half ≡ 2
-  is_two = Two-grounds.degree_two q sum
+  is_two = TwoGrounds.degree_two q sum
 
   -- where everything lies, and that ends are parties
   pub ground : Ground l N m k u s

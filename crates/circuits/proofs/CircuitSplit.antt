@@ -37,7 +37,7 @@ use Rattle.euler.proofs.Taken.{ends}
 use Rattle.euler.proofs.Places.{keep}
 use Rattle.circuits.proofs.CircuitTours as Tours
 use Rattle.circuits.proofs.CircuitSteps as Steps
-use Rattle.circuits.proofs.CircuitGrounds as Two-grounds
+use Rattle.circuits.proofs.CircuitGrounds as TwoGrounds
 
 every_other_le : (f : Pair → ℕ) (b : Bool) (c : List Pair) → total f (every_other b c) ≤ total f c
 unfolding every_other total
@@ -119,10 +119,10 @@ module _ {s : List ℕ} {u table graph n width : ℕ} (q : Splits s u table grap
     pn e = Ends.pn E flag es e
 
     copies : (i : ℕ) → i < m → word s (graph + 3 + 2 * i) ≤ 2
-    copies i b = Two-grounds.copies_two q (Begun.is_two q sum) pairs i b
+    copies i b = TwoGrounds.copies_two q (Begun.is_two q sum) pairs i b
 
     once : (a b : ℕ) → total (Graphs.btw a b) G ≤ 1
-    once a b = Two-grounds.once q (Begun.is_two q sum) pairs a b
+    once a b = TwoGrounds.once q (Begun.is_two q sum) pairs a b
 
     places_total : (f : Pair → ℕ) → total f r ≡ total (λ e. f (pn e)) es
     places_total f =
@@ -133,9 +133,9 @@ module _ {s : List ℕ} {u table graph n width : ℕ} (q : Splits s u table grap
     two =
         record {
           places = Graphs.rest_are ground pairs m;
-          few = Two-grounds.rest_few q (Begun.is_two q sum) pairs;
+          few = TwoGrounds.rest_few q (Begun.is_two q sum) pairs;
           even = rest_evens q pairs;
-          thin = Two-grounds.rest_thin q (Begun.is_two q sum) pairs;
+          thin = TwoGrounds.rest_thin q (Begun.is_two q sum) pairs;
           once = λ a b.
               omega (
                 arith,

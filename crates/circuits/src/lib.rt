@@ -5,6 +5,8 @@
 // which `euler_cycles` writes down: it begins with the first pair and writes from the end.
 //
 // Ported from rustworkx-core, `rbmg_split_into_two` in bipartite_coloring.rs (Apache License 2.0, see NOTICE).
+#![tactic(auto)]
+
 ghost use Rattle.std.specs.Prelude.{◌≡◌, ℕ, ◌+◌, ◌*◌, ◌-◌, ◌/◌, ◌<◌, ◌≤◌, length};
 ghost use Rattle.words.specs.Words.{word_limit};
 ghost use Rattle.circuits.specs.Model.{Lies, two_start_m, two_sift_m, two_sift_all_m, two_note_m, two_fill_m};

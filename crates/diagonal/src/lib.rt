@@ -2,6 +2,8 @@
 // public step, which takes its words from the mark and calls `diagonal_at`, which goes by numbers.
 //
 // Ported from rustworkx-core, the first half of `bipartite_edge_color_given_partition` in bipartite_coloring.rs (Apache License 2.0, see NOTICE).
+#![tactic(auto)]
+
 ghost use Rattle.std.specs.Prelude.{◌≡◌, ◌+◌, ◌*◌, ◌≤◌};
 ghost use Rattle.diagonal.specs.Contract.{CanDiagonal, DiagonalSet};
 

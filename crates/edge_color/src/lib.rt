@@ -4,6 +4,8 @@
 // stand above the mark, which is put back at the end.
 //
 // Ported from rustworkx-core, `rbmg_edge_color_when_power_of_two` and `rbmg_edge_color` in bipartite_coloring.rs (Apache License 2.0, see NOTICE).
+#![tactic(auto)]
+
 ghost use Rattle.std.specs.Prelude.{◌≡◌, ◌+◌, ◌*◌, ◌-◌, ◌^◌, ◌<◌, ◌≤◌};
 ghost use Rattle.words.specs.Words.{word_limit};
 ghost use Rattle.multigraph.specs.Places.{AddsMatching, RemovesMatching};

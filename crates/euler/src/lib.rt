@@ -3,6 +3,8 @@
 // graph, its base and the number of its entries and then the entries, two words each.
 //
 // Ported from rustworkx-core, `rbmg_split_into_two` in bipartite_coloring.rs (Apache License 2.0, see NOTICE).
+#![tactic(auto)]
+
 ghost use Rattle.std.specs.Prelude.{◌≡◌, ℕ, ◌+◌, ◌*◌, ◌<◌, ◌≤◌, length};
 ghost use Rattle.words.specs.Words.{word_limit};
 ghost use Rattle.euler.specs.Entries.{many_m, push_m, head_m};

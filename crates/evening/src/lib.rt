@@ -3,6 +3,8 @@
 // which goes by numbers.
 //
 // Ported from rustworkx-core, the first half of `bipartite_edge_color_given_partition` in bipartite_coloring.rs (Apache License 2.0, see NOTICE).
+#![tactic(auto)]
+
 ghost use Rattle.std.specs.Prelude.{◌≡◌, ◌+◌, ◌*◌, ◌≤◌};
 ghost use Rattle.evening.specs.Contract.{CanPad, SidesPadded, CanEven, EvenedOut};
 

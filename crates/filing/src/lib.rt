@@ -1,4 +1,6 @@
 // Document 01's filed plan: writing it as bytes, and reading it back.
+#![tactic(auto)]
+
 ghost use Rattle.std.specs.Prelude.{◌≡◌, ◌+◌, ◌*◌, ◌/◌, ◌<◌, ◌≤◌, length, get_or};
 ghost use Rattle.words.specs.Words.{filled};
 ghost use Rattle.appointments.specs.Answers.{answered_of};

@@ -4,6 +4,8 @@
 // Scratch is counted in units of q = P·(D + 1) words, of which W has 128.
 //
 // Ported from rustworkx-core, `bipartite_edge_color_given_partition` in bipartite_coloring.rs (Apache License 2.0, see NOTICE).
+#![tactic(auto)]
+
 ghost use Rattle.std.specs.Prelude.{◌≡◌, ℕ, zero, ◌+◌, ◌*◌, ◌<◌, ◌≤◌, length};
 ghost use Rattle.appointments.specs.Appointments.{appts};
 ghost use Rattle.edge_color.specs.Room.{ColorFits, Colored};

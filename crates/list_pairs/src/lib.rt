@@ -5,6 +5,8 @@
 // In the graph built here the entry at place i has number i, so a pair's number is its place.
 //
 // Ported from rustworkx-core, the first half of `bipartite_edge_color_given_partition` in bipartite_coloring.rs (Apache License 2.0, see NOTICE).
+#![tactic(auto)]
+
 ghost use Rattle.std.specs.Prelude.{◌≡◌, ◌+◌, ◌*◌, ◌≤◌};
 ghost use Rattle.list_pairs.specs.Contract.{CanPair, PairsMade};
 

@@ -1,4 +1,6 @@
 // The scratch mark: one small record of how many words of the scratch are taken, lent to each step, which changes it.
+#![tactic(auto)]
+
 ghost use Rattle.std.specs.Prelude.{◌≡◌, ◌+◌, ◌≤◌};
 ghost use Rattle.mark.specs.Taking.{taken_more, given_back};
 

@@ -3,6 +3,8 @@
 // A search pushes its graph at the mark, splits it again and again above it, and copies the half that goes on down to its base.
 //
 // Ported from rustworkx-core, `rbmg_find_perfect_matching` in bipartite_coloring.rs (Apache License 2.0, see NOTICE).
+#![tactic(auto)]
+
 ghost use Rattle.std.specs.Prelude.{◌≡◌, ℕ, ◌+◌, ◌*◌, ◌-◌, ◌/◌, ◌^◌, ◌<◌, ◌≤◌, length};
 ghost use Rattle.words.specs.Words.{word, put_word, word_limit};
 ghost use Rattle.multigraph.specs.Stored.{graph_at};

@@ -5,6 +5,8 @@
 // word in a map of places answers that. specs/Stored.antt says which graph lies in the words, specs/Places.antt what the map is.
 //
 // Ported from rustworkx-core, `RegularBipartiteMultiGraph` in bipartite_coloring.rs (Apache License 2.0, see NOTICE).
+#![tactic(auto)]
+
 ghost use Rattle.std.specs.Prelude.{◌≡◌, ℕ, ◌+◌, ◌*◌, ◌-◌, ◌<◌, ◌≤◌, length, take, drop};
 ghost use Rattle.words.specs.Words.{word, put_word, word_limit};
 ghost use Rattle.multigraph.specs.Places.{size, copies_of, MapsPlaces, AddsEdge, AddsMatching, RemovesMatching};

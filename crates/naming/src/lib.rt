@@ -1,4 +1,6 @@
 // Whether an appointment names a party: what the viewer and waiting ask at each position of a list.
+#![tactic(auto)]
+
 ghost use Rattle.std.specs.Prelude.{◌≡◌};
 ghost use Rattle.appointments.specs.Appointments.{appt, named};
 

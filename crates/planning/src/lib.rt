@@ -2,6 +2,8 @@
 // appointment. No list is refused but by document 01's table, and demand 3 holds of every answer.
 //
 // Ported from rustworkx-core, `bipartite_edge_color` in bipartite_coloring.rs (Apache License 2.0, see NOTICE).
+#![tactic(auto)]
+
 ghost use Rattle.std.specs.Prelude.{◌≡◌, ℕ, zero, ◌+◌, ◌*◌, ◌<◌, ◌≤◌, length, replicate};
 ghost use Rattle.appointments.specs.Appointments.{appts};
 ghost use Rattle.appointments.specs.Lent.{lent};

@@ -1,5 +1,7 @@
 // What main prints: bytes put into a lent output, each line behind the one before. Every function needs room for its bytes,
 // and gives the place behind them.
+#![tactic(auto)]
+
 ghost use Rattle.std.specs.Prelude.{◌≡◌, [], ◌∷◌, ◌+◌, ◌*◌, ◌<◌, length};
 ghost use Rattle.appointments.specs.Appointments.{appts};
 ghost use Rattle.printing.specs.Printing.{decimal, party_line, appointment_lines, party_lines, plan_lines, refusal_line};

@@ -1,4 +1,6 @@
 // What main reads: the line of P, then a line for each appointment.
+#![tactic(auto)]
+
 ghost use Rattle.std.specs.Prelude.{◌≡◌, ◌+◌, ◌<◌, ◌≤◌, length, set};
 ghost use Rattle.words.specs.Ascii.{line_feed};
 ghost use Rattle.reading.specs.Reading.{parts, digits_value, number, end_of, appointment_of, read_lines, read_text, read_input};

@@ -2,6 +2,8 @@
 // a line for each list, as `P first-second .. = planned D s0 s1 ..` or `P first-second .. = refused NUMBER PLACE`; a remark may
 // follow a `#`. README.txt says how the lines were made. A line without a number before its `=` counts as different;
 // numbers are cut to 16 bits.
+#![tactic(auto)]
+
 ghost use Rattle.std.specs.Prelude.{◌≡◌, [], ◌∷◌, ◌+◌, ◌<◌, ◌≤◌, length};
 ghost use Rattle.appointments.specs.Lent.{lent};
 ghost use Rattle.replay.specs.Stored.{Decides, answer_told};

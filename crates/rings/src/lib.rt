@@ -2,6 +2,8 @@
 // first remaining pair at once, and takes it out at both its ends.
 //
 // Ported from rustworkx-core, `euler_cycles` in bipartite_coloring.rs (Apache License 2.0, see NOTICE).
+#![tactic(auto)]
+
 ghost use Rattle.std.specs.Prelude.{◌≡◌, ℕ, ◌<◌, ◌≤◌};
 ghost use Rattle.words.specs.Words.{word_limit};
 ghost use Rattle.rings.specs.Model.{Fits, append_m, start_ring_m, start_m, sift_m, sift_all_m, ring_end_m, ends_m, fill_m};

@@ -10,6 +10,8 @@
 // the specs/Stored.antt of `slots` asks no more than that). A slot is not above its place, so a link is below 2^28.
 //
 // Ported from rustworkx-core, the second half of `bipartite_edge_color_given_partition` in bipartite_coloring.rs (Apache License 2.0, see NOTICE).
+#![tactic(auto)]
+
 ghost use Rattle.std.specs.Prelude.{◌≡◌, ◌+◌, ◌*◌, ◌<◌, ◌≤◌, length};
 ghost use Rattle.words.specs.Words.{word, put_word, word_limit};
 ghost use Rattle.slot_chains.specs.Steps.{pushed, matching_pushed, all_pushed};

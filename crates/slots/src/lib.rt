@@ -5,6 +5,8 @@
 // first link of each appointment's pair.
 //
 // Ported from rustworkx-core, the second half of `bipartite_edge_color_given_partition` in bipartite_coloring.rs (Apache License 2.0, see NOTICE).
+#![tactic(auto)]
+
 ghost use Rattle.std.specs.Prelude.{◌≡◌, ◌+◌, ◌*◌, ◌<◌, ◌≤◌, length};
 ghost use Rattle.words.specs.Words.{word, word_limit};
 ghost use Rattle.slots.specs.Stored.{GivesSlots};

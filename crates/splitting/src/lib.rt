@@ -2,6 +2,8 @@
 // second half, eight words for each entry, two for each party, and two columns.
 //
 // Ported from rustworkx-core, `rbmg_split_into_two` in bipartite_coloring.rs (Apache License 2.0, see NOTICE).
+#![tactic(auto)]
+
 ghost use Rattle.std.specs.Prelude.{◌≡◌, ℕ, ◌+◌, ◌*◌, ◌<◌, ◌≤◌};
 ghost use Rattle.words.specs.Words.{word_limit};
 ghost use Rattle.rings.specs.Model.{Fits};

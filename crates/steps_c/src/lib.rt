@@ -1,4 +1,6 @@
 // Single steps of the planner, exported so that the host can hold them beside the Rust's. No part of the product.
+#![tactic(auto)]
+
 ghost use Rattle.std.specs.Prelude.{◌≡◌, ◌%◌, ◌+◌, ◌*◌};
 ghost use Rattle.words.specs.Words.{word_limit};
 ghost use Rattle.steps_c.specs.Compared.{TwoColored, refusal_number};

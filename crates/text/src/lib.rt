@@ -1,5 +1,7 @@
 // Main as one function from the bytes that came of its input to the bytes of its output. The program around it only reads and
 // writes.
+#![tactic(auto)]
+
 ghost use Rattle.std.specs.Prelude.{◌≡◌, ◌≤◌, length, take};
 ghost use Rattle.appointments.specs.Answers.{over};
 ghost use Rattle.reading.specs.Reading.{input};

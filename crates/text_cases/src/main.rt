@@ -2,6 +2,8 @@
 // document 01 and the Rust ask for, which were written from these two and not taken from what we print. Each is ended by a bar,
 // and each case by a line feed. Inputs of more than 4,000 bytes and broken ones are made here. It writes a line for each case, and
 // at the end how many were right and how many there were.
+#![tactic(auto)]
+
 ghost use Rattle.std.specs.Prelude.{◌<◌, ◌≤◌, length};
 
 use libc::{STDIN_FILENO, STDOUT_FILENO};

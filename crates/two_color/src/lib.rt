@@ -4,6 +4,8 @@
 // Here they are put together, the mark is moved, and the words are shown to hold what the definition says.
 //
 // Ported from rustworkx-core, `two_color` in coloring.rs (Apache License 2.0, see NOTICE).
+#![tactic(auto)]
+
 ghost use Rattle.std.specs.Prelude.{◌≡◌, ◌+◌, ◌*◌, ◌≤◌};
 ghost use Rattle.mark.specs.Taking.{taken_more};
 ghost use Rattle.two_color.specs.Contract.{CanColor, Colored};

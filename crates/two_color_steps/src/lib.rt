@@ -13,6 +13,8 @@
 // All that the search reads only lies above all that it writes.
 //
 // Ported from rustworkx-core, `two_color` in coloring.rs (Apache License 2.0, see NOTICE).
+#![tactic(auto)]
+
 ghost use Rattle.std.specs.Prelude.{◌≡◌, ◌+◌, ◌*◌, ◌/◌, ◌<◌, ◌≤◌, length};
 ghost use Rattle.words.specs.Words.{word, word_limit};
 ghost use Rattle.two_color_steps.specs.Model.{Small, append_m, clear_state_m, start_party_m, start_parties_m, push_end_m, fill_rows_m, color_party_m, touch_m, look_m, touch_all_m, take_off_m, next_party_m, step_m, steps_m, prepare_m};

@@ -1,4 +1,6 @@
 // Document 01's viewer: opening it, its step as a search on slices, and the viewer itself, a struct over two slices with thin calls.
+#![tactic(auto)]
+
 ghost use Rattle.std.specs.Prelude.{◌≡◌};
 ghost use Rattle.appointments.specs.Answers.{checked_of};
 ghost use Rattle.viewing.specs.Viewer.{viewer_answer};

@@ -2,6 +2,8 @@
 // steps back and writes the pair down.
 //
 // Ported from rustworkx-core, `euler_cycles` in bipartite_coloring.rs (Apache License 2.0, see NOTICE).
+#![tactic(auto)]
+
 ghost use Rattle.std.specs.Prelude.{◌≡◌, ℕ, ◌+◌, ◌*◌, ◌<◌};
 ghost use Rattle.words.specs.Words.{word_limit};
 ghost use Rattle.rings.specs.Model.{Fits};

@@ -1,5 +1,7 @@
 // Words in lent slices: reading and writing, with a test (total) or without (at a place that is one), and clearing; and the
 // numbers of parties and pairs, two kinds. Everything above stands on these.
+#![tactic(auto)]
+
 ghost use Rattle.std.specs.Prelude.{◌≡◌, ◌++◌, ℕ, ◌+◌, ◌<◌, ◌≤◌, length, replicate, drop};
 ghost use Rattle.words.specs.Words.{word, put_word, put_word16, word_limit};
 
