@@ -12,7 +12,7 @@ use lib.ListN.{length}
 use Rattle.words.specs.Basics.{All, total, sum_below}
 use Rattle.words.specs.Words.{word}
 use Rattle.words.proofs.Sums.{total_append}
-use Rattle.multigraph.specs.Multigraph.{Pair, pair, Graph, with_copies, joins, add_edge, add_matching, remove_matching}
+use Rattle.multigraph.specs.Multigraph.{Pair, pair, Graph, with_copies, joins, add_edge, add_matching, remove_matching, remove_edge}
 use Rattle.multigraph.specs.Regular.{SameEnds, between, pairs_between, Apart}
 use Rattle.multigraph.specs.Stored.{numbered, entry, entries, graph_at, matching_at}
 use Rattle.multigraph.specs.Places.{size}
@@ -185,4 +185,4 @@ pub remove_matching_append :
     (g : Graph) (m k : List Pair) → remove_matching g (m ++ k) ≡ remove_matching (remove_matching g m) k
 unfolding remove_matching
 remove_matching_append g [] k = refl
-remove_matching_append g (p ∷ m) k = remove_matching_append _ m k
+remove_matching_append g (p ∷ m) k = remove_matching_append (remove_edge g p.first p.second 1) m k

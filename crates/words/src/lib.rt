@@ -6,11 +6,11 @@ ghost use Rattle.std.specs.Prelude.{◌≡◌, ◌++◌, ℕ, ◌+◌, ◌<◌, 
 ghost use Rattle.words.specs.Words.{word, put_word, put_word16, word_limit};
 
 // A party's number.
-#[derive(Drop)]
+#[derive(Clone, Copy)]
 pub struct NodeIndex(pub u32);
 
 // A pair's number: its row in the table of ends.
-#[derive(Drop)]
+#[derive(Clone, Copy)]
 pub struct EdgeIndex(pub u32);
 
 // The word at `i`, and 0 past the end.
