@@ -29,6 +29,7 @@ abbrev pub BothWays : (ℕ → ℕ → Type 0) → Appt → Type 0
 BothWays R x = R x.first x.second × R x.second x.first
 
 pub all_joined : (R : ℕ → ℕ → Type 0) (xs : List Appt) → All (BothWays R) xs → (u v : ℕ) → Joined xs u v → R u v
+all_joined R [] h u v x = elim x [ ]
 all_joined R (x ∷ xs) h u v (inl (inl g)) = subst₂ R g.0 g.1 h.0.0
 all_joined R (x ∷ xs) h u v (inl (inr g)) = subst₂ R g.0 g.1 h.0.1
 all_joined R (x ∷ xs) h u v (inr j) = all_joined R xs h.1 u v j

@@ -58,7 +58,8 @@ rest_append (q ∷ x) p = go (eqb (q.copies % 2) 1) (rest_append x p)
 pub halves_append : (h g : Graph) (p : Pair) → add_halves h (g ++ (p ∷ [])) ≡ pick (leb 2 p.copies) (add_edge (add_halves h g) p.first p.second (p.copies / 2) p.bad) (add_halves h g)
 unfolding add_halves
 halves_append h [] p = refl
-halves_append h (q ∷ g) p = halves_append _ g p
+halves_append h (q ∷ g) p =
+    halves_append (pick (leb 2 q.copies) (add_edge h q.first q.second (q.copies / 2) q.bad) h) g p
 
 -- ── weights ──
 
@@ -196,7 +197,7 @@ module _ (Q : Graph → Type 0) (f : Pair → ℕ) (kept : Kept Q f) where
   add_pairs_keeps : (h : Graph) (ps : List Pair) → total f ps ≡ 0 → Q h → Q (add_pairs h ps)
   unfolding add_pairs total
   add_pairs_keeps h [] z q = q
-  add_pairs_keeps h (p ∷ ps) z q = add_pairs_keeps _ ps (omega arith) (kept h p 1 (omega arith) (omega arith) q)
+  add_pairs_keeps h (p ∷ ps) z q = add_pairs_keeps (add_edge h p.first p.second 1 p.bad) ps (omega arith) (kept h p 1 (omega arith) (omega arith) q)
 
   -- and so does dealing
   pub deal_keeps :

@@ -190,7 +190,7 @@ module _ (A : ℕ → Pair) where
               let z : e n + is n n ≡ e n + 1 = omega (arith, is_eq {u = n} refl) in
               let others : bigs (λ j. e j + is j n) n ≡ bigs e n =
               bigs_cong (λ j. e j + is j n) e n (λ j c. omega (arith, is_ne {u = j} {v = n} (λ x. omega arith))) in
-              rw q
+              subst (λ (k : ℕ). add_edge (bigs e (suc n) ++ h) (F k) (S k) 1 (flag k) ≡ bigs (λ j. e j + is j k) (suc n) ++ h) (sym q)
               (ap (λ (x : Graph). add_edge x (F n) (S n) 1 (flag n)) (append_assoc (bigs e n) (big n (e n)) h)
               ∙ add_past (bigs e n) (big n (e n) ++ h) (F n) (S n) 1 (flag n)
               (bigs_all (λ p. joins (F n) (S n) p ≡ false) e n (λ j c d s. apart n j c (omega arith) (omega arith) (λ x. omega arith)))

@@ -11,7 +11,7 @@ use lib.ListN.{length, length-reverse}
 use Rattle.words.specs.Basics.{pick, total, iterate, All, Run, ran, Ran, and_then}
 use Rattle.words.proofs.Sums.{is_same, total_append, all_append}
 use Rattle.words.proofs.Runs.{iterate_add, iterate_rest}
-use Rattle.multigraph.specs.Multigraph.{Pair, Graph}
+use Rattle.multigraph.specs.Multigraph.{Pair, Graph, add_edge}
 use Rattle.euler.specs.Euler.{Taken, taken, none, first_pair, Step, Walking, standing, follow, walk_step, Tour, walk_from, visited, tour_below, euler_cycles}
 use Rattle.euler.specs.Split.{Halves, add_halves, rest, every_other, evens, odds, add_pairs, deal, rbmg_split_into_two}
 use Rattle.euler.proofs.Taken.{ends, Found, first_pair_finds, leads_ends}
@@ -263,7 +263,7 @@ every_other_even false (x ∷ y ∷ xs) ys h = ap (λ (l : List Pair). y ∷ l) 
 add_pairs_append : (h : Graph) (xs ys : List Pair) → add_pairs h (xs ++ ys) ≡ add_pairs (add_pairs h xs) ys
 unfolding add_pairs
 add_pairs_append h [] ys = refl
-add_pairs_append h (x ∷ xs) ys = add_pairs_append _ xs ys
+add_pairs_append h (x ∷ xs) ys = add_pairs_append (add_edge h x.first x.second 1 x.bad) xs ys
 
 -- where all cycles are even, dealing goes on along all their pairs
 deal_along :
