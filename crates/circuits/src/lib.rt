@@ -22,7 +22,7 @@ use words::{EdgeIndex, NodeIndex, set_word, word_at};
 // pairs' numbers. The half-edge 2·e stands at the first end of the pair number e, and 2·e + 1 at its second end, which stand
 // in the table at ends + 2·e and ends + 2·e + 1. A party's words, at b + 2·v: its last half-edge plus 1, or 0 where it has none
 // or was visited; and the sum of its half-edges, cut to 32 bits, so that of its two the one gives the other.
-#[derive(Drop)]
+#[derive(Clone, Copy)]
 pub struct Two {
     pub g: usize,
     pub ends: usize,

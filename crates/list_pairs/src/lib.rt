@@ -21,7 +21,7 @@ pub mod rows; // each party's half-edges side by side
 
 // Where things lie: the parties of the left and of the right side; the table of ends, two words for each pair; the number of each
 // appointment's pair; the graph. A contract that speaks of them calls the whole `at`.
-#[derive(Drop)]
+#[derive(Clone, Copy)]
 pub struct Bases {
     pub left: usize,
     pub right: usize,

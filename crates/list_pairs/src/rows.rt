@@ -8,7 +8,7 @@ use words::{NodeIndex, set_word, word_at, word16_at};
 
 // Where the rows lie: how many parties have one; the words of each, d; where the counters stand, one for each party; and where the
 // rows stand, that of party 0 first.
-#[derive(Drop)]
+#[derive(Clone, Copy)]
 pub struct RowBases {
     pub parties: usize,
     pub d: usize,
@@ -18,7 +18,7 @@ pub struct RowBases {
 
 // Sets the `n` words at `b` to 0.
 pub fn clear_words(s: &mut [u32], b: usize, n: usize)
-    requires* { do ⌜ b + n ≤ (← ⟦s.len()⟧) ⌝ }
+    requires { b + n ≤ length s.old }
     ensures { Cleared b n s.old s.new }
 {
     let mut v = 0;

@@ -19,7 +19,7 @@ use words::{EdgeIndex, get, put, set_word, word_at};
 
 // Where the table of a regular graph lies: the ends, two words for each pair and then for left i with right i; the map of
 // places; the numbers of the diagonal; and how many pairs there are. A number is flagged if it is not below `pairs`.
-#[derive(Drop)]
+#[derive(Clone, Copy)]
 pub struct Table {
     pub ends: usize,
     pub places: usize,

@@ -123,7 +123,7 @@ without_edges d i [] = refl
 without_edges d i (x ∷ xs) =
     elim (ℕ_discrete i x) [
       | yes e ↦
-          rw e
+          subst (λ (z : ℕ). without (edge d z) (map (edge d) (x ∷ xs)) ≡ map (edge d) (without z (x ∷ xs))) (sym e)
           (without_first (edge d x) (map (edge d) xs)
           ∙ ap (λ (z : ℕ). without (edge d z) (map (edge d) xs)) (sym e)
           ∙ without_edges d i xs

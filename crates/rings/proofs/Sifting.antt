@@ -82,7 +82,7 @@ module _ {l : Rings} {N m k : ℕ} {s₀ : List ℕ} (g : Laid l N m k s₀) whe
       let c : copies_m l w j % 2 ≡ C j % 2 = ap (λ (x : ℕ). x % 2) (copies_kept g w now' j b) in
       let at : put_note w j t.count ≡ put_note w j (length (first_odds j)) = rw h.counted in
       let new : Noted (slot true l) (put_note w j t.count) (j ∷ first_odds j) =
-      rw at (note_noted w j (first_odds j) now'.len b (omega (arith, odds_length C j)) h.noted) in
+      subst (λ (z : List ℕ). Noted (slot true l) z (j ∷ first_odds j)) (sym at) (note_noted w j (first_odds j) now'.len b (omega (arith, odds_length C j)) h.noted) in
       let same : SameNodes g s (put_note w j t.count) =
       same_trans g s w (put_note w j t.count) h.same (note_same w j t.count jk) in
       let marks : (i : ℕ) → i < suc j → word (put_note w j t.count) (l.b + 8 * i + 2) ≡ 0 =

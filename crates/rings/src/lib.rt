@@ -18,7 +18,7 @@ use words::{EdgeIndex, NodeIndex, set_word, word_at};
 // its first end; 2 its mark; 3 its second end; the node 4·i + 2, its half-edge at its second end; 7 its first end. So the party
 // to which the half-edge x leads stands at b + 2·x + 3. Columns, at col + 2·j: 0 stack, and before the walk the entries of odd
 // copies; 1 places written.
-#[derive(Drop)]
+#[derive(Clone, Copy)]
 pub struct Rings {
     pub g: usize,
     pub ends: usize,

@@ -1,7 +1,7 @@
 -- What the viewer shows of a party holds each of the party's positions once, ascending, with its slot. (That its steps show
 -- exactly that, and that it stays at the end, is in ViewerSteps.antt.) Assumes nothing.
 use Prim.Native.Nat.{ℕ, zero, suc, ◌+◌, ◌≤◌, ◌<◌}
-use mathlib.Core.Path.{◌≡◌, refl}
+use mathlib.Core.Path.{◌≡◌, refl, sym, subst}
 use mathlib.Core.Bool.{Bool, true, false}
 use mathlib.Core.List.{List, [], ◌∷◌}
 use native.Mathlib.Omega.{arith}
@@ -84,8 +84,12 @@ module _ (party : ℕ) (slots : List ℕ) where
       same = omega arith
 
       go : (b : Bool) → named party x ≡ b → shown_at (k + 1 + i) (view_from party slots (k + 1) xs) ≡ pick (named party (get_or xs i d)) 1 0 → shown_at (k + suc i) (view_from party slots k (x ∷ xs)) ≡ pick (named party (get_or xs i d)) 1 0
-      go true e rest = rw (from_named k x xs e, same) (omega (arith, rest, is_ne {u = k + 1 + i} {v = k} (λ q. omega arith)))
-      go false e rest = rw (from_other k x xs e, same) rest
+      go true e rest =
+          subst (λ (z : ℕ). shown_at z (view_from party slots k (x ∷ xs)) ≡ pick (named party (get_or xs i d)) 1 0) (sym same)
+          (rw (from_named k x xs e) (omega (arith, rest, is_ne {u = k + 1 + i} {v = k} (λ q. omega arith))))
+      go false e rest =
+          subst (λ (z : ℕ). shown_at z (view_from party slots k (x ∷ xs)) ≡ pick (named party (get_or xs i d)) 1 0) (sym same)
+          (rw (from_other k x xs e) rest)
 
 shows_whole : (party : ℕ) (slots : List ℕ) (xs : List Appt) (s : Seen) → ShowsFrom party slots 0 xs s → Shows party slots xs s
 shows_whole party slots xs s f =

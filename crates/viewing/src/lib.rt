@@ -9,7 +9,7 @@ ghost use Rattle.viewing.specs.Told.{step_shown, stands_of, stepped};
 use appointments::Checked;
 
 // What a step shows: an appointment's position, its slot, and where the viewer then stands; or the end, and where it stays.
-#[derive(Drop)]
+#[derive(Clone, Copy)]
 pub enum Shown {
     Found(usize, u16, usize),
     End(usize),

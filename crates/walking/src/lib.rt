@@ -14,7 +14,7 @@ use rings::Rings;
 use words::{NodeIndex, set_word, word_at};
 
 // A walk: the party of the outer loop, the party at which it stands, the height of the stack, the places written.
-#[derive(Drop)]
+#[derive(Clone, Copy)]
 pub struct Walk {
     pub next: NodeIndex,
     pub at: NodeIndex,

@@ -20,10 +20,9 @@ returns-then-named c =
     let a = c.args in
     let slot = word a.slots.now a.i in
     let names = sym c.if-named.true ∙ c.named.ensures in
-    let noted = c.note.ensures in
     let fits = c.type_inv.slots a.i in
-    rw (slots_named a.party a.list.now a.slots.now a.i (omega arith) (omega arith) names, noted.1.1.1)
-    (noted_more slot c.note.result.lowest c.note.result.highest c.note.result.different (omega (arith, fits)) c.requires.noted noted.0 noted.1.0 noted.1.1.0)
+    rw (slots_named a.party a.list.now a.slots.now a.i (omega arith) (omega arith) names, c.note.ensures.flags)
+    (noted_more slot c.note.result.lowest c.note.result.highest c.note.result.different (omega (arith, fits)) c.requires.noted c.note.ensures.lowest c.note.ensures.highest c.note.ensures.different)
 
 pub returns : goal.returns
 returns c =

@@ -23,5 +23,4 @@ pub returns : goal.returns
 returns c =
     let listed : let a = c.args in checked (checks_with_slots a.p a.list.now (length a.slots.now) passed) ≡ Checked.Passed = sym c.check_with_slots-listed.ensures ∙ c.in_default.is in
     let a = c.args in
-    let waits = c.waiting_of.ensures in
-    record { answer = asked_waits a.p a.list.now a.slots.now a.party listed _ c.if-p-party.false waits.0; fits = waits.1 }
+    record { answer = asked_waits a.p a.list.now a.slots.now a.party listed _ c.if-p-party.false c.waiting_of.ensures.waiting; fits = c.waiting_of.ensures.most }
