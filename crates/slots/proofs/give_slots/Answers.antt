@@ -1,0 +1,12 @@
+-- `slots::give_slots` meets its contract: its two passes give the definition's plan. Assumes nothing.
+use Rattle.slots.proofs.StoredSlots.{slots_stored}
+use Rattle.slots.proofs.give_slots.Goals as goal
+
+pub returns : goal.returns
+returns c =
+    let a = c.args in
+    λ ends pairs xs plan e fit.
+    let x = c.take_all.ensures in
+    let y = c.push_all.ensures in
+    rw (x.0, x.1, y, ← e)
+    (slots_stored ends pairs a.n a.d a.out a.pair_numbers a.links xs plan a.s.now a.slots.now fit)

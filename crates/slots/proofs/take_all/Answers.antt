@@ -1,0 +1,30 @@
+-- `slots::take_all` meets its contract. Invariant: what the appointments from i on make of the words and slots is what all of them
+-- make of those at entry; the measure is how many are left. Assumes nothing.
+use Prim.Native.Nat.{◌≤◌}
+use mathlib.Core.Path.{sym, ◌∙◌}
+use native.Mathlib.Omega.{arith}
+use Rattle.slot_chains.proofs.StepLaws.{given_words_turn, given_slots_turn, given_words_stop, given_slots_stop}
+use borrow.Author.Rules.{rules}
+use Rattle.slots.proofs.take_all.Goals as goal
+
+pub loop-i-preserved : goal.loop-i-preserved
+loop-i-preserved c =
+    let lp = c.loop-i in
+    let a = c.args in
+    let x = c.take_slot.ensures in
+    let h = c.loop-i-test.true in (
+      search rules,
+      c.take_slot.auto.s ∙ lp.invariant.1,
+      c.take_slot.auto.slots ∙ lp.invariant.2,
+      rw x.0 (sym (given_words_turn a.out a.pair_numbers a.links a.a lp.i h lp.s) ∙ lp.invariant.3),
+      rw (x.0, x.1) (sym (given_slots_turn a.out a.pair_numbers a.links a.a lp.i h lp.s lp.slots) ∙ lp.invariant.4),
+    )
+
+pub returns : goal.returns
+returns c =
+    let lp = c.loop-i in
+    let a = c.args in
+    let h : a.a ≤ lp.i = omega arith in (
+      sym (given_words_stop a.out a.pair_numbers a.links a.a lp.i h lp.s) ∙ lp.invariant.3,
+      sym (given_slots_stop a.out a.pair_numbers a.links a.a lp.i h lp.s lp.slots) ∙ lp.invariant.4,
+    )
