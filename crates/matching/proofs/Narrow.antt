@@ -9,7 +9,6 @@ use lib.ListN.{length}
 use Rattle.words.specs.Basics.{total, All}
 use Rattle.multigraph.specs.Multigraph.{Graph, add_edge}
 use Rattle.multigraph.specs.Regular.{names, Across, Regular, Positive, Partition}
-use Rattle.multigraph.specs.Places.{size}
 use Rattle.multigraph.proofs.Matchings.{weigh_ends}
 use Rattle.multigraph.proofs.Parts.{pairs_le_degree, pairs_by_width, ends_add_edge}
 use Rattle.multigraph.proofs.Sizes.{one_pair}

@@ -1,0 +1,2 @@
+-- The laws of the scratch mark. Assumes nothing.
+pub mod Taking
