@@ -1,13 +1,13 @@
 -- W is what check 8 asks, and 1,179,648 words are enough for every list that passes check 6. Assumes nothing.
-use Prim.Native.Nat.{ℕ, ◌+◌, ◌*◌, ◌<◌, ◌≤◌}
+use Prim.Native.Nat.{ℕ, ◌+◌, ◌*◌, ◌≤◌}
 use mathlib.Core.Path.{◌≡◌, refl, ap}
 use mathlib.Core.List.{List}
 use native.Mathlib.Omega.{arith}
 use native.Mathlib.Nat.{mul-add, mul_assoc, mul_comm}
 use Rattle.appointments.specs.Appointments.{appts, largest_load, scratch_words}
-use Rattle.appointments.specs.Checks.{Check, passed, refused, checks_1_to_6, checks}
+use Rattle.appointments.specs.Checks.{Check, passed, checks_1_to_6}
 use Rattle.appointments.specs.Answers.{accepted, answer}
-use Rattle.appointments.specs.Needed.{needing, needs_answer, AsksW, Exact, scratch_enough, Enough}
+use Rattle.appointments.specs.Needed.{needing, needs_answer, Exact, scratch_enough, Enough}
 use Rattle.appointments.proofs.AnswerLaws.{accepted_passed}
 use Rattle.appointments.proofs.ChecksLaws.{passes_passed, passed_sized}
 use Rattle.appointments.proofs.Causes.{Cause, many_parties, odd_length, many_appts, blank_end, unlisted_end, large_product, few_slots, small_scratch, cause_refused, refused_cause}

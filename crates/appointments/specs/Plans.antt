@@ -1,5 +1,5 @@
 -- Document 01's plan, its number of slots, meets, clash, clash-free and busiest party. Assumes nothing.
-use Rattle.std.specs.Prelude.{ℕ, zero, suc, ◌+◌, ◌*◌, ◌≤◌, ◌<◌, ◌≡◌, List, [], ◌∷◌, eqb, length}
+use Rattle.std.specs.Prelude.{ℕ, ◌+◌, ◌*◌, ◌≤◌, ◌<◌, ◌≡◌, List, [], ◌∷◌, eqb, length}
 use Rattle.words.specs.Basics.{pick, is, count}
 use Rattle.appointments.specs.Appointments.{Appt, names, load, largest_load}
 

@@ -5,7 +5,7 @@ use mathlib.Core.List.{List}
 use native.Mathlib.Nat.{le_trans, mul-le-mul_left, mul-le-mul_right}
 use native.Mathlib.Omega.{arith}
 use lib.ListN.{length}
-use Rattle.appointments.specs.Appointments.{appts, largest_load, scratch_words}
+use Rattle.appointments.specs.Appointments.{appts, largest_load}
 use Rattle.appointments.specs.Checks.{passed}
 use Rattle.appointments.specs.Rounds.{OddRound}
 use Rattle.appointments.specs.Lent.{Lent, with_list, lent_appts, lent_d, lent_checks}

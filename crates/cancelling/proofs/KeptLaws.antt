@@ -1,9 +1,9 @@
 -- What holds of some of the entries of a list: sums are no larger, what holds of all holds of them, and of appointments every walk is
 -- a walk of the whole list. Assumes nothing.
-use Prim.Native.Nat.{ℕ, suc, ◌+◌, ◌≤◌, ◌<◌}
-use mathlib.Core.Path.{◌≡◌, refl, sym, ◌∙◌, ap}
+use Prim.Native.Nat.{ℕ, ◌≤◌}
+use mathlib.Core.Path.{◌∙◌, ap}
 use mathlib.Core.List.{List, [], ◌∷◌, ◌++◌, map, map-append}
-use mathlib.Core.Logic.{◌⊎◌, inl, inr}
+use mathlib.Core.Logic.{inl, inr}
 use native.Mathlib.Omega.{arith}
 use lib.ListN.{length}
 use Rattle.words.specs.Basics.{All, total}
@@ -66,6 +66,7 @@ all_joined u v (x ∷ xs) = (λ g. inl g, all_map (λ y joined g. inr (joined g)
 
 -- who is joined is joined by one of the appointments
 joined_by : {X : Type 0} (u v : ℕ) (ys : List Appt) → All (λ y. Goes y u v → X) ys → Joined ys u v → X
+joined_by u v [] h j = elim j [ ]
 joined_by u v (y ∷ ys) h (inl g) = h.0 g
 joined_by u v (y ∷ ys) h (inr j) = joined_by u v ys h.1 j
 

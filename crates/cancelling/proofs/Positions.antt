@@ -6,9 +6,9 @@ use mathlib.Core.List.{List, [], ◌∷◌, ◌++◌, map}
 use native.Mathlib.Omega.{arith}
 use native.Mathlib.Decide.{ℕ_discrete}
 use lib.ListN.{length, drop}
-use Rattle.words.specs.Basics.{All, is, count}
+use Rattle.words.specs.Basics.{count}
 use Rattle.words.specs.Words.{word}
-use Rattle.words.proofs.Sums.{is_same, is_eq, is_ne, is_le, count_append, all_counted}
+use Rattle.words.proofs.Sums.{is_same, is_eq, is_ne, count_append, all_counted}
 use Rattle.appointments.specs.Appointments.{Appt, appt, appts}
 use Rattle.appointments.specs.Lent.{lent_appts}
 use Rattle.appointments.proofs.Flat.{appts_count, rest_cons, rest_none}

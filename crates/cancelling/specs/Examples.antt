@@ -1,8 +1,8 @@
 -- Worked examples of what may be kept: of two equal appointments both, of one not two; the order is free; and the empty choice.
 -- Assumes nothing.
-use Rattle.std.specs.Prelude.{ℕ, ◌≡◌, refl, List, [], ◌∷◌, ◌++◌, length}
+use Rattle.std.specs.Prelude.{◌≡◌, refl, List, [], ◌∷◌, length}
 use Rattle.std.proofs.Common.{ap, arith, length-append}
-use Rattle.appointments.specs.Appointments.{Appt, appt, appts}
+use Rattle.appointments.specs.Appointments.{Appt, appt}
 use Rattle.cancelling.specs.Cancelling.{Kept, at_positions}
 
 -- 0-1, 0-1, 2-1

@@ -10,12 +10,10 @@ use lib.ListN.{length}
 use Rattle.words.specs.Basics.{All}
 use Rattle.words.specs.Words.{word}
 use Rattle.words.proofs.Sums.{all_map}
-use Rattle.multigraph.specs.Stored.{entries}
 use Rattle.circuits.specs.declared.Two.{Two}
 use Rattle.euler.specs.Room.{Splits}
 use Rattle.circuits.specs.Model.{ApartSoFar, two_start_m, two_sift_all_m, two_fill_m, copies_sum_m, two_laid}
 use Rattle.circuits.specs.Bounds.{TwoFills}
-use Rattle.euler.proofs.Taken.{ends}
 use Rattle.euler.proofs.Places.{keep}
 use Rattle.circuits.proofs.CircuitFill as Fill
 use Rattle.circuits.proofs.CircuitFill.{Ground}

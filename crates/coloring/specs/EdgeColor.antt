@@ -1,8 +1,8 @@
 -- Modules 6 and 7 of document 01: the colouring of a regular graph is the list of its matchings. Assumes nothing.
-use Rattle.std.specs.Prelude.{ℕ, zero, suc, ◌+◌, ◌-◌, ◌/◌, ◌%◌, ◌^◌, Bool, true, false, List, [], ◌∷◌, ◌++◌, eqb, take, drop}
+use Rattle.std.specs.Prelude.{ℕ, zero, suc, ◌-◌, ◌/◌, ◌%◌, ◌^◌, List, [], ◌∷◌, ◌++◌, eqb, take, drop}
 use Rattle.words.specs.Basics.{pick, Run, ran, failed, and_then}
-use Rattle.multigraph.specs.Multigraph.{Pair, Graph, add_matching, remove_matching}
-use Rattle.euler.specs.Split.{Halves, rbmg_split_into_two}
+use Rattle.multigraph.specs.Multigraph.{Graph, add_matching, remove_matching}
+use Rattle.euler.specs.Split.{rbmg_split_into_two}
 use Rattle.perfect_matching.specs.Matching.{rbmg_find_perfect_matching}
 use Rattle.words.specs.PowersOfTwo.{log_up}
 

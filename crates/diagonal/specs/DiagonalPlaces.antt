@@ -2,8 +2,7 @@
 use Rattle.std.specs.Prelude.{ℕ, ◌+◌, ◌*◌, ◌<◌, ◌≤◌, ◌≡◌, List, ◌⊎◌, length}
 use Rattle.words.specs.Frames.{ChangesThree}
 use Rattle.words.specs.Words.{word, put_word, word_limit}
-use Rattle.multigraph.specs.Places.{number, HasEnds}
-use Rattle.list_pairs.specs.Rows.{row}
+use Rattle.multigraph.specs.Places.{HasEnds}
 use Rattle.list_pairs.specs.declared.Bases.{Bases}
 
 -- the words after place i of the diagonal has begun: both parties' place, the number m + i, and its row of ends

@@ -7,13 +7,12 @@ use mathlib.Core.Logic.{◌⊎◌, inl, inr, ⊎_elim}
 use native.Mathlib.Omega.{arith}
 use native.Mathlib.Decide.{ℕ_discrete, dec_lt, dec_le}
 use lib.ListN.{length, drop, get_or-eq_default}
-use Rattle.words.specs.Basics.{is, count}
 use Rattle.words.specs.Words.{word, region}
 use Rattle.words.specs.Frames.{ChangesThree}
 use Rattle.words.proofs.Ranges.{three_trans, three_within, three_low}
 use Rattle.multigraph.specs.Multigraph.{Graph, add_edge}
 use Rattle.multigraph.specs.Regular.{degree}
-use Rattle.multigraph.specs.Places.{size, number, HasEnds}
+use Rattle.multigraph.specs.Places.{size, HasEnds}
 use Rattle.multigraph.proofs.Ends.{same_ends_sym, same_ends_trans}
 use Rattle.regular_graph.specs.Evening.{Evening, evening, even_out_step}
 use Rattle.list_pairs.specs.Contract.{first_of, second_of}

@@ -1,7 +1,7 @@
 -- What the steps of evening out ask and give (`src/filling.rt`). Assumes nothing.
 use Rattle.std.specs.Prelude.{ℕ, ◌+◌, ◌-◌, ◌/◌, ◌<◌, ◌≤◌, min, ◌≡◌, List, ◌⊎◌}
 use Rattle.words.specs.Words.{word, put_word, word_limit}
-use Rattle.multigraph.specs.Places.{size, number}
+use Rattle.multigraph.specs.Places.{size}
 use Rattle.evening.specs.Contract.{CanEven}
 use Rattle.list_pairs.specs.Adding.{AddsPair}
 use Rattle.list_pairs.specs.Ends.{Joins}

@@ -7,7 +7,6 @@ use native.Mathlib.Omega.{arith}
 use native.Mathlib.Decide.{ℕ_discrete, dec_lt}
 use borrow.Author.Tests.{lt-ltb, le-ltb}
 use lib.ListN.{length, take, length-take}
-use Rattle.words.specs.Basics.{count}
 use Rattle.words.specs.Words.{word, put_word}
 use Rattle.words.proofs.Ranges.{three_refl, three_trans, three_within, three_outer}
 use Rattle.appointments.specs.Appointments.{appts}

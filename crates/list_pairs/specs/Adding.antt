@@ -6,7 +6,6 @@ use Rattle.multigraph.specs.Multigraph.{Pair, pair, Graph, add_edge}
 use Rattle.multigraph.specs.Places.{size, copies_of, HasEnds}
 use Rattle.multigraph.specs.Steps.{span}
 use Rattle.list_pairs.specs.Contract.{Plain}
-use Rattle.list_pairs.specs.Rows.{row}
 
 -- the pair at place e, which is its number
 abbrev pub plain_pair : List ℕ → ℕ → ℕ → ℕ → Pair

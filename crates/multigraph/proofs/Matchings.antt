@@ -1,15 +1,15 @@
 -- Perfect matchings: single copies, and what adding and removing one does to every weight. Assumes nothing.
 use Prim.Native.Nat.{ℕ, zero, suc, ◌+◌, ◌*◌, ◌≤◌, ◌<◌}
-use mathlib.Core.Path.{◌≡◌, refl, sym, ◌∙◌, ap}
+use mathlib.Core.Path.{◌≡◌, refl, ◌∙◌, ap}
 use mathlib.Core.List.{List, [], ◌∷◌}
 use native.Mathlib.Omega.{arith}
 use native.Mathlib.Nat.{mul-le-mul_left, mul-one, one-mul}
-use Rattle.words.specs.Basics.{is, total, All}
+use Rattle.words.specs.Basics.{total, All}
 use Rattle.words.proofs.Sums.{is_same, all_map, all_both, total_cong_all}
-use Rattle.multigraph.specs.Multigraph.{Pair, pair, Graph, add_edge, remove_edge, add_matching, remove_matching}
+use Rattle.multigraph.specs.Multigraph.{Pair, Graph, add_edge, remove_edge, add_matching, remove_matching}
 use Rattle.multigraph.specs.Regular.{weigh, names, degree, between, copies_between, pairs_between, Apart, Across, Regular, Positive, Symmetric}
 use Rattle.multigraph.proofs.Ends.{between_symmetric, between_self}
-use Rattle.multigraph.proofs.Weights.{weigh_cons, pairs_between_none, pairs_between_cons, part_of_weight, no_pairs_no_copies}
+use Rattle.multigraph.proofs.Weights.{pairs_between_cons, part_of_weight, no_pairs_no_copies}
 use Rattle.multigraph.proofs.Adding.{weigh_add_edge, across_add_edge, positive_add_edge, apart_add_edge}
 use Rattle.multigraph.proofs.Removing.{weigh_remove_edge, across_remove_edge, positive_remove_edge, apart_remove_edge}
 

@@ -1,17 +1,16 @@
 -- `remove_edge` takes one copy from every weight. Assumes nothing.
-use Prim.Native.Nat.{ℕ, zero, suc, ◌+◌, ◌*◌, ◌-◌, ◌≤◌, ◌<◌}
-use mathlib.Core.Path.{◌≡◌, refl, sym, ◌∙◌, ap}
+use Prim.Native.Nat.{ℕ, ◌+◌, ◌*◌, ◌-◌, ◌≤◌, ◌<◌}
+use mathlib.Core.Path.{◌≡◌, refl, ◌∙◌, ap}
 use mathlib.Core.Bool.{Bool, true, false}
-use mathlib.Core.List.{List, [], ◌∷◌}
-use mathlib.Core.Logic.{◌⊎◌, inl, inr, ⊎_elim}
+use mathlib.Core.List.{[], ◌∷◌}
 use native.Mathlib.Omega.{arith}
 use borrow.Author.Tests.{eqb-true, eqb-false}
 use lib.Dec.{eqb}
 use Rattle.words.specs.Basics.{pick, All}
-use Rattle.multigraph.specs.Multigraph.{Pair, pair, Graph, with_copies, joins, remove_edge}
-use Rattle.multigraph.specs.Regular.{weigh, between, pairs_between, Apart, Across, Positive, Symmetric}
+use Rattle.multigraph.specs.Multigraph.{Pair, Graph, with_copies, joins, remove_edge}
+use Rattle.multigraph.specs.Regular.{weigh, pairs_between, Apart, Across, Positive, Symmetric}
 use Rattle.multigraph.proofs.Ends.{joins_true, same_weight, not_between}
-use Rattle.multigraph.proofs.Weights.{weigh_none, weigh_cons, pairs_between_none, pairs_between_cons}
+use Rattle.multigraph.proofs.Weights.{weigh_cons, pairs_between_none, pairs_between_cons}
 
 -- removing one copy of a pair that is there
 pub weigh_remove_edge :

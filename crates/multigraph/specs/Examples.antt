@@ -1,7 +1,7 @@
 -- Small graphs worked out by hand from the Rust's `add_edge` and `remove_edge`, each in which a wrong turn shows.
 -- Assumes nothing.
 use Rattle.std.specs.Prelude.{ℕ, ◌≡◌, refl, List, [], ◌∷◌}
-use Rattle.multigraph.specs.Multigraph.{Pair, pair, Graph, add_edge, remove_edge, add_matching, remove_matching}
+use Rattle.multigraph.specs.Multigraph.{pair, add_edge, add_matching, remove_matching}
 use Rattle.multigraph.specs.Regular.{degree, copies_between}
 use Rattle.multigraph.specs.Computing.{computing}
 

@@ -1,6 +1,6 @@
 -- Module 1 of document 01, the pairs of `RegularBipartiteMultiGraph`. A graph is the list of its pairs by number, that is by
 -- creation. Assumes nothing.
-use Rattle.std.specs.Prelude.{ℕ, zero, suc, ◌+◌, ◌-◌, Bool, true, false, ◌&&◌, ◌||◌, List, [], ◌∷◌, eqb}
+use Rattle.std.specs.Prelude.{ℕ, ◌+◌, ◌-◌, Bool, ◌&&◌, ◌||◌, List, [], ◌∷◌, eqb}
 use Rattle.words.specs.Basics.{pick}
 
 -- A pair has two ends, copies (`multiplicity`) and a flag (`bad`): 1 if flagged, else 0.

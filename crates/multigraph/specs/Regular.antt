@@ -1,6 +1,6 @@
 -- What the laws say of a graph: degrees, copies between two parties, and regular. A matching is a regular graph of degree 1.
 -- Assumes nothing.
-use Rattle.std.specs.Prelude.{ℕ, zero, suc, ◌+◌, ◌*◌, ◌<◌, ◌≤◌, ◌≡◌, List, [], ◌∷◌, ◌⊎◌, length}
+use Rattle.std.specs.Prelude.{ℕ, ◌+◌, ◌*◌, ◌<◌, ◌≡◌, List, [], ◌∷◌, ◌⊎◌, length}
 use Rattle.words.specs.Basics.{pick, is, total, count, All}
 use Rattle.multigraph.specs.Multigraph.{Pair, Graph, joins}
 

@@ -1,8 +1,8 @@
 -- Module 5 of document 01, `rbmg_find_perfect_matching`, with the second search that document 01 adds. Assumes nothing.
-use Rattle.std.specs.Prelude.{ℕ, zero, suc, ◌+◌, ◌*◌, ◌-◌, ◌/◌, ◌^◌, Bool, true, false, List, [], ◌∷◌, eqb, leb, length}
+use Rattle.std.specs.Prelude.{ℕ, zero, suc, ◌*◌, ◌-◌, ◌/◌, ◌^◌, List, [], ◌∷◌, eqb, leb, length}
 use Rattle.words.specs.Basics.{pick, total, Run, ran, and_then}
 use Rattle.words.specs.PowersOfTwo.{log_up}
-use Rattle.multigraph.specs.Multigraph.{Pair, Graph, add_edge}
+use Rattle.multigraph.specs.Multigraph.{Graph, add_edge}
 use Rattle.euler.specs.Split.{Halves, rbmg_split_into_two}
 
 -- how many pairs are flagged, however many copies they have

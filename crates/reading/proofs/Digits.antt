@@ -1,12 +1,12 @@
 -- The value of digits: what one more digit makes of it, in front or behind. Assumes nothing.
 use Prim.Native.Nat.{ℕ, ◌+◌, ◌-◌, ◌*◌, ◌≤◌, ◌<◌}
-use mathlib.Core.Path.{◌≡◌, refl, sym, ◌∙◌, ap}
+use mathlib.Core.Path.{◌≡◌, sym, ◌∙◌, ap}
 use mathlib.Core.Bool.{true}
 use mathlib.Core.List.{List, [], ◌∷◌, ◌++◌}
 use mathlib.Core.Option.{some}
 use native.Mathlib.Omega.{arith}
 use borrow.Author.Tests.{le-leb}
-use Rattle.words.specs.Basics.{pick, All}
+use Rattle.words.specs.Basics.{All}
 use Rattle.reading.specs.Reading.{is_digit, digits_value}
 
 pub record Digit (b : ℕ) : Type 0 where

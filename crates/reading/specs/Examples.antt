@@ -1,6 +1,6 @@
 -- Worked examples of reading, each computed: document 01's input, malformed lines of each kind, lines that look odd and are read,
 -- and broken inputs. A wrong definition is refused here. Assumes nothing.
-use Rattle.std.specs.Prelude.{ℕ, ◌≡◌, refl, true, false, List, [], ◌∷◌}
+use Rattle.std.specs.Prelude.{ℕ, ◌≡◌, refl, true, false, [], ◌∷◌}
 use Prim.Native.String.{String}
 use Rattle.words.specs.Ascii.{ascii}
 use Rattle.reading.specs.Reading.{Input, input, malformed, read_input}

@@ -13,7 +13,7 @@ use Rattle.words.specs.Words.{word, put_word}
 use Rattle.words.proofs.Sums.{all_left, all_right, count_append}
 use Rattle.words.proofs.Frames.{here, away, length_put}
 use Rattle.multigraph.specs.Multigraph.{Pair, Graph}
-use Rattle.multigraph.specs.Stored.{entry, entries, graph_at}
+use Rattle.multigraph.specs.Stored.{entry, graph_at}
 use Rattle.rings.specs.declared.Rings.{Rings}
 use Rattle.rings.specs.Model.{Counted, copies_m}
 use Rattle.splitting.specs.Model.{more_m, entry_m, entries_m, single_m, singles_m, half_m}

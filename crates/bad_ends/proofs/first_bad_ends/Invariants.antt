@@ -2,7 +2,7 @@
 -- the measure is what is left of the list. Assumes nothing.
 use Prim.Native.Nat.{◌-◌, ◌≤◌}
 use Rattle.appointments.specs.Appointments.{appts}
-use Rattle.appointments.specs.Checks.{unlisted, has_blank, has_unlisted}
+use Rattle.appointments.specs.Checks.{has_blank, has_unlisted}
 use Rattle.bad_ends.specs.Noted.{Kept}
 use Rattle.bad_ends.proofs.first_bad_ends.Given as goal
 

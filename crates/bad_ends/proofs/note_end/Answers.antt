@@ -2,7 +2,7 @@
 use mathlib.Core.Path.{sym}
 use native.Mathlib.Omega.{arith}
 use borrow.Author.Tests.{ne_eqb}
-use Rattle.appointments.specs.Checks.{blank, unlisted}
+use Rattle.appointments.specs.Checks.{blank}
 use Rattle.appointments.proofs.ChecksLaws.{end_listed}
 use Rattle.bad_ends.proofs.Noting.{noted_not}
 use Rattle.bad_ends.proofs.note_end.Goals as goal

@@ -11,10 +11,10 @@ use Rattle.printing.proofs.put_appointment.Goals as goal
 pub put_field-at_first-requires : goal.put_field-at_first-requires
 put_field-at_first-requires c =
     let Fields : List ℕ =
-        field (decimal c.args.i) space
+    field (decimal c.args.i) space
     ++ (field (decimal c.get16-first.result) space ++ (field (decimal c.get16-second.result) space ++ field (decimal c.get16-slot.result) line_feed)) in
     let fields : appointment_line_at c.args.list.now c.args.slots.now c.args.i ≡ Fields =
-        appointment_fields c.args.list.now c.args.slots.now c.args.i _ _ _
+    appointment_fields c.args.list.now c.args.slots.now c.args.i _ _ _
     c.get16-first.ensures.0 c.get16-second.ensures.0 c.get16-slot.ensures.0 in
     let room : Room c.args.out.now c.args.at Fields = rw fields at c.requires.1 in
     room_first _ room
@@ -22,10 +22,10 @@ put_field-at_first-requires c =
 pub put_field-at_second-requires : goal.put_field-at_second-requires
 put_field-at_second-requires c =
     let Fields : List ℕ =
-        field (decimal c.args.i) space
+    field (decimal c.args.i) space
     ++ (field (decimal c.get16-first.result) space ++ (field (decimal c.get16-second.result) space ++ field (decimal c.get16-slot.result) line_feed)) in
     let fields : appointment_line_at c.args.list.now c.args.slots.now c.args.i ≡ Fields =
-        appointment_fields c.args.list.now c.args.slots.now c.args.i _ _ _
+    appointment_fields c.args.list.now c.args.slots.now c.args.i _ _ _
     c.get16-first.ensures.0 c.get16-second.ensures.0 c.get16-slot.ensures.0 in
     let room : Room c.args.out.now c.args.at Fields = rw fields at c.requires.1 in
     room_first _ (room_then _ room c.put_field-at_first.ensures)
@@ -33,10 +33,10 @@ put_field-at_second-requires c =
 pub put_field-at_slot-requires : goal.put_field-at_slot-requires
 put_field-at_slot-requires c =
     let Fields : List ℕ =
-        field (decimal c.args.i) space
+    field (decimal c.args.i) space
     ++ (field (decimal c.get16-first.result) space ++ (field (decimal c.get16-second.result) space ++ field (decimal c.get16-slot.result) line_feed)) in
     let fields : appointment_line_at c.args.list.now c.args.slots.now c.args.i ≡ Fields =
-        appointment_fields c.args.list.now c.args.slots.now c.args.i _ _ _
+    appointment_fields c.args.list.now c.args.slots.now c.args.i _ _ _
     c.get16-first.ensures.0 c.get16-second.ensures.0 c.get16-slot.ensures.0 in
     let room : Room c.args.out.now c.args.at Fields = rw fields at c.requires.1 in
     room_first _ (room_then _ (room_then _ room c.put_field-at_first.ensures) c.put_field-at_second.ensures)
@@ -44,10 +44,10 @@ put_field-at_slot-requires c =
 pub put_field-requires : goal.put_field-requires
 put_field-requires c =
     let Fields : List ℕ =
-        field (decimal c.args.i) space
+    field (decimal c.args.i) space
     ++ (field (decimal c.get16-first.result) space ++ (field (decimal c.get16-second.result) space ++ field (decimal c.get16-slot.result) line_feed)) in
     let fields : appointment_line_at c.args.list.now c.args.slots.now c.args.i ≡ Fields =
-        appointment_fields c.args.list.now c.args.slots.now c.args.i _ _ _
+    appointment_fields c.args.list.now c.args.slots.now c.args.i _ _ _
     c.get16-first.ensures.0 c.get16-second.ensures.0 c.get16-slot.ensures.0 in
     let room : Room c.args.out.now c.args.at Fields = rw fields at c.requires.1 in
     room_then _ (room_then _ (room_then _ room c.put_field-at_first.ensures) c.put_field-at_second.ensures) c.put_field-at_slot.ensures
@@ -55,10 +55,10 @@ put_field-requires c =
 pub returns : goal.returns
 returns c =
     let Fields : List ℕ =
-        field (decimal c.args.i) space
+    field (decimal c.args.i) space
     ++ (field (decimal c.get16-first.result) space ++ (field (decimal c.get16-second.result) space ++ field (decimal c.get16-slot.result) line_feed)) in
     let fields : appointment_line_at c.args.list.now c.args.slots.now c.args.i ≡ Fields =
-        appointment_fields c.args.list.now c.args.slots.now c.args.i _ _ _
+    appointment_fields c.args.list.now c.args.slots.now c.args.i _ _ _
     c.get16-first.ensures.0 c.get16-second.ensures.0 c.get16-slot.ensures.0 in
     rw fields
     (placed_then c.put_field-at_first.ensures

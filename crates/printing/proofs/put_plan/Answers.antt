@@ -13,7 +13,7 @@ pub put_bytes-at_number-requires : goal.put_bytes-at_number-requires
 unfolding ascii
 put_bytes-at_number-requires c =
     let Fields : List ℕ =
-        ascii "plan "
+    ascii "plan "
     ++ (field (decimal c.args.d) line_feed
     ++ (appointment_lines 0 (appts c.args.list.now) c.args.slots.now ++ party_lines (appts c.args.list.now) c.args.slots.now 0 c.args.p)) in
     let fields : plan_lines c.args.p c.args.list.now c.args.d c.args.slots.now ≡ Fields = plan_fields c.args.p c.args.list.now c.args.d c.args.slots.now in
@@ -24,7 +24,7 @@ pub put_field-at_appointments-requires : goal.put_field-at_appointments-requires
 unfolding ascii
 put_field-at_appointments-requires c =
     let Fields : List ℕ =
-        ascii "plan "
+    ascii "plan "
     ++ (field (decimal c.args.d) line_feed
     ++ (appointment_lines 0 (appts c.args.list.now) c.args.slots.now ++ party_lines (appts c.args.list.now) c.args.slots.now 0 c.args.p)) in
     let fields : plan_lines c.args.p c.args.list.now c.args.d c.args.slots.now ≡ Fields = plan_fields c.args.p c.args.list.now c.args.d c.args.slots.now in
@@ -35,7 +35,7 @@ pub put_appointments-at_parties-requires : goal.put_appointments-at_parties-requ
 unfolding ascii
 put_appointments-at_parties-requires c =
     let Fields : List ℕ =
-        ascii "plan "
+    ascii "plan "
     ++ (field (decimal c.args.d) line_feed
     ++ (appointment_lines 0 (appts c.args.list.now) c.args.slots.now ++ party_lines (appts c.args.list.now) c.args.slots.now 0 c.args.p)) in
     let fields : plan_lines c.args.p c.args.list.now c.args.d c.args.slots.now ≡ Fields = plan_fields c.args.p c.args.list.now c.args.d c.args.slots.now in
@@ -46,7 +46,7 @@ pub put_parties-requires : goal.put_parties-requires
 unfolding ascii
 put_parties-requires c =
     let Fields : List ℕ =
-        ascii "plan "
+    ascii "plan "
     ++ (field (decimal c.args.d) line_feed
     ++ (appointment_lines 0 (appts c.args.list.now) c.args.slots.now ++ party_lines (appts c.args.list.now) c.args.slots.now 0 c.args.p)) in
     let fields : plan_lines c.args.p c.args.list.now c.args.d c.args.slots.now ≡ Fields = plan_fields c.args.p c.args.list.now c.args.d c.args.slots.now in
@@ -57,7 +57,7 @@ pub returns : goal.returns
 unfolding ascii
 returns c =
     let Fields : List ℕ =
-        ascii "plan "
+    ascii "plan "
     ++ (field (decimal c.args.d) line_feed
     ++ (appointment_lines 0 (appts c.args.list.now) c.args.slots.now ++ party_lines (appts c.args.list.now) c.args.slots.now 0 c.args.p)) in
     let fields : plan_lines c.args.p c.args.list.now c.args.d c.args.slots.now ≡ Fields = plan_fields c.args.p c.args.list.now c.args.d c.args.slots.now in
