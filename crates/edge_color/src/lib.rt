@@ -44,7 +44,7 @@ pub fn rbmg_edge_color_when_power_of_two(
 }
 
 // Writes at `to` the graph at `g` without the matching of `n` numbers at `at`. Nothing but `multigraph::remove_matching` with its
-// conditions in one `requires`: `set_aside` is proved by a walk, and there a callee has one (docs/MARK-PROOFS.md).
+// conditions in one `requires`, as `set_aside` shows them (docs/MARK-PROOFS.md).
 fn take_out(s: &mut [u32], places: usize, g: usize, to: usize, at: usize, n: usize)
     requires { (places < word_limit) × (g < word_limit) × (to < word_limit) × (at < word_limit) × (n < word_limit) }
     ensures { RemovesMatching places g to at n s.old s.new }

@@ -244,8 +244,8 @@ fn flagged_in(s: &[u32], h: usize, room: usize, pairs: usize) -> usize
     flagged(&s[h..end], pairs, false)
 }
 
-// The same of words that are lent to be changed; none is. It stands here for `search`, which is proved by a walk: there a callee
-// has the scratch lent to be changed, and one `requires` (docs/MARK-PROOFS.md).
+// The same of words that are lent to be changed; none is. It is what `search` calls at its end, which hands on the scratch that it is
+// lent (docs/MARK-PROOFS.md).
 fn flagged_left(s: &mut [u32], h: usize, room: usize, pairs: usize) -> usize
     requires { (h + room ≤ length s.old) × (2 + 2 * size s.old h ≤ room) }
     ensures { ((ends : ℕ) → result ≡ flagged_pairs (graph_at s.old ends pairs h)) × (s.new ≡ s.old) }
