@@ -4,7 +4,7 @@
 
 ghost use Rattle.std.specs.Prelude.{◌+◌, ◌<◌, ◌≤◌, length};
 
-use libc::{STDERR_FILENO, STDIN_FILENO, STDOUT_FILENO};
+use std::io::{Print, Read, Stdin};
 use text::Came;
 
 // What one read gave: how many bytes, none at the end of the input, or that it failed.
@@ -15,26 +15,30 @@ struct Piece {
 }
 
 // One read into the buffer from where the bytes end.
-fn read_piece(buffer: &mut [u8], from: usize) -> Piece
+fn read_piece(stdin: &mut Stdin, buffer: &mut [u8], from: usize) -> Piece
     requires { from < length buffer.old }
     ensures { from + result.count ≤ length buffer.old }
 {
     let behind = &mut buffer[from..];
-    let got = libc::read(STDIN_FILENO, behind);
-    let count = io::count(got, behind);
-    Piece {
-        count,
-        failed: got < 0,
+    match stdin.read(behind) {
+        Ok(count) => Piece {
+            count,
+            failed: false,
+        },
+        Err(_) => Piece {
+            count: 0,
+            failed: true,
+        },
     }
 }
 
 // Reads until the input ends or the buffer is full, however few bytes come at a time. A read may fail for a while, by a signal or
 // since the next bytes aren't there yet, so it is tried again; after a million failed reads in all the input is broken.
-fn read_input(buffer: &mut [u8]) -> Came {
+fn read_input(stdin: &mut Stdin, buffer: &mut [u8]) -> Came {
     let mut count = 0;
     let mut tries: usize = 1_000_000;
     while count < buffer.len() && 0 < tries {
-        let piece = read_piece(buffer, count);
+        let piece = read_piece(stdin, buffer, count);
         if piece.failed {
             tries -= 1;
             continue;
@@ -53,13 +57,13 @@ fn read_input(buffer: &mut [u8]) -> Came {
     }
 }
 
-fn main() {
+fn main(rt: HostRuntime) {
     let mut input = [0u8; 4097];
-    let came = read_input(&mut input);
+    let came = read_input(&mut rt.stdin(), &mut input);
     let mut output = [0u8; 1801];
     let count = text::text_output(&input, came, &mut output);
-    let is_written = io::write_all(STDOUT_FILENO, &output[..count]);
-    if !is_written {
-        io::write_all(STDERR_FILENO, b"bimtsure: the output can't be written\n");
+    let written = rt.stdout().write_all(&output[..count]);
+    if written.is_err() {
+        let _ = eprintln!(rt; "bimtsure: the output can't be written");
     }
 }

@@ -4,13 +4,13 @@
 // numbers are cut to 16 bits.
 #![tactic(auto)]
 
-ghost use Rattle.std.specs.Prelude.{◌≡◌, [], ◌∷◌, ◌+◌, ◌<◌, ◌≤◌, length};
+ghost use Rattle.std.specs.Prelude.{◌≡◌, [], ◌∷◌, ◌+◌, ◌<◌, ◌≤◌, length, take};
 ghost use Rattle.appointments.specs.Lent.{lent};
 ghost use Rattle.replay.specs.Stored.{Decides, answer_told};
 
-use libc::{STDIN_FILENO, STDOUT_FILENO};
 use planning::Answer;
 use reading::find;
+use std::io::{Read, Stdin};
 use words::{get16, put16};
 
 // How many lists got the stored answer, and how many another one.
@@ -208,11 +208,26 @@ fn replay(
     }
 }
 
+// Reads until the buffer is full, the input ends or a read fails, and gives how many bytes stand at the start of the buffer.
+fn read_full(stdin: &mut Stdin, buffer: &mut [u8]) -> usize
+    ensures { (result ≤ length buffer.new) × (result ≡ length (take result buffer.new)) }
+{
+    let mut count = 0;
+    while count < buffer.len() {
+        match stdin.read(&mut buffer[count..]) {
+            Ok(0) => return count,
+            Ok(n) => count += n,
+            Err(_) => return count,
+        }
+    }
+    count
+}
+
 // The buffers are long enough for every stored list: standard input has fewer than 65,536 bytes, no list more than 127
 // appointments, and none needs more than 524,288 words of scratch. A list that they are too short for would count as different.
-fn main() {
-    let mut input = io::large_buffer();
-    let length = io::read_full(STDIN_FILENO, &mut input);
+fn main(rt: HostRuntime) {
+    let mut input = [0u8; 65536];
+    let length = read_full(&mut rt.stdin(), &mut input);
     let mut list = [0u16; 256];
     let mut stored = [0u16; 256];
     let mut slots = [0u16; 128];
@@ -224,9 +239,6 @@ fn main() {
         &mut slots,
         &mut scratch,
     );
-    io::write_all(STDOUT_FILENO, b"equal ");
-    io::print_decimal(STDOUT_FILENO, counts.equal as u64);
-    io::write_all(STDOUT_FILENO, b"\ndifferent ");
-    io::print_decimal(STDOUT_FILENO, counts.different as u64);
-    io::write_all(STDOUT_FILENO, b"\n");
+    let _ = println!(rt; "equal {}", counts.equal);
+    let _ = println!(rt; "different {}", counts.different);
 }

@@ -4,9 +4,9 @@
 // at the end how many were right and how many there were.
 #![tactic(auto)]
 
-ghost use Rattle.std.specs.Prelude.{◌<◌, ◌≤◌, length};
+ghost use Rattle.std.specs.Prelude.{◌≡◌, ◌<◌, ◌≤◌, length, take};
 
-use libc::{STDIN_FILENO, STDOUT_FILENO};
+use std::io::{Print, Read, Stdin, Stdout};
 use text::Came;
 
 // How many cases there were, and how many were right.
@@ -25,21 +25,28 @@ struct Behind {
 
 // One case: what main prints on what came, beside the bytes expected. In the array other bytes stand behind the input's, which
 // don't matter.
-fn case(before: Tally, name: &[u8], input: &[u8], broken: bool, expected: &[u8]) -> Tally {
+fn case(
+    out: Stdout,
+    before: Tally,
+    name: &[u8],
+    input: &[u8],
+    broken: bool,
+    expected: &[u8],
+) -> Tally {
     let mut array = [0u8; 4097];
     fill(&mut array, input);
     let count = input.len();
     let mut output = [0u8; 1801];
     let count = text::text_output(&array, Came { count, broken }, &mut output);
     let is_right = check::same(&output[..count], expected);
-    let cases = std::num::wrapping_add_u64(before.cases, 1);
-    io::write_all(STDOUT_FILENO, name);
+    let cases = before.cases.wrapping_add(1);
+    let _ = out.write_all(name);
     if is_right {
-        io::write_all(STDOUT_FILENO, b": ok\n");
-        let right = std::num::wrapping_add_u64(before.right, 1);
+        let _ = out.write_all(b": ok\n");
+        let right = before.right.wrapping_add(1);
         return Tally { cases, right };
     }
-    io::write_all(STDOUT_FILENO, b": differs\n");
+    let _ = out.write_all(b": differs\n");
     let right = before.right;
     Tally { cases, right }
 }
@@ -49,11 +56,11 @@ fn field_end(table: &[u8], from: usize) -> usize
     requires { from ≤ length table.now }
     ensures { (from ≤ result) × (result ≤ length table.now) }
 {
-    bytes::scan::find(table, from, table.len(), b'|')
+    from + reading::find(&table[from..], b'|')
 }
 
 // The case of the table from a place on. A table that breaks off has no further case.
-fn next_case(before: Tally, table: &[u8], at: usize) -> Behind
+fn next_case(out: Stdout, before: Tally, table: &[u8], at: usize) -> Behind
     requires { at < length table.now }
     ensures { at < result.next }
 {
@@ -80,6 +87,7 @@ fn next_case(before: Tally, table: &[u8], at: usize) -> Behind
         };
     }
     let tally = case(
+        out,
         before,
         &table[at..name],
         &table[name + 1..input],
@@ -93,11 +101,11 @@ fn next_case(before: Tally, table: &[u8], at: usize) -> Behind
 }
 
 // The cases of the table, one after the other.
-fn listed_cases(start: Tally, table: &[u8]) -> Tally {
+fn listed_cases(out: Stdout, start: Tally, table: &[u8]) -> Tally {
     let mut tally = start;
     let mut at = 0;
     while at < table.len() {
-        let behind = next_case(tally, table, at);
+        let behind = next_case(out, tally, table, at);
         tally = behind.tally;
         at = behind.next;
     }
@@ -123,8 +131,9 @@ fn fill(buffer: &mut [u8], first: &[u8]) {
 }
 
 // 4,097 bytes give 11, whatever they are, and 4,096 don't.
-fn long_inputs(start: Tally) -> Tally {
+fn long_inputs(out: Stdout, start: Tally) -> Tally {
     let t1 = case(
+        out,
         start,
         b"4097 bytes, malformed",
         &[b'x'; 4097],
@@ -132,6 +141,7 @@ fn long_inputs(start: Tally) -> Tally {
         b"refused 11 0\n",
     );
     let t2 = case(
+        out,
         t1,
         b"4096 bytes, malformed",
         &[b'x'; 4096],
@@ -140,12 +150,13 @@ fn long_inputs(start: Tally) -> Tally {
     );
     let mut long = [0u8; 4097];
     fill(&mut long, b"0002\n");
-    let t3 = case(t2, b"4097 bytes", &long, false, b"refused 11 0\n");
+    let t3 = case(out, t2, b"4097 bytes", &long, false, b"refused 11 0\n");
     let mut most = [0u8; 4096];
     fill(&mut most, b"002\n");
-    let t4 = case(t3, b"4096 bytes", &most, false, b"refused 8 0\n");
+    let t4 = case(out, t3, b"4096 bytes", &most, false, b"refused 8 0\n");
     fill(&mut most, b"2\n");
     case(
+        out,
         t4,
         b"4096 bytes, line 1025 unended",
         &most,
@@ -155,10 +166,18 @@ fn long_inputs(start: Tally) -> Tally {
 }
 
 // A broken input gives the first malformed line among those that ended, or else 1 plus the number of line feeds.
-fn broken_inputs(start: Tally) -> Tally {
-    let t1 = case(start, b"broken, no bytes", b"", true, b"refused 10 1\n");
-    let t2 = case(t1, b"broken in parties", b"3", true, b"refused 10 1\n");
+fn broken_inputs(out: Stdout, start: Tally) -> Tally {
+    let t1 = case(
+        out,
+        start,
+        b"broken, no bytes",
+        b"",
+        true,
+        b"refused 10 1\n",
+    );
+    let t2 = case(out, t1, b"broken in parties", b"3", true, b"refused 10 1\n");
     let t3 = case(
+        out,
         t2,
         b"broken, no appointment",
         b"3\n",
@@ -166,6 +185,7 @@ fn broken_inputs(start: Tally) -> Tally {
         b"refused 10 2\n",
     );
     let t4 = case(
+        out,
         t3,
         b"broken behind a line",
         b"3\n0,1\n",
@@ -173,6 +193,7 @@ fn broken_inputs(start: Tally) -> Tally {
         b"refused 10 3\n",
     );
     let t5 = case(
+        out,
         t4,
         b"broken in a line",
         b"3\n0,1\n1,2",
@@ -180,6 +201,7 @@ fn broken_inputs(start: Tally) -> Tally {
         b"refused 10 3\n",
     );
     let t6 = case(
+        out,
         t5,
         b"broken, a line malformed",
         b"3\n0 1\n1,2\n",
@@ -187,6 +209,7 @@ fn broken_inputs(start: Tally) -> Tally {
         b"refused 10 2\n",
     );
     case(
+        out,
         t6,
         b"broken, 4097 bytes",
         &[b'x'; 4097],
@@ -195,15 +218,28 @@ fn broken_inputs(start: Tally) -> Tally {
     )
 }
 
-fn main() {
-    let mut table = io::large_buffer();
-    let length = io::read_full(STDIN_FILENO, &mut table);
+// Reads until the buffer is full, the input ends or a read fails, and gives how many bytes stand at the start of the buffer.
+fn read_full(stdin: &mut Stdin, buffer: &mut [u8]) -> usize
+    ensures { (result ≤ length buffer.new) × (result ≡ length (take result buffer.new)) }
+{
+    let mut count = 0;
+    while count < buffer.len() {
+        match stdin.read(&mut buffer[count..]) {
+            Ok(0) => return count,
+            Ok(n) => count += n,
+            Err(_) => return count,
+        }
+    }
+    count
+}
+
+fn main(rt: HostRuntime) {
+    let mut table = [0u8; 65536];
+    let length = read_full(&mut rt.stdin(), &mut table);
+    let out = rt.stdout();
     let start = Tally { cases: 0, right: 0 };
-    let listed = listed_cases(start, &table[..length]);
-    let long = long_inputs(listed);
-    let all = broken_inputs(long);
-    io::print_decimal(STDOUT_FILENO, all.right);
-    io::write_all(STDOUT_FILENO, b" of ");
-    io::print_decimal(STDOUT_FILENO, all.cases);
-    io::write_all(STDOUT_FILENO, b" ok\n");
+    let listed = listed_cases(out, start, &table[..length]);
+    let long = long_inputs(out, listed);
+    let all = broken_inputs(out, long);
+    let _ = println!(rt; "{} of {} ok", all.right, all.cases);
 }
