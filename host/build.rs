@@ -7,7 +7,7 @@ use std::process::Command;
 use std::{env, fs};
 
 const SOURCES: &str = "../docs/src/rustworkx-core/src";
-/// Where `rt staticlib` writes.
+/// Where host/archive puts what `rt lib` writes.
 const ARCHIVES: &str = "../target/staticlib";
 const LINKED: [&str; 3] = ["steps_c", "bimtsure_c", "calendar_c"];
 

@@ -16,8 +16,8 @@ use std::collections::BTreeMap;
 use std::path::Path;
 use std::time::{Duration, Instant};
 
-/// `rt check bimtsure` writes it.
-pub const PROGRAM: &str = "target/bin/bimtsure";
+/// `rt run` in the crate's folder writes it.
+pub const PROGRAM: &str = "crates/bimtsure/out/bimtsure";
 /// Filed plans for each run of the program, which takes far longer.
 const READINGS: usize = 8;
 /// The most pieces in which an input is fed.
@@ -76,7 +76,7 @@ pub fn throw(seconds: usize, seed: u64) -> Result<(), String> {
 pub fn program_is_there() -> Result<(), String> {
     match Path::new(PROGRAM).exists() {
         true => Ok(()),
-        false => Err(format!("{PROGRAM} is missing here: `rt check bimtsure` writes it")),
+        false => Err(format!("{PROGRAM} is missing here: `rt run` in crates/bimtsure writes it")),
     }
 }
 

@@ -1,8 +1,9 @@
 //! Has the definitions computed on random lists: a crate `computed` states, for each list, that checks 1 to 8, D and
-//! `bipartite-edge-color` come to what the Rust answers just now, each by `refl`; and `rt check` decides.
+//! `bipartite_edge_color` come to what the Rust answers just now, each by `refl`; and `rt check` decides.
 //!
-//! The crate stands below target/definitions/ beside copies of those modules of the definitions that it needs, without code
-//! and proofs, which computing doesn't ask for. Of the code only the structs and enums come along that these modules name.
+//! The crate stands beside copies of those modules of the definitions that it needs, without code and proofs, which computing
+//! doesn't ask for. Of the code only the structs and enums come along that these modules name. All of it is written where the
+//! system has its temporary files, since `rt ci` wants no second crates.txt below the repository's root.
 
 use crate::answer::{self, Answer};
 use crate::format::write_list;
@@ -14,13 +15,13 @@ use std::fmt::Write;
 use std::path::{Path, PathBuf};
 use std::process::Command;
 use std::time::Instant;
-use std::{fs, io};
+use std::{env, fs, io};
 
 /// Larger lists take too long to compute.
 const MOST_COMPUTED_APPOINTMENTS: usize = 60;
 const MOST_COMPUTED_PARTIES: usize = 40;
 const ROWS_IN_A_MODULE: usize = 24;
-const PLACE: &str = "target/definitions";
+const FOLDER: &str = "bimtsure-definitions";
 /// How the modules are called that `rt` makes of a crate's structs and enums.
 const DECLARED: &str = "declared.";
 
@@ -29,13 +30,11 @@ const CITED: [(&str, &str); 4] =
     [("appointments", "Appointments"), ("appointments", "Checks"), ("planning", "Planning"), ("planning", "Computing")];
 
 const HEADER: &str = "\
-use Prim.Native.Nat.{ℕ}
-use mathlib.Core.Path.{_≡_, refl}
-use mathlib.Core.List.{List, [], _∷_}
-use Rattle·appointments.specs.Appointments.{appts, largest-load}
-use Rattle·appointments.specs.Checks.{Check, passed, refused, checks}
-use Rattle·planning.specs.Planning.{Outcome, plan, graph-not-bipartite, bipartite-edge-color}
-use Rattle·planning.specs.Computing.{computing}
+use Rattle.std.specs.Prelude.{ℕ, ◌≡◌, refl, List, [], ◌∷◌}
+use Rattle.appointments.specs.Appointments.{appts, largest_load}
+use Rattle.appointments.specs.Checks.{Check, passed, refused, checks}
+use Rattle.planning.specs.Planning.{Outcome, plan, graph_not_bipartite, bipartite_edge_color}
+use Rattle.planning.specs.Computing.{computing}
 ";
 
 /// A list, what it must come to, and whether the Rust panics on it.
@@ -49,10 +48,12 @@ struct Row {
 pub fn check(count: usize, seed: u64) -> Result<(), String> {
     reference::silence_panics();
     let rows = choose(count, seed);
-    write_repository(&rows).map_err(|error| format!("{PLACE} can't be written: {error}"))?;
+    let place = env::temp_dir().join(FOLDER);
+    write_repository(&place, &rows).map_err(|error| format!("{} can't be written: {error}", place.display()))?;
     println!("{}", summary(&rows));
     let begun = Instant::now();
-    let run = Command::new("rt").args(["check", "computed"]).current_dir(PLACE).output();
+    let computed = place.join("crates/computed");
+    let run = Command::new("rt").arg("check").current_dir(&computed).output();
     let run = run.map_err(|error| format!("rt can't be run: {error}"))?;
     let said = String::from_utf8_lossy(&run.stdout) + String::from_utf8_lossy(&run.stderr);
     let seconds = begun.elapsed().as_secs();
@@ -60,12 +61,13 @@ pub fn check(count: usize, seed: u64) -> Result<(), String> {
         println!("the definitions compute to the Rust's answer on all of them ({seconds} s)");
         return Ok(());
     }
-    let named = |number: usize| said.contains(&format!("`row-{number}`"));
+    let named = |number: usize| said.contains(&format!("`row_{number}`"));
     let differing: Vec<&Row> = (0..rows.len()).filter(|&number| named(number)).map(|number| &rows[number]).collect();
     if differing.is_empty() {
         return Err(format!("the check failed:\n{said}"));
     }
-    let mut message = format!("{} differ ({seconds} s; {PLACE}/target/log has more):", differing.len());
+    let mut message =
+        format!("{} differ ({seconds} s; `rt check` in {} says more):", differing.len(), computed.display());
     for row in differing {
         write!(message, "\n{}\n    the Rust: {}", write_list(&row.list), row.answer.text())
             .expect("a string can be written to");
@@ -123,24 +125,24 @@ impl Row {
     fn statement(&self, number: usize) -> String {
         let parties = self.list.parties;
         let ends = numerals(&self.list.ends);
-        let checks = format!("checks {parties} list-{number} {} {}", self.list.count(), self.list.scratch_words());
+        let checks = format!("checks {parties} list_{number} {} {}", self.list.count(), self.list.scratch_words());
         let passed = |outcome: &str| {
             let facts = format!(
                 "({checks} ≡ passed)\n  \
-                 × (largest-load {parties} (appts list-{number}) ≡ {})\n  \
-                 × (bipartite-edge-color {parties} (appts list-{number}) ≡ {outcome})",
+                 × (largest_load {parties} (appts list_{number}) ≡ {})\n  \
+                 × (bipartite_edge_color {parties} (appts list_{number}) ≡ {outcome})",
                 self.list.largest_load()
             );
             (facts, "(refl, refl, refl)")
         };
         let (facts, proof) = match &self.answer {
             Answer::Planned { slots, .. } => passed(&format!("plan ({})", numerals(slots))),
-            Answer::Refused(Refusal { number: 9, .. }) => passed("graph-not-bipartite"),
+            Answer::Refused(Refusal { number: 9, .. }) => passed("graph_not_bipartite"),
             Answer::Refused(Refusal { number, place }) => (format!("{checks} ≡ refused {number} {place}"), "refl"),
         };
         format!(
-            "\nabbrev list-{number} : List ℕ\nlist-{number} = {ends}\n\n\
-             row-{number} :\n  {facts}\nunfolding computing\nrow-{number} = {proof}\n"
+            "\nabbrev list_{number} : List ℕ\nlist_{number} = {ends}\n\n\
+             row_{number} :\n  {facts}\nunfolding computing\nrow_{number} = {proof}\n"
         )
     }
 }
@@ -195,8 +197,7 @@ fn summary(rows: &[Row]) -> String {
     format!("{} lists of up to {longest} appointments, of which{}", rows.len(), counts.concat())
 }
 
-fn write_repository(rows: &[Row]) -> io::Result<()> {
-    let place = Path::new(PLACE);
+fn write_repository(place: &Path, rows: &[Row]) -> io::Result<()> {
     if place.exists() {
         fs::remove_dir_all(place)?;
     }
@@ -253,7 +254,8 @@ fn copy_definitions(place: &Path) -> io::Result<BTreeMap<String, BTreeSet<String
         let text =
             fs::read_to_string(&from).map_err(|error| io::Error::other(format!("{}: {error}", from.display())))?;
         fs::write(crate_folder(place, &owner)?.join(format!("{module}.antt")), &text)?;
-        waiting.extend(text.lines().filter_map(used_module));
+        waiting
+            .extend(text.lines().filter_map(used_module).filter(|(owner, _)| Path::new("crates").join(owner).exists()));
     }
     for (owner, modules) in &copied {
         fs::write(crate_folder(place, owner)?.join("Lib.antt"), declarations(modules.iter().cloned()))?;
@@ -285,14 +287,13 @@ fn declaration(source: &str, name: &str) -> Option<String> {
     Some(body.chain(["}"]).map(|line| format!("{line}\n")).collect())
 }
 
-/// The crate and the module that a line `use Rattle·NAME.specs.MODULE..` names; a crate calls itself `NAME·specs`. For a struct
-/// or enum of the code the module is `declared.NAME`, or `declared.MODULE.NAME` if it stands in src/MODULE.rt.
+/// The crate and the module that a line `use Rattle.NAME.specs.MODULE..` names; the crate may be one of the kit's. For a struct or
+/// enum of the code the module is `declared.NAME`, or `declared.MODULE.NAME` if it stands in src/MODULE.rt.
 fn used_module(line: &str) -> Option<(String, String)> {
-    let (owner, rest) = line.strip_prefix("use Rattle·")?.split_once(".specs.")?;
-    let owner = owner.strip_suffix("·specs").unwrap_or(owner);
+    let (owner, rest) = line.strip_prefix("use Rattle.")?.split_once(".specs.")?;
     let word = |text: &str| text.chars().take_while(|c| c.is_alphanumeric() || *c == '_').collect::<String>();
     let module = match rest.strip_prefix(DECLARED) {
-        // a module begins with a small letter, and `.the-variants` can follow the name
+        // a module begins with a small letter, and `.TheVariants` can follow the name
         Some(path) => {
             let modules = path.split('.').take_while(|part| part.starts_with(char::is_lowercase)).count();
             let parts: Vec<String> = path.split('.').take(modules + 1).map(word).collect();
@@ -324,12 +325,13 @@ mod tests {
     fn used_modules_are_found() {
         let used = |line: &str| used_module(line).map(|(owner, module)| format!("{owner} {module}"));
         let is = |line: &str, wanted: &str| assert_eq!(used(line).as_deref(), Some(wanted));
-        is("use Rattle·planning.specs.Planning.{Outcome, plan}", "planning Planning");
-        is("use Rattle·euler·specs.specs.Model as M", "euler Model");
-        is("use Rattle·matching.specs.declared.Table.{Table}", "matching declared.Table");
-        is("use Rattle·two_color·specs.specs.declared.TwoColoring.the-variants", "two_color declared.TwoColoring");
-        is("use Rattle·euler·specs.specs.declared.rings.Rings.{Rings}", "euler declared.rings.Rings");
-        is("use Rattle·filing.specs.declared.Read.the-variants as read", "filing declared.Read");
+        is("use Rattle.planning.specs.Planning.{Outcome, plan}", "planning Planning");
+        is("use Rattle.euler.specs.Model as M", "euler Model");
+        is("use Rattle.std.specs.Prelude.{ℕ, ◌≡◌}", "std Prelude");
+        is("use Rattle.matching.specs.declared.Table.{Table}", "matching declared.Table");
+        is("use Rattle.two_color.specs.declared.TwoColoring.TheVariants.{Sides}", "two_color declared.TwoColoring");
+        is("use Rattle.list_pairs.specs.declared.rows.RowBases.{RowBases}", "list_pairs declared.rows.RowBases");
+        is("use Rattle.filing.specs.declared.Read.TheVariants as read", "filing declared.Read");
         assert_eq!(used("use mathlib.Core.List.{List}"), None);
     }
 }

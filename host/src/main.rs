@@ -107,16 +107,16 @@ bimtsure-host guard COUNT SEED
 bimtsure-host bytes SECONDS SEED
     throw bytes, which SEED decides, at the program and at reading a filed plan for so long: lists, damaged ones and noise; each
     must end with the answer of main_text.rs or desk.rs, or its bytes are printed; from 60 seconds on, each kind of answer must
-    come, and a plan in which a party waits; from the repository's root, after `rt check bimtsure`
+    come, and a plan in which a party waits; from the repository's root, after `rt run` in crates/bimtsure
 bimtsure-host pieces
     feed the program its input late, break it off, and let its writes fail: it must print the whole plan or a refusal; as `bytes`,
-    after `rt check bimtsure`
+    after `rt run` in crates/bimtsure
 bimtsure-host bench
     time our planning call beside the Rust on the same lists, the checks of a long list alone, waiting, and asking for many
     parties in one call beside a call for each
 bimtsure-host stack
     measure how much stack each exported call and the program need; fails if one needs more than the headers in host/include and
-    docs/PROVED.md promise; from the repository's root, after `rt check bimtsure`
+    docs/PROVED.md promise; from the repository's root, after `rt run` in crates/bimtsure
 bimtsure-host stored COUNT SEED [MOST]
     print the small lists that papers name and COUNT random ones of at most MOST (3 to 4096) appointments (if not given, 40),
     each with the Rust's answer, as `P first-second .. = planned D s0 s1 ..` or `.. = refused N PLACE`; a remark follows a `#`";

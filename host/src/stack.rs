@@ -108,7 +108,7 @@ fn tell(name: &'static str, need: usize, promised: usize) -> Option<&'static str
 /// The program, if it needs more than was promised.
 fn measure_program() -> Result<Option<&'static str>, String> {
     if !Path::new(PROGRAM).exists() {
-        return Err(format!("{PROGRAM} is missing here: `rt check bimtsure` writes it"));
+        return Err(format!("{PROGRAM} is missing here: `rt run` in crates/bimtsure writes it"));
     }
     let inputs = program_inputs();
     let run = |input: &[u8], kib: usize| run_within(kib, input).map_err(|error| format!("{PROGRAM}: {error}"));
