@@ -16,9 +16,9 @@ use Rattle.planning.proofs.Demand3.{demand_3}
 use Rattle.bimtsure_c.specs.Planned.{answer_by}
 
 -- a refusal's number and place stand for it, since no refusal has number 0
-pub refusal_by : (n i : ℕ) → 0 < n → answer_by n i 0 ≡ refused n i
-refusal_by zero i h = absurd (omega arith)
-refusal_by (suc n) i h = refl
+pub refusal_by : (n i d : ℕ) → 0 < n → answer_by n i d ≡ refused n i
+refusal_by zero i d h = absurd (omega arith)
+refusal_by (suc n) i d h = refl
 
 -- ── from what was told to the answer ──
 
