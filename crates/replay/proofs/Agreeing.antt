@@ -1,6 +1,6 @@
 -- From the planning call's answer to what it tells. Assumes nothing.
 use Prim.Native.Nat.{ℕ, ◌/◌, ◌≤◌}
-use mathlib.Core.Path.{◌≡◌, sym, ◌∙◌, ap}
+use mathlib.Core.Path.{◌≡◌}
 use mathlib.Core.Bool.{Bool}
 use mathlib.Core.List.{List, [], ◌∷◌}
 use native.Mathlib.Omega.{arith}
