@@ -14,7 +14,7 @@ use appointments::Found;
 const BLANK: u16 = 65535;
 
 // What the walk remembers: the first position for 4 and the first for 5.
-#[derive(Drop)]
+#[derive(Clone, Copy)]
 pub struct BadEnds {
     pub blank: Found,
     pub unlisted: Found,

@@ -15,7 +15,7 @@ const TIMES: [u16; 16] = [
 ];
 
 // What the clock tells: day, hours and minutes, or refused with document 02's number and place.
-#[derive(Drop)]
+#[derive(Clone, Copy)]
 pub enum Clocked {
     Moment(u16, u8, u8),
     Refused(usize, usize),

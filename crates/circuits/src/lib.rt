@@ -33,7 +33,7 @@ pub struct Two {
 }
 
 // How many entries of 2 copies, and how many of one, have been sifted out.
-#[derive(Drop)]
+#[derive(Clone, Copy)]
 pub struct Sifted {
     pub even: usize,
     pub odd: usize,

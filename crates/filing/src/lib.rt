@@ -11,7 +11,7 @@ ghost use Rattle.filing.specs.Told.{read_of};
 use appointments::Answered;
 
 // What reading says: P and A, or refused with a number and a place.
-#[derive(Drop)]
+#[derive(Clone, Copy)]
 pub enum Read {
     Plan(usize, usize),
     Refused(usize, usize),

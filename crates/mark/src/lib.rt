@@ -5,7 +5,7 @@ ghost use Rattle.std.specs.Prelude.{◌≡◌, ◌+◌, ◌≤◌};
 ghost use Rattle.mark.specs.Taking.{taken_more, given_back};
 
 // How many words are taken, all of them at the start of the scratch, and how many there are.
-#[derive(Drop)]
+#[derive(Clone, Copy)]
 pub struct Mark {
     pub taken: usize,
     pub there: usize,

@@ -17,7 +17,7 @@ use appointments::Answered;
 use two_color::TwoColoring;
 
 // Planned, with D; or refused, with document 01's number and place.
-#[derive(Drop)]
+#[derive(Clone, Copy)]
 pub enum Answer {
     Planned(usize),
     Refused(usize, usize),

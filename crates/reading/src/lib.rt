@@ -28,7 +28,7 @@ enum Line {
 }
 
 // P and how many numbers the list has, or the number, from 1, of the first malformed line.
-#[derive(Drop)]
+#[derive(Clone, Copy)]
 pub enum ReadInput {
     Input(u16, usize),
     Malformed(usize),

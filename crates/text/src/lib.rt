@@ -27,7 +27,7 @@ fn plan_output(p: u16, list: &[u16], output: &mut [u8; 1801]) -> usize
 }
 
 // What came of main's input: how many bytes, and whether it is broken, that is, reading failed for good before the input ended.
-#[derive(Drop)]
+#[derive(Clone, Copy)]
 pub struct Came {
     pub count: usize,
     pub broken: bool,

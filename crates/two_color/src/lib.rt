@@ -14,7 +14,7 @@ use mark::Mark;
 use two_color_steps::{all_steps, prepare};
 
 // The sides, with the number of parties on the left; or some closed round of appointments has odd length.
-#[derive(Drop)]
+#[derive(Clone, Copy)]
 pub enum TwoColoring {
     Sides(usize),
     NotBipartite,

@@ -45,7 +45,7 @@ pub fn view_step<'a>(party: u16, list: &'a [u16], slots: &'a [u16], from: usize)
 }
 
 // The viewer itself: it reads the list and its slots by reference, and stands at a position. Any position will do.
-#[derive(Drop)]
+#[derive(Clone, Copy)]
 pub struct Viewer<'a> {
     pub list: &'a [u16],
     pub slots: &'a [u16],
