@@ -1,14 +1,16 @@
 -- What an answer tells of its checks, what a lent buffer holds after acceptance, and an answer of one figure or none from the enum by
 -- which code tells it to its numbers. Assumes nothing.
 use Prim.Native.Nat.{ℕ}
-use mathlib.Core.Path.{◌≡◌, refl}
+use mathlib.Core.Path.{◌≡◌, refl, sym, ◌∙◌, ap}
 use mathlib.Core.List.{List, ◌++◌}
 use native.Mathlib.Omega.{arith}
 use lib.ListN.{length, drop}
+use Rattle.std.specs.Prelude.{Result, Ok, Err, IsErrAnd}
+use Rattle.std.proofs.lemmas.Result.{err_from_is_err_and}
 use Rattle.appointments.specs.Checks.{Check}
-use Rattle.appointments.specs.Answers.{Answer, accepted, refused, answer, number_of, place_of, figure_of, after, answered_of, checked_of}
-use Rattle.appointments.specs.declared.Answered.TheVariants as answered
-use Rattle.appointments.specs.declared.Checked.TheVariants as checked
+use Rattle.appointments.specs.Refusals.{refusal_number, refusal_place, told}
+use Rattle.appointments.specs.declared.Refusal.{Refusal}
+use Rattle.appointments.specs.Answers.{Answer, accepted, refused, answer, number_of, place_of, figure_of, after}
 
 module _ {F : Type 0} where
   -- no answer accepts and refuses; figures, number and place are those of the answer
@@ -50,15 +52,7 @@ module _ {F : Type 0} where
   pub barred_says : (a : Answer F) (n i : ℕ) → a ≡ refused n i → (n ≡ number_of a) × (i ≡ place_of a)
   barred_says a n i e = rw e (refl, refl)
 
--- ── an answer of one figure, from what was told to its numbers ──
-
-pub one_figure : (a : Answer ℕ) (n : ℕ) → answered_of a ≡ answered.Accepted n → a ≡ accepted n
-one_figure (accepted m) n e = cc
-one_figure (refused k i) n e = cc
-
-pub one_refusal : (a : Answer ℕ) (n i : ℕ) → answered_of a ≡ answered.Refused n i → a ≡ refused n i
-one_refusal (accepted m) n i e = cc
-one_refusal (refused k j) n i e = cc
+-- ── an answer of one figure ──
 
 pub accepted_says : (a : Answer ℕ) (n : ℕ) → a ≡ accepted n → (0 ≡ number_of a) × ((0 ≡ place_of a) × (n ≡ figure_of a))
 accepted_says a n e = let s = passed_says a n e in (s.0, (s.1, (rw e)))
@@ -66,12 +60,16 @@ accepted_says a n e = let s = passed_says a n e in (s.0, (s.1, (rw e)))
 pub refused_says : (a : Answer ℕ) (n i : ℕ) → a ≡ refused n i → (n ≡ number_of a) × ((i ≡ place_of a) × (0 ≡ figure_of a))
 refused_says a n i e = let s = barred_says a n i e in (s.0, (s.1, (rw e)))
 
--- ── an answer without a figure ──
+-- ── from what was told to the answer ──
 
-pub no_figure : (a : Answer Unit) → checked_of a ≡ checked.Passed → a ≡ accepted tt
-no_figure (accepted u) e = refl
-no_figure (refused k i) e = cc
+pub figures_told : {F : Type 0} (r : Result F Refusal) (a : Answer F) (f : F) → told r ≡ a → r ≡ Ok f → a ≡ accepted f
+figures_told r a f e k = sym e ∙ ap told k
 
-pub no_figure_refusal : (a : Answer Unit) (n i : ℕ) → checked_of a ≡ checked.Refused n i → a ≡ refused n i
-no_figure_refusal (accepted u) n i e = cc
-no_figure_refusal (refused k j) n i e = cc
+pub refusal_told : {F : Type 0} (r : Result F Refusal) (a : Answer F) (d : Refusal) → told r ≡ a → r ≡ Err d → a ≡ refused (refusal_number d) (refusal_place d)
+refusal_told r a d e k = sym e ∙ ap told k
+
+-- ── an answer that a `?` hands on ──
+
+-- What the exit of a `?` returns is told as the refusal that came.
+pub handed_on : {F : Type 0} (r : Result F Refusal) (e : Refusal) (a : Answer F) → IsErrAnd r (λ d. d ≡ e) → refused (refusal_number e) (refusal_place e) ≡ a → told r ≡ a
+handed_on r e a h k = let p = err_from_is_err_and r h in rw (p.1, p.2) k

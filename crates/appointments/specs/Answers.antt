@@ -2,10 +2,6 @@
 -- memory then holds. Assumes nothing.
 use Rattle.std.specs.Prelude.{ℕ, List, ◌++◌, length, drop}
 use Rattle.appointments.specs.Checks.{Check}
-use Rattle.appointments.specs.declared.Answered.{Answered}
-use Rattle.appointments.specs.declared.Answered.TheVariants.{Accepted, Refused}
-use Rattle.appointments.specs.declared.Checked.{Checked}
-use Rattle.appointments.specs.declared.Checked.TheVariants as checked
 
 -- F is what the call tells: one figure, or a record of several.
 pub data Answer (F : Type 0) : Type 0 where
@@ -49,13 +45,3 @@ once (Check.refused number place) new buffer = buffer
 abbrev pub after : {F : Type 0} → Answer F → List ℕ → List ℕ → List ℕ
 after (accepted figures) new buffer = over new buffer
 after (refused number place) new buffer = buffer
-
--- The enum by which the code tells an answer of one figure.
-abbrev pub answered_of : Answer ℕ → Answered
-answered_of (accepted n) = Accepted n
-answered_of (refused number place) = Refused number place
-
--- The enum by which the code tells an answer without a figure.
-abbrev pub checked_of : Answer Unit → Checked
-checked_of (accepted u) = checked.Passed
-checked_of (refused number place) = checked.Refused number place

@@ -1,9 +1,7 @@
 -- Document 01's checks 1 to 8, in order, with the number and the place of each refusal. Assumes nothing.
-use Rattle.std.specs.Prelude.{ℕ, ◌+◌, ◌*◌, ◌%◌, ◌<◌, ◌≡◌, Bool, true, false, not, ◌&&◌, ◌||◌, List, [], ◌∷◌, eqb, ltb, leb, length, get_or}
+use Rattle.std.specs.Prelude.{Option, Some, None, ℕ, ◌+◌, ◌*◌, ◌%◌, ◌<◌, ◌≡◌, Bool, true, false, not, ◌&&◌, ◌||◌, List, [], ◌∷◌, eqb, ltb, leb, length, get_or}
 use Rattle.words.specs.Basics.{pick}
 use Rattle.appointments.specs.Appointments.{Appt, appts, largest_load, scratch_words}
-use Rattle.appointments.specs.declared.Found.{Found}
-use Rattle.appointments.specs.declared.Found.TheVariants.{At, Nowhere}
 
 -- The mark of a blank end.
 abbrev pub blank : ℕ
@@ -14,10 +12,10 @@ pub data First : Type 0 where
   at : ℕ → First
   nowhere : First
 
--- the enum by which the code tells it
-abbrev pub first_of : Found → First
-first_of (At i) = at i
-first_of Nowhere = nowhere
+-- the option by which the code tells it
+abbrev pub first_of : Option ℕ → First
+first_of (Some i) = at i
+first_of None = nowhere
 
 -- The first position, counted from i, at which something passes the test: an appointment of a list, or a number.
 unfoldable pub first_from : {A : Type 0} → ℕ → (A → Bool) → List A → First

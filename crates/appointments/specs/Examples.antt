@@ -6,7 +6,8 @@ use Rattle.appointments.specs.Plans.{different, meets}
 use Rattle.appointments.specs.Checks.{First, at, nowhere, first_from, has_blank, has_unlisted, passed, refused, bar, checks_with_slots, checks_1_to_8, checks}
 use Rattle.appointments.specs.Answers.{Answer, accepted, number_of, place_of}
 use Rattle.appointments.specs.Answers as answers
-use Rattle.appointments.specs.Needed.{Needs, needing, needs_answer, d_of, words_of, scratch_enough}
+use Rattle.appointments.specs.declared.Needs.{Needs}
+use Rattle.appointments.specs.Needed.{needing, needs_answer, d_of, words_of, scratch_enough}
 use Rattle.appointments.specs.Computing.{computing}
 
 -- the appointment 0-1, n times

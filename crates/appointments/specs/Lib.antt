@@ -5,6 +5,7 @@ pub mod Plans
 pub mod Checks
 pub mod BadEnds
 pub mod Answers
+pub mod Refusals
 pub mod Lent
 pub mod Needed
 pub mod Computing

@@ -2,15 +2,10 @@
 use Rattle.std.specs.Prelude.{ℕ, ◌<◌, ◌≤◌, ◌≡◌, List, length}
 use Rattle.appointments.specs.Appointments.{appts, largest_load, scratch_words}
 use Rattle.appointments.specs.Checks.{Check, passed, checks_1_to_6, checks}
-use Rattle.appointments.specs.Answers.{Answer, accepted, refused, answer, figure}
-use Rattle.appointments.specs.declared.Needed.{Needed}
-use Rattle.appointments.specs.declared.Needed.TheVariants.{Words, Refused}
+use Rattle.appointments.specs.declared.Needs.{Needs}
+use Rattle.appointments.specs.Answers.{Answer, accepted, answer, figure}
 
 -- what the call tells: D and W
-pub record Needs : Type 0 where
-  pub d : ℕ
-  pub words : ℕ
-
 abbrev pub needing : ℕ → ℕ → Needs
 needing D W = record { d = D; words = W }
 
@@ -26,11 +21,6 @@ d_of = figure (λ n. n.d)
 
 abbrev pub words_of : Answer Needs → ℕ
 words_of = figure (λ n. n.words)
-
--- the enum by which the code tells it
-abbrev pub needed_of : Answer Needs → Needed
-needed_of (accepted n) = Words n.d n.words
-needed_of (refused number place) = Refused number place
 
 -- That W is what check 8 asks: where the call gives W, and there is a slot entry for each appointment, W words or more
 -- pass checks 1 to 8, and fewer are refused by 8.

@@ -1,13 +1,11 @@
 -- Document 02's waiting of a party (request 2: waiting means waiting in the hall), the call that gives it, and what holds of it.
 -- Assumes nothing.
-use Rattle.std.specs.Prelude.{ℕ, ◌+◌, ◌-◌, ◌≤◌, ◌<◌, ◌≡◌, List, leb, length, take}
+use Rattle.std.specs.Prelude.{ℕ, Result, IfOk, ◌+◌, ◌-◌, ◌≤◌, ◌<◌, ◌≡◌, List, leb, length, take}
 use Rattle.words.specs.Basics.{is, count, All, sum_below}
 use Rattle.appointments.specs.Appointments.{Appt, appts, load}
 use Rattle.appointments.specs.Plans.{different}
 use Rattle.appointments.specs.Checks.{Check, passed, bar, checks_with_slots}
 use Rattle.appointments.specs.Answers.{Answer, answer}
-use Rattle.appointments.specs.declared.Answered.{Answered}
-use Rattle.appointments.specs.declared.Answered.TheVariants.{Accepted, Refused}
 use Rattle.asking.specs.PartySlots.{slots_of, lowest, highest}
 
 -- how many whole numbers strictly between two are none of the slots
@@ -31,9 +29,8 @@ unfolding waiting_checks waiting
 waiting_answer P list slots party = answer (waiting_checks P list (length slots) party) (waiting (appts list) slots party)
 
 -- An accepted waiting is at most 65,534, that of the slots 0 and 65,535: slots have 16 bits.
-abbrev pub WaitingFits : Answered → Type 0
-WaitingFits (Accepted n) = n ≤ 65534
-WaitingFits (Refused number place) = Unit {0}
+abbrev pub WaitingFits : {E : Type 0} → Result ℕ E → Type 0
+WaitingFits r = IfOk r (λ n. n ≤ 65534)
 
 -- What holds of waiting, whatever the slots are: they needn't be below D, and may clash.
 pub record WaitsInTheHall (xs : List Appt) (slots : List ℕ) (party : ℕ) : Type 0 where

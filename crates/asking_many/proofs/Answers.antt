@@ -1,4 +1,4 @@
--- The answers as rows of three: where the row of a query stands, how long they are, and one more of them put from the tables. Assumes nothing.
+-- The answers as rows of three: where the row of a query stands, how long they are, and one more of them put from the table. Assumes nothing.
 use Prim.Native.Nat.{ℕ, zero, suc, ◌+◌, ◌*◌, ◌≤◌, ◌<◌}
 use mathlib.Core.Path.{◌≡◌, refl}
 use mathlib.Core.List.{List, [], ◌∷◌, ◌++◌, append-nil}
@@ -10,7 +10,8 @@ use Rattle.appointments.specs.Appointments.{Appt, load}
 use Rattle.appointments.specs.Answers.{over}
 use Rattle.asking.specs.PartySlots.{slots_of, lowest, highest}
 use Rattle.asking_many.specs.Many.{or_none, asked_of_one, asked_of_all}
-use Rattle.asking_many.specs.Tables.{Tables, put_three}
+use Rattle.asking_many.specs.Tables.{row_of, put_three}
+use Rattle.asking_many.specs.declared.Row.{Row}
 
 module _ (xs : List Appt) (slots : List ℕ) where
   pub answers_length : (queries : List ℕ) → length (asked_of_all xs slots queries) ≡ 3 * length queries
@@ -32,12 +33,11 @@ module _ (xs : List Appt) (slots : List ℕ) where
   module _ (queries out₀ : List ℕ) (room : 3 * length queries ≤ length out₀) where
     -- one query more
     pub answered_more :
-        (j : ℕ) (loads low high out : List ℕ) → j < length queries → word queries j < 1024 → Tables xs slots loads low high →
+        (j : ℕ) (row : Row) (out : List ℕ) → j < length queries → row ≡ row_of xs slots (word queries j) →
         out ≡ filled (asked_of_all xs slots queries) (3 * j) out₀ →
-        put_three out j (word queries j) loads low high ≡ filled (asked_of_all xs slots queries) (3 * (j + 1)) out₀
-    answered_more j loads low high out h k t e =
-        let v : ℕ = word queries j in
-        rw (e, t.of_loads.entry v k, t.of_lowest.entry v k, t.of_highest.entry v k)
+        put_three out j row ≡ filled (asked_of_all xs slots queries) (3 * (j + 1)) out₀
+    answered_more j row out h k e =
+        rw (e, k)
         (filled_row (asked_of_all xs slots queries) j _ _ _ out₀ (asked_at queries j h) (omega (arith, answers_length queries)) (omega arith))
 
     -- all of them, and behind them what was there

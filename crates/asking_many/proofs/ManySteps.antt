@@ -12,8 +12,8 @@ use Rattle.words.specs.Words.{word}
 use Rattle.words.proofs.Sums.{all_at}
 use Rattle.appointments.specs.Appointments.{Appt, appt, appts}
 use Rattle.appointments.specs.Checks.{at, nowhere, first_from, Check, passed, refused, bar, checks_with_slots}
-use Rattle.appointments.specs.Answers.{over, checked_of}
-use Rattle.appointments.specs.declared.Checked.TheVariants as Checked
+use Rattle.appointments.specs.Answers.{accepted, over}
+use Rattle.appointments.specs.Answers as answers
 use Rattle.appointments.proofs.FirstFrom.{nowhere_at}
 use Rattle.appointments.proofs.Flat.{appts_count, appt_at}
 use Rattle.appointments.proofs.Loads.{Listed}
@@ -26,7 +26,7 @@ module _ (P : ℕ) (list slots queries output : List ℕ) where
   -- refused with a number and a place, the output as it was
   abbrev Barred : ℕ → ℕ → Type 0
   Barred number place =
-      (Checked.Refused number place ≡ checked_of (many_answer P list slots queries output)) × (output ≡ many_output P list slots queries output)
+      (answers.refused number place ≡ many_answer P list slots queries output) × (output ≡ many_output P list slots queries output)
 
   barred : (n i : ℕ) → many_checks P list (length slots) queries (length output) ≡ refused n i → Barred n i
   unfolding many_answer many_output
@@ -39,11 +39,11 @@ module _ (P : ℕ) (list slots queries output : List ℕ) where
   abbrev then_13 : Check
   then_13 = bar (ltb (length output) (3 * length queries)) 13 passed
 
-  pub barred_first : (n i : ℕ) → checked with_slots ≡ Checked.Refused n i → Barred n i
+  pub barred_first : (n i : ℕ) → answers.refused n i ≡ checked with_slots → Barred n i
   unfolding many_checks
   barred_first n i e = barred n i (checked_stays P list (length slots) (check_queries P queries then_13) n i e)
 
-  module _ (e : checked with_slots ≡ Checked.Passed) where
+  module _ (e : accepted tt ≡ checked with_slots) where
     goes_on : many_checks P list (length slots) queries (length output) ≡ check_queries P queries then_13
     unfolding many_checks
     goes_on = slotted_goes_on P list (length slots) (check_queries P queries then_13) (checked_slotted P list (length slots) e)
@@ -65,14 +65,14 @@ module _ (P : ℕ) (list slots queries output : List ℕ) where
         -- the answers, and behind them what was there
         pub answered :
             3 * length queries ≤ length output →
-            (Checked.Passed ≡ checked_of (many_answer P list slots queries output))
+            (accepted tt ≡ many_answer P list slots queries output)
             × (over (asked_of_all (appts list) slots queries) output ≡ many_output P list slots queries output)
         unfolding many_answer many_output
         answered h = (rw (all_passed h), rw (all_passed h))
 
 -- ── what the walk and the tables ask ──
 
-module _ (P : ℕ) (list slots : List ℕ) (e : checked (checks_with_slots P list (length slots) passed) ≡ Checked.Passed) where
+module _ (P : ℕ) (list slots : List ℕ) (e : accepted tt ≡ checked (checks_with_slots P list (length slots) passed)) where
   slotted : Slotted P list (length slots)
   slotted = checked_slotted P list (length slots) e
 

@@ -1,9 +1,10 @@
--- The tables that the walk fills, by party number, and what it asks of a list. Assumes nothing.
-use Rattle.std.specs.Prelude.{ℕ, ◌+◌, ◌*◌, ◌/◌, ◌<◌, ◌≤◌, ◌≡◌, List, length, set}
+-- The table that the walk fills, by party number, and what it asks of a list. Assumes nothing.
+use Rattle.std.specs.Prelude.{ℕ, ◌+◌, ◌*◌, ◌/◌, ◌<◌, ◌≤◌, ◌≡◌, List, min, max, length, get_or, set}
 use Rattle.words.specs.Words.{word}
 use Rattle.appointments.specs.Appointments.{Appt, load}
 use Rattle.asking.specs.PartySlots.{slots_of, lowest, highest}
 use Rattle.asking_many.specs.Many.{or_none}
+use Rattle.asking_many.specs.declared.Row.{Row}
 
 -- What a walk of the list goes by, once its checks have passed: its numbers are below 1,024 and few, and each appointment has a slot.
 pub record Walkable (list slots : List ℕ) : Type 0 where
@@ -11,21 +12,32 @@ pub record Walkable (list slots : List ℕ) : Type 0 where
   pub ends : (i : ℕ) → i < length list / 2 → (word list (2 * i) < 1024) × (word list (2 * i + 1) < 1024)
   pub slot_room : length list / 2 ≤ length slots
 
--- a table of 1,024 entries that has for each party its number
-pub record ByParty (number : ℕ → ℕ) (table : List ℕ) : Type 0 where
-  pub size : length table ≡ 1024
-  pub entry : (v : ℕ) → v < 1024 → word table v ≡ number v
+-- a row with a slot more, for one end of its appointment
+abbrev pub entered : ℕ → Row → Row
+entered s row = record { load = row.load + 1; lowest = min row.lowest s; highest = max row.highest s }
 
--- the three tables of some appointments: load, lowest slot and highest slot
-pub record Tables (xs : List Appt) (slots loads low high : List ℕ) : Type 0 where
-  pub of_loads : ByParty (λ v. load v xs) loads
-  pub of_lowest : ByParty (λ v. lowest (slots_of v xs slots)) low
-  pub of_highest : ByParty (λ v. highest (slots_of v xs slots)) high
+-- the row of a party: load, lowest slot and highest slot
+abbrev pub row_of : List Appt → List ℕ → ℕ → Row
+row_of xs slots v =
+    record { load = load v xs; lowest = lowest (slots_of v xs slots); highest = highest (slots_of v xs slots) }
 
--- the three entries of query j, which asks for party v, put from the tables
-abbrev pub put_three : List ℕ → ℕ → ℕ → List ℕ → List ℕ → List ℕ → List ℕ
-put_three output j v loads low high =
+-- the row of a party without an appointment
+abbrev pub no_slot : Row
+no_slot = record { load = 0; lowest = 65535; highest = 0 }
+
+-- the row at a place, and zeroes past the table
+abbrev pub row_at : List Row → ℕ → Row
+row_at rows v = get_or rows v (record { load = 0; lowest = 0; highest = 0 })
+
+-- The table of some appointments: 1,024 rows, each that of its party.
+pub record Table (xs : List Appt) (slots : List ℕ) (rows : List Row) : Type 0 where
+  pub size : length rows ≡ 1024
+  pub entry : (v : ℕ) → v < 1024 → row_at rows v ≡ row_of xs slots v
+
+-- the three entries of query j, put from the row of the party that it asks for
+abbrev pub put_three : List ℕ → ℕ → Row → List ℕ
+put_three output j row =
     set
-    (set (set output (3 * j) (word loads v)) (3 * j + 1) (or_none (word loads v) (word low v)))
+    (set (set output (3 * j) row.load) (3 * j + 1) (or_none row.load row.lowest))
     (3 * j + 2)
-    (or_none (word loads v) (word high v))
+    (or_none row.load row.highest)

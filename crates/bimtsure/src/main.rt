@@ -3,41 +3,30 @@
 // trusted).
 #![tactic(auto)]
 
-ghost use Rattle.std.specs.Prelude.{◌≡◌, ◌+◌, ◌<◌, ◌≤◌, true, false, length, take, drop, OnOk};
+ghost use Rattle.std.specs.Prelude.{◌≡◌, ◌+◌, ◌<◌, ◌≤◌, false, length, take, drop, Some, IfSome, OnOk, unwrap_or};
 ghost use Rattle.std.specs.Io.KnownBytes.{Consumes, IsAtEnd};
 ghost use Rattle.bimtsure.specs.Answering.{Answers};
 
 use std::io;
 use std::io::{Read, Write};
-use text::Came;
 
-// What one read gave: how many bytes, none at the end of the input, or that it failed.
-#[derive(Drop)]
-struct Piece {
+// What came of the input: how many bytes, and whether it is broken, that is, reading failed for good before the input ended.
+#[derive(Clone, Copy)]
+struct Came {
     count: usize,
-    failed: bool,
+    broken: bool,
 }
 
-// One read into the buffer from where the bytes end, which stay. A read that failed took nothing of the input.
-fn read_piece<R: Read>(reader: &mut R, buffer: &mut [u8], from: usize) -> Piece
+// One read into the buffer from where the bytes end, which stay: how many bytes it gave, none at the end of the input. A read that
+// failed took nothing of the input.
+fn read_piece<R: Read>(reader: &mut R, buffer: &mut [u8], from: usize) -> Option<usize>
     requires { from < length buffer.old }
-    ensures inside { from + result.count ≤ length buffer.old }
+    ensures inside { IfSome result (λ n. from + n ≤ length buffer.old) }
     ensures front { take from buffer.new ≡ take from buffer.old }
-    ensures bytes { Consumes (R.remaining reader.old) (R.remaining reader.new) (take result.count (drop from buffer.new)) }
-    ensures failed { result.failed ≡ true → result.count ≡ 0 }
-    ensures end { result.failed ≡ false → result.count ≡ 0 → IsAtEnd (R.remaining reader.new) }
+    ensures bytes { Consumes (R.remaining reader.old) (R.remaining reader.new) (take (unwrap_or result 0) (drop from buffer.new)) }
+    ensures end { result ≡ Some 0 → IsAtEnd (R.remaining reader.new) }
 {
-    let behind = &mut buffer[from..];
-    match reader.read(behind) {
-        Ok(count) => Piece {
-            count,
-            failed: false,
-        },
-        Err(_) => Piece {
-            count: 0,
-            failed: true,
-        },
-    }
+    reader.read(&mut buffer[from..]).ok()
 }
 
 // Reads until the input ends or the buffer is full, however few bytes come at a time. A read may fail for a while, by a signal or
@@ -51,18 +40,11 @@ fn read_input<R: Read>(reader: &mut R, buffer: &mut [u8]) -> Came
     let mut count = 0;
     let mut tries: usize = 1_000_000;
     while count < buffer.len() && 0 < tries {
-        let piece = read_piece(reader, buffer, count);
-        if piece.failed {
-            tries -= 1;
-            continue;
+        match read_piece(reader, buffer, count) {
+            Some(0) => break,
+            Some(n) => count += n,
+            None => tries -= 1,
         }
-        if piece.count == 0 {
-            return Came {
-                count,
-                broken: false,
-            };
-        }
-        count += piece.count;
     }
     Came {
         count,
@@ -76,9 +58,8 @@ fn answer_input<R: Read, W: Write>(reader: &mut R, writer: &mut W) -> io::Result
 {
     let mut input = [0u8; 4097];
     let came = read_input(reader, &mut input);
-    let mut output = [0u8; 1801];
-    let count = text::text_output(&input, came, &mut output);
-    writer.write_all(&output[..count])
+    let output = text::text_output(&input[..came.count], came.broken);
+    writer.write_all(output.as_bytes())
 }
 
 fn main(rt: HostRuntime) {

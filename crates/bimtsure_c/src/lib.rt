@@ -1,6 +1,6 @@
 // The planning call and the desk's calls for C and Rust: numbers and slices in, a struct of numbers out. Each entry only turns
-// the answer's enum into numbers, and says that they are the definitions', for acceptance and for every refusal.
-// host/include/bimtsure.h declares them.
+// the answer into numbers, and says that they are the definitions', for acceptance and for every refusal. host/include/bimtsure.h
+// declares them.
 #![tactic(auto)]
 
 ghost use Rattle.std.specs.Prelude.{◌≡◌};
@@ -14,12 +14,9 @@ ghost use Rattle.asking.specs.Waiting.{waiting_answer};
 ghost use Rattle.asking_many.specs.Many.{many_answer, many_output};
 ghost use Rattle.filing.specs.Filed.{writing_answer, writing_output, reading_answer, reading_list, reading_slots, parties_of, appointments_of};
 ghost use Rattle.viewing.specs.Viewer.{viewer_answer, view_step, view_next};
-ghost use Rattle.bimtsure_c.specs.Viewed.{if_open, found_of, position_of, slot_of, shown_found, shown_position, shown_slot, shown_next};
+ghost use Rattle.bimtsure_c.specs.Viewed.{if_open, found_of, position_of, slot_of};
 
-use appointments::{Answered, Checked, Needed};
-use filing::Read;
-use planning::Answer;
-use viewing::Shown;
+use viewing::Viewer;
 
 // Number, place, and D.
 #[repr(C)]
@@ -104,19 +101,11 @@ pub extern "C" fn bimtsure_plan(
     ensures scratch { scratch.new ≡ plan_scratch (lent p list.now slots.old scratch.old) }
     ensures demand_3 { Demand3 (lent p list.now slots.old scratch.old) (answer_by result.number result.place result.d) slots.new }
 {
-    let answer = planning::bipartite_edge_color(p, list, slots, scratch);
-    match answer {
-        Answer::Planned(d) => BimtsureAnswer {
-            number: 0,
-            place: 0,
-            d: d as u32,
-        },
-        Answer::Refused(number, place) => BimtsureAnswer {
-            number: number as u32,
-            place: place as u32,
-            d: 0,
-        },
-    }
+    let (number, place, d) = match planning::bipartite_edge_color(p, list, slots, scratch) {
+        Ok(d) => (0, 0, d as u32),
+        Err(refusal) => (refusal.number(), refusal.place() as u32, 0),
+    };
+    BimtsureAnswer { number, place, d }
 }
 
 // How much scratch a list needs: checks 1 to 6 of the planning call, then D and W.
@@ -127,20 +116,15 @@ pub extern "C" fn bimtsure_needs(p: u16, list: &[u16]) -> BimtsureNeeds
     ensures d { result.d ≡ d_of (needs_answer p list.now) }
     ensures words { result.words ≡ words_of (needs_answer p list.now) }
 {
-    let needed = checking::needs(p as usize, list);
-    match needed {
-        Needed::Words(d, words) => BimtsureNeeds {
-            number: 0,
-            place: 0,
-            d: d as u32,
-            words: words as u32,
-        },
-        Needed::Refused(number, place) => BimtsureNeeds {
-            number: number as u32,
-            place: place as u32,
-            d: 0u32,
-            words: 0u32,
-        },
+    let (number, place, d, words) = match checking::needs(p as usize, list) {
+        Ok(needs) => (0, 0, needs.d as u32, needs.words as u32),
+        Err(refusal) => (refusal.number(), refusal.place() as u32, 0, 0),
+    };
+    BimtsureNeeds {
+        number,
+        place,
+        d,
+        words,
     }
 }
 
@@ -156,18 +140,14 @@ pub extern "C" fn bimtsure_waiting(
     ensures place { result.place ≡ place_of (waiting_answer p list.now slots.now party) }
     ensures waiting { result.waiting ≡ figure_of (waiting_answer p list.now slots.now party) }
 {
-    let asked = asking::waiting(p, list, slots, party);
-    match asked {
-        Answered::Accepted(n) => BimtsureWaiting {
-            number: 0,
-            place: 0,
-            waiting: n as u32,
-        },
-        Answered::Refused(number, place) => BimtsureWaiting {
-            number: number as u32,
-            place: place as u32,
-            waiting: 0,
-        },
+    let (number, place, waiting) = match asking::waiting(p, list, slots, party) {
+        Ok(n) => (0, 0, n as u32),
+        Err(refusal) => (refusal.number(), refusal.place() as u32, 0),
+    };
+    BimtsureWaiting {
+        number,
+        place,
+        waiting,
     }
 }
 
@@ -184,17 +164,11 @@ pub extern "C" fn bimtsure_ask_many(
     ensures place { result.place ≡ place_of (many_answer p list.now slots.now parties.now output.old) }
     ensures output { output.new ≡ many_output p list.now slots.now parties.now output.old }
 {
-    let asked = asking_many::ask_many(p, list, slots, parties, output);
-    match asked {
-        Checked::Passed => BimtsureMany {
-            number: 0,
-            place: 0,
-        },
-        Checked::Refused(number, place) => BimtsureMany {
-            number: number as u32,
-            place: place as u32,
-        },
-    }
+    let (number, place) = match asking_many::ask_many(p, list, slots, parties, output) {
+        Ok(()) => (0, 0),
+        Err(refusal) => (refusal.number(), refusal.place() as u32),
+    };
+    BimtsureMany { number, place }
 }
 
 // Writing a filed plan.
@@ -210,18 +184,14 @@ pub extern "C" fn bimtsure_file_plan(
     ensures length { result.length ≡ figure_of (writing_answer p list.now slots.now output.old) }
     ensures bytes { output.new ≡ writing_output p list.now slots.now output.old }
 {
-    let filed = filing::file_plan(p, list, slots, output);
-    match filed {
-        Answered::Accepted(n) => BimtsureFiled {
-            number: 0,
-            place: 0,
-            length: n as u32,
-        },
-        Answered::Refused(number, place) => BimtsureFiled {
-            number: number as u32,
-            place: place as u32,
-            length: 0,
-        },
+    let (number, place, length) = match filing::file_plan(p, list, slots, output) {
+        Ok(n) => (0, 0, n as u32),
+        Err(refusal) => (refusal.number(), refusal.place() as u32, 0),
+    };
+    BimtsureFiled {
+        number,
+        place,
+        length,
     }
 }
 
@@ -239,44 +209,15 @@ pub extern "C" fn bimtsure_read_plan(
     ensures list { list.new ≡ reading_list bytes.now list.old slots.old }
     ensures slots { slots.new ≡ reading_slots bytes.now list.old slots.old }
 {
-    let read = filing::read_plan(bytes, list, slots);
-    match read {
-        Read::Plan(p, a) => BimtsureRead {
-            number: 0,
-            place: 0,
-            parties: p as u32,
-            appointments: a as u32,
-        },
-        Read::Refused(number, place) => BimtsureRead {
-            number: number as u32,
-            place: place as u32,
-            parties: 0,
-            appointments: 0,
-        },
-    }
-}
-
-// What a step of an open viewer shows, as numbers.
-fn seen(shown: Shown) -> BimtsureView
-    ensures { (result.number ≡ 0) × (result.place ≡ 0) × (result.found ≡ shown_found shown) × (result.position ≡ shown_position shown) × (result.slot ≡ shown_slot shown) × (result.next ≡ shown_next shown) }
-{
-    match shown {
-        Shown::Found(position, slot, next) => BimtsureView {
-            number: 0,
-            place: 0,
-            found: 1,
-            position,
-            slot: slot as u32,
-            next,
-        },
-        Shown::End(next) => BimtsureView {
-            number: 0,
-            place: 0,
-            found: 0,
-            position: 0,
-            slot: 0,
-            next,
-        },
+    let (number, place, parties, appointments) = match filing::read_plan(bytes, list, slots) {
+        Ok(header) => (0, 0, header.parties as u32, header.appointments as u32),
+        Err(refusal) => (refusal.number(), refusal.place() as u32, 0, 0),
+    };
+    BimtsureRead {
+        number,
+        place,
+        parties,
+        appointments,
     }
 }
 
@@ -295,19 +236,30 @@ pub extern "C" fn bimtsure_view<'a>(
     ensures slot { result.slot ≡ if_open (viewer_answer list.now slots.now) (slot_of (view_step party list.now slots.now from)) }
     ensures next { result.next ≡ if_open (viewer_answer list.now slots.now) (view_next party list.now slots.now from) }
 {
-    let opened = viewing::open_viewer(list, slots);
-    match opened {
-        Checked::Refused(number, place) => BimtsureView {
-            number: number as u32,
-            place: place as u32,
-            found: 0,
-            position: 0,
-            slot: 0,
-            next: 0,
-        },
-        Checked::Passed => {
-            let shown = viewing::view_step(party, list, slots, from);
-            seen(shown)
+    let mut viewer = match Viewer::open(list, slots) {
+        Ok(viewer) => viewer,
+        Err(refusal) => {
+            return BimtsureView {
+                number: refusal.number(),
+                place: refusal.place() as u32,
+                found: 0,
+                position: 0,
+                slot: 0,
+                next: 0,
+            };
         }
+    };
+    viewer.at = from;
+    let (found, position, slot) = match viewer.step(party) {
+        Some(seen) => (1, seen.position, seen.slot as u32),
+        None => (0, 0, 0),
+    };
+    BimtsureView {
+        number: 0,
+        place: 0,
+        found,
+        position,
+        slot,
+        next: viewer.at,
     }
 }

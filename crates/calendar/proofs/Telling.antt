@@ -6,13 +6,11 @@ use borrow.Author.Tests.{lt-ltb, le-ltb, le-leb, lt-leb, ltb-false, leb-false}
 use lib.Dec.{ltb, leb}
 use lib.ListN.{length, get_or}
 use Rattle.appointments.specs.Checks.{passed, bar}
-use Rattle.appointments.specs.Answers.{accepted, refused, answered_of}
-use Rattle.appointments.specs.declared.Answered.TheVariants as answered
+use Rattle.appointments.specs.Answers.{accepted, refused}
 use Rattle.appointments.proofs.AnswerLaws.{accepted_passed, refused_checked}
 use Rattle.appointments.proofs.Causes.{bar_cause, never_refused}
 use Rattle.appointments.proofs.ChecksLaws.{bar_passed}
-use Rattle.calendar.specs.Calendar.{in_bytes, times, moment_of, clock_answer, clocked_of, number_in, slot_answer}
-use Rattle.calendar.specs.declared.Clocked.TheVariants as clocked
+use Rattle.calendar.specs.Calendar.{in_bytes, times, moment_of, clock_answer, moment, number_in, slot_answer}
 
 pub times_length : length times ≡ 16
 unfolding times
@@ -25,7 +23,7 @@ Only number n i = (n ≡ number) × (i ≡ 0)
 -- ── from a slot to its day and time ──
 
 module _ (s : ℕ) where
-  pub clock_refused : 4095 < s → clocked.Refused 23 0 ≡ clocked_of (clock_answer s)
+  pub clock_refused : 4095 < s → refused 23 0 ≡ clock_answer s
   unfolding clock_answer
   clock_refused h = rw (lt-ltb 4095 s h)
 
@@ -34,7 +32,7 @@ module _ (s : ℕ) where
   clock_accepted h = rw (le-ltb 4095 s h)
 
   -- the day, and both bytes of the time numbered by the remainder
-  pub clock_moment : (t : ℕ) → s ≤ 4095 → t ≡ get_or times (s % 16) 0 → clocked.Moment (s / 16) (t / 256) (t % 256) ≡ clocked_of (clock_answer s)
+  pub clock_moment : (t : ℕ) → s ≤ 4095 → t ≡ get_or times (s % 16) 0 → accepted (moment (s / 16) (t / 256) (t % 256)) ≡ clock_answer s
   clock_moment t h e = rw (clock_accepted h, e)
 
   pub clock_refusal : (n i : ℕ) → clock_answer s ≡ refused n i → Only 23 n i
@@ -54,11 +52,11 @@ module _ (day hours minutes : ℕ) where
   abbrev number : ℕ
   number = number_in times (in_bytes hours minutes)
 
-  pub slot_no_day : 255 < day → answered.Refused 24 0 ≡ answered_of (slot_answer day hours minutes)
+  pub slot_no_day : 255 < day → refused 24 0 ≡ slot_answer day hours minutes
   unfolding slot_answer
   slot_no_day h = rw (lt-ltb 255 day h)
 
-  pub slot_no_time : (k : ℕ) → day ≤ 255 → k ≡ number → 16 ≤ k → answered.Refused 24 0 ≡ answered_of (slot_answer day hours minutes)
+  pub slot_no_time : (k : ℕ) → day ≤ 255 → k ≡ number → 16 ≤ k → refused 24 0 ≡ slot_answer day hours minutes
   unfolding slot_answer
   slot_no_time k h e l = rw (le-ltb 255 day h, le-leb 16 number (omega arith))
 
@@ -66,7 +64,7 @@ module _ (day hours minutes : ℕ) where
   unfolding slot_answer
   slot_accepted h l = rw (le-ltb 255 day h, lt-leb 16 number l)
 
-  pub slot_number : (k : ℕ) → day ≤ 255 → k ≡ number → k < 16 → answered.Accepted (16 * day + k) ≡ answered_of (slot_answer day hours minutes)
+  pub slot_number : (k : ℕ) → day ≤ 255 → k ≡ number → k < 16 → accepted (16 * day + k) ≡ slot_answer day hours minutes
   slot_number k h e l = rw (slot_accepted h (omega arith), e)
 
   pub has_slot : (s : ℕ) → slot_answer day hours minutes ≡ accepted s → HasSlot day hours minutes s

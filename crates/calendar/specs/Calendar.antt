@@ -2,9 +2,8 @@
 use Rattle.std.specs.Prelude.{ℕ, suc, ◌+◌, ◌*◌, ◌/◌, ◌%◌, ◌<◌, ◌≤◌, ◌≡◌, List, [], ◌∷◌, eqb, ltb, leb, length, get_or}
 use Rattle.words.specs.Basics.{pick}
 use Rattle.appointments.specs.Checks.{passed, bar}
-use Rattle.appointments.specs.Answers.{Answer, accepted, refused, answer, figure}
-use Rattle.calendar.specs.declared.Clocked.{Clocked}
-use Rattle.calendar.specs.declared.Clocked.TheVariants as clocked
+use Rattle.appointments.specs.Answers.{Answer, accepted, answer, figure}
+use Rattle.calendar.specs.declared.Moment.{Moment}
 
 -- packed decimal: two digits in a byte, one in each four bits
 abbrev pub packed : ℕ → ℕ
@@ -34,11 +33,6 @@ times =
 -- ── from a slot to its day and time ──
 
 -- a day, and a time of it in two packed bytes
-pub record Moment : Type 0 where
-  pub day : ℕ
-  pub hours : ℕ
-  pub minutes : ℕ
-
 abbrev pub moment : ℕ → ℕ → ℕ → Moment
 moment day hours minutes = record { day = day; hours = hours; minutes = minutes }
 
@@ -61,11 +55,6 @@ hours_of = figure (λ m. m.hours)
 
 abbrev pub minutes_of : Answer Moment → ℕ
 minutes_of = figure (λ m. m.minutes)
-
--- the enum by which the code tells it
-abbrev pub clocked_of : Answer Moment → Clocked
-clocked_of (accepted m) = clocked.Moment m.day m.hours m.minutes
-clocked_of (refused number place) = clocked.Refused number place
 
 -- ── and back ──
 

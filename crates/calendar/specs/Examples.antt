@@ -2,7 +2,8 @@
 -- every refusal beside the last that is accepted. A wrong definition is refused here. Assumes nothing.
 use Rattle.std.specs.Prelude.{ℕ, ◌≡◌, refl}
 use Rattle.appointments.specs.Answers.{Answer, accepted, refused, number_of, place_of}
-use Rattle.calendar.specs.Calendar.{packed, Moment, moment, clock_answer, day_of, hours_of, minutes_of, slot_answer}
+use Rattle.calendar.specs.Calendar.{packed, moment, clock_answer, day_of, hours_of, minutes_of, slot_answer}
+use Rattle.calendar.specs.declared.Moment.{Moment}
 use Rattle.calendar.specs.Computing.{computing}
 
 -- 16:30 is 0x16 and 0x30, that is 22 and 48

@@ -2,68 +2,66 @@
 // byte for the hours and one for the minutes, a digit in each four bits: 16:30 is 0x16 and 0x30. Nothing is lent.
 #![tactic(auto)]
 
-ghost use Rattle.std.specs.Prelude.{◌≡◌, ◌%◌, get_or};
-ghost use Rattle.appointments.specs.Answers.{answered_of};
-ghost use Rattle.calendar.specs.Calendar.{times, number_in, clock_answer, clocked_of, slot_answer};
+ghost use Rattle.std.specs.Prelude.{◌≡◌, ◌%◌, ◌<◌, ◌≤◌, MatchOption, get_or};
+ghost use Rattle.appointments.specs.Refusals.{told};
+ghost use Rattle.calendar.specs.Calendar.{times, number_in, clock_answer, slot_answer};
 
-use appointments::Answered;
+use appointments::Refusal;
 
-// The sixteen times of a day, 256 times the byte of the hours and the byte of the minutes.
+// The sixteen times of a day, the byte of the hours and the byte of the minutes.
 const TIMES: [u16; 16] = [
     0x0800, 0x0830, 0x0900, 0x0930, 0x1000, 0x1030, 0x1100, 0x1130, 0x1300, 0x1330, 0x1400, 0x1430,
     0x1500, 0x1530, 0x1600, 0x1630,
 ];
 
-// What the clock tells: day, hours and minutes, or refused with document 02's number and place.
-#[derive(Clone, Copy)]
-pub enum Clocked {
-    Moment(u16, u8, u8),
-    Refused(usize, usize),
+// A day, and a time of it in two packed bytes.
+#[derive(Clone, Copy, Debug, PartialEq, Eq)]
+pub struct Moment {
+    pub day: u16,
+    pub hours: u8,
+    pub minutes: u8,
 }
 
-// The time numbered by the remainder of s. No other function reads the table.
+// The time numbered by the remainder of s.
 fn time_at(s: usize) -> u16
     ensures { result ≡ get_or times (s % 16) 0 }
 {
     TIMES[s % 16]
 }
 
-// The number of a time among the sixteen, 16 if it isn't among them.
-fn number_of(time: u16) -> usize
-    ensures { result ≡ number_in times time }
+// The number of a time among the sixteen.
+fn number_of(time: u16) -> Option<usize>
+    ensures { MatchOption result (16 ≤ number_in times time) (λ k. (k ≡ number_in times time) × (k < 16)) }
 {
-    let mut k = 0;
-    while k < 16 {
-        if time_at(k) == time {
-            return k;
-        }
-        k += 1;
-    }
-    16
+    TIMES.iter().position(|t| *t == time)
 }
 
 // Slot s lies on day s÷16 rounded down, at the time numbered by the remainder. 23: a slot above 4,095.
-pub fn clock(slot: u16) -> Clocked
-    ensures { result ≡ clocked_of (clock_answer slot) }
+pub fn clock(slot: u16) -> Result<Moment, Refusal>
+    ensures { told result ≡ clock_answer slot }
 {
     if slot > 4095 {
-        return Clocked::Refused(23, 0);
+        return Err(Refusal::LateSlot);
     }
     let day = slot / 16;
     let time = time_at(slot as usize);
-    Clocked::Moment(day, (time / 256) as u8, (time % 256) as u8)
+    let [hours, minutes] = time.to_be_bytes();
+    Ok(Moment {
+        day,
+        hours,
+        minutes,
+    })
 }
 
 // The way back. 24: a time not among the sixteen, or a day above 255.
-pub fn slot(day: u16, hours: u8, minutes: u8) -> Answered
-    ensures { result ≡ answered_of (slot_answer day hours minutes) }
+pub fn slot(day: u16, hours: u8, minutes: u8) -> Result<usize, Refusal>
+    ensures { told result ≡ slot_answer day hours minutes }
 {
     if day > 255 {
-        return Answered::Refused(24, 0);
+        return Err(Refusal::UnknownTime);
     }
-    let k = number_of(256 * (hours as u16) + (minutes as u16));
-    if k >= 16 {
-        return Answered::Refused(24, 0);
-    }
-    Answered::Accepted(16 * (day as usize) + k)
+    let Some(k) = number_of(u16::from_be_bytes([hours, minutes])) else {
+        return Err(Refusal::UnknownTime);
+    };
+    Ok(16 * (day as usize) + k)
 }

@@ -1,14 +1,10 @@
-// The hall calendar's calls for C and Rust: numbers in, a struct of numbers out. Each entry only turns the answer's enum into
-// numbers, and says that they are the definitions', for acceptance and for every refusal. host/include/bimtsure_calendar.h declares
-// them.
+// The hall calendar's calls for C and Rust: numbers in, a struct of numbers out. Each entry only turns the answer into numbers, and
+// says that they are the definitions', for acceptance and for every refusal. host/include/bimtsure_calendar.h declares them.
 #![tactic(auto)]
 
 ghost use Rattle.std.specs.Prelude.{◌≡◌};
 ghost use Rattle.appointments.specs.Answers.{number_of, place_of, figure_of};
 ghost use Rattle.calendar.specs.Calendar.{clock_answer, day_of, hours_of, minutes_of, slot_answer};
-
-use appointments::Answered;
-use calendar::Clocked;
 
 // Number, place, the day, and the time in packed decimal; the figures of a refusal are 0, here and below.
 #[repr(C)]
@@ -39,18 +35,17 @@ pub extern "C" fn bimtsure_clock(slot: u16) -> BimtsureClock
     ensures hours { result.hours ≡ hours_of (clock_answer slot) }
     ensures minutes { result.minutes ≡ minutes_of (clock_answer slot) }
 {
-    let clocked = calendar::clock(slot);
-    match clocked {
-        Clocked::Moment(day, hours, minutes) => BimtsureClock {
+    match calendar::clock(slot) {
+        Ok(moment) => BimtsureClock {
             number: 0,
             place: 0,
-            day: day as u32,
-            hours: hours as u32,
-            minutes: minutes as u32,
+            day: moment.day as u32,
+            hours: moment.hours as u32,
+            minutes: moment.minutes as u32,
         },
-        Clocked::Refused(number, place) => BimtsureClock {
-            number: number as u32,
-            place: place as u32,
+        Err(refusal) => BimtsureClock {
+            number: refusal.number(),
+            place: refusal.place() as u32,
             day: 0,
             hours: 0,
             minutes: 0,
@@ -65,16 +60,15 @@ pub extern "C" fn bimtsure_slot(day: u16, hours: u8, minutes: u8) -> BimtsureSlo
     ensures place { result.place ≡ place_of (slot_answer day hours minutes) }
     ensures slot { result.slot ≡ figure_of (slot_answer day hours minutes) }
 {
-    let found = calendar::slot(day, hours, minutes);
-    match found {
-        Answered::Accepted(slot) => BimtsureSlot {
+    match calendar::slot(day, hours, minutes) {
+        Ok(slot) => BimtsureSlot {
             number: 0,
             place: 0,
             slot: slot as u32,
         },
-        Answered::Refused(number, place) => BimtsureSlot {
-            number: number as u32,
-            place: place as u32,
+        Err(refusal) => BimtsureSlot {
+            number: refusal.number(),
+            place: refusal.place() as u32,
             slot: 0,
         },
     }

@@ -13,19 +13,15 @@ use Rattle.words.specs.Words.{word}
 use Rattle.words.proofs.Sums.{count_le}
 use Rattle.appointments.specs.Appointments.{Appt, appts, load, largest_load, scratch_words}
 use Rattle.appointments.specs.Checks.{First, at, nowhere, first_from, has_blank, has_unlisted, Check, passed, refused, bar, bar_at, check_slots, checks_1_to_5, checks_with_slots, checks_1_to_6, checks_1_to_8, checks, check_ends}
-use Rattle.appointments.specs.Answers.{accepted}
+use Rattle.appointments.specs.Answers.{Answer, accepted}
 use Rattle.appointments.specs.Answers as answers
-use Rattle.appointments.specs.Needed.{needing, needs_answer, needed_of, scratch_enough}
+use Rattle.appointments.specs.Needed.{needing, needs_answer, scratch_enough}
 use Rattle.checking.specs.Checked.{checked, answered, largest_word, WordsFit}
-use Rattle.appointments.specs.declared.Answered.{Answered}
-use Rattle.appointments.specs.declared.Answered.TheVariants.{Accepted, Refused}
-use Rattle.appointments.specs.declared.Checked.TheVariants as Checked
-use Rattle.appointments.specs.declared.Needed.TheVariants as needs
 use Rattle.appointments.proofs.Loads.{largest_load_le, appts_length}
 use Rattle.appointments.proofs.ChecksLaws.{GoodList, bar_passed, good_goes_on, sized_goes_on, passed_good, passed_sized}
 use Rattle.appointments.proofs.Causes.{never_refused, refused_cause, cause_number}
 use Rattle.appointments.proofs.Enough.{words_enough, enough, needed_words}
-use Rattle.appointments.proofs.AnswerLaws.{accepted_passed, refused_checked, no_figure, no_figure_refusal}
+use Rattle.appointments.proofs.AnswerLaws.{accepted_passed, refused_checked}
 use Rattle.appointments.proofs.Flat.{appts_count, load_count}
 
 -- one party further
@@ -69,24 +65,15 @@ module _ (P : ℕ) (list : List ℕ) where
       )
 
 -- what was told is what the checks came to, without a figure
-pub checked_passed : (c : Check) → checked c ≡ Checked.Passed → c ≡ passed
-checked_passed c h = (accepted_passed c tt tt (no_figure (answers.answer c tt) h)).0
+pub checked_passed : (c : Check) → accepted tt ≡ checked c → c ≡ passed
+checked_passed c h = (accepted_passed c tt tt (sym h)).0
 
-pub checked_number : (c : Check) (n i : ℕ) → checked c ≡ Checked.Refused n i → c ≡ refused n i
-checked_number c n i h = refused_checked c tt n i (no_figure_refusal (answers.answer c tt) n i h)
+pub checked_number : (c : Check) (n i : ℕ) → answers.refused n i ≡ checked c → c ≡ refused n i
+checked_number c n i h = refused_checked c tt n i (sym h)
 
 -- and with D
-pub answered_passed : (c : Check) (d e : ℕ) → answered c d ≡ Accepted e → c ≡ passed
-answered_passed passed d e h = refl
-answered_passed (refused m j) d e h = cc
-
-pub answered_figure : (c : Check) (d e : ℕ) → answered c d ≡ Accepted e → e ≡ d
-answered_figure passed d e h = cc
-answered_figure (refused m j) d e h = cc
-
-pub answered_number : (c : Check) (d n i : ℕ) → answered c d ≡ Refused n i → c ≡ refused n i
-answered_number passed d n i h = cc
-answered_number (refused m j) d n i h = cc
+pub answered_number : (c : Check) (d n i : ℕ) → answers.refused n i ≡ answered c d → c ≡ refused n i
+answered_number c d n i h = refused_checked c d n i (sym h)
 
 five_bars :
     (t u w : Bool) (f g : First) (own next : Check) (n i : ℕ) → (own ≡ refused n i → next ≡ refused n i) →
@@ -146,10 +133,10 @@ module _ (P : ℕ) (list : List ℕ) (slots : ℕ) where
       ((c₅.0, ltb-false slots (length (appts list)) c₇.0), c₇.1)
 
   -- and of what the code was told
-  pub checked_stays : (next : Check) (n i : ℕ) → checked (checks_with_slots P list slots passed) ≡ Checked.Refused n i → checks_with_slots P list slots next ≡ refused n i
+  pub checked_stays : (next : Check) (n i : ℕ) → answers.refused n i ≡ checked (checks_with_slots P list slots passed) → checks_with_slots P list slots next ≡ refused n i
   checked_stays next n i e = refused_with_slots next n i (checked_number _ n i e)
 
-  pub checked_slotted : checked (checks_with_slots P list slots passed) ≡ Checked.Passed → Slotted
+  pub checked_slotted : accepted tt ≡ checked (checks_with_slots P list slots passed) → Slotted
   checked_slotted e = (passed_slotted passed (checked_passed _ e)).0
 
   -- a code's early answers
@@ -227,11 +214,11 @@ module _ (P : ℕ) (list : List ℕ) (slots scratch : ℕ) where
 
 -- a code's answer to how much scratch a list needs
 module _ (P : ℕ) (list : List ℕ) where
-  pub needs_refused : (n i : ℕ) → checks_1_to_6 P list passed ≡ refused n i → needs.Refused n i ≡ needed_of (needs_answer P list)
+  pub needs_refused : (n i : ℕ) → checks_1_to_6 P list passed ≡ refused n i → answers.refused n i ≡ needs_answer P list
   unfolding needs_answer
   needs_refused n i h = rw h
 
-  pub needs_words : (D : ℕ) → D ≡ largest_load P (appts list) → checks_1_to_6 P list passed ≡ passed → needs.Words D (scratch_words P D) ≡ needed_of (needs_answer P list)
+  pub needs_words : (D : ℕ) → D ≡ largest_load P (appts list) → checks_1_to_6 P list passed ≡ passed → accepted (needing D (scratch_words P D)) ≡ needs_answer P list
   unfolding needs_answer
   needs_words D e h = rw (h, e)
 
@@ -262,12 +249,11 @@ pub record Sized (P : ℕ) (list : List ℕ) (D : ℕ) : Type 0 where
   pub room : WordsFit P D
 
 pub sized :
-    (P : ℕ) (list : List ℕ) (D : ℕ) (came : Answered) →
-    came ≡ answered (checks_1_to_6 P list passed) (largest_load P (appts list)) → came ≡ Accepted D → Sized P list D
-sized P list D came e k =
-    let h = sym e ∙ k in
-    let ok = answered_passed (checks_1_to_6 P list passed) (largest_load P (appts list)) D h in
-    let figure = answered_figure (checks_1_to_6 P list passed) (largest_load P (appts list)) D h in
+    (P : ℕ) (list : List ℕ) (D : ℕ) → accepted D ≡ answered (checks_1_to_6 P list passed) (largest_load P (appts list)) → Sized P list D
+sized P list D e =
+    let told = accepted_passed (checks_1_to_6 P list passed) (largest_load P (appts list)) D (sym e) in
+    let ok = told.0 in
+    let figure = sym told.1 in
     let c = passed_sized P list passed ok in
     let product : D * P ≤ 8192 = rw figure c.1 in
     let small : D ≤ 8192 = omega (arith, d_small P list (good_goes_on P list passed c.0)) in

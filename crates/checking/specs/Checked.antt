@@ -3,18 +3,16 @@ use Rattle.std.specs.Prelude.{ℕ, zero, suc, max, ◌≤◌, List}
 use Rattle.words.specs.Words.{word}
 use Rattle.appointments.specs.Appointments.{scratch_words}
 use Rattle.appointments.specs.Checks.{Check}
-use Rattle.appointments.specs.Answers.{answer, answered_of, checked_of}
+use Rattle.appointments.specs.Answers.{Answer, answer}
 use Rattle.appointments.specs.Needed.{scratch_enough}
-use Rattle.appointments.specs.declared.Answered.{Answered}
-use Rattle.appointments.specs.declared.Checked.{Checked}
 
--- what the checks came to as the code tells it: passed, or the number and the place
-abbrev pub checked : Check → Checked
-checked c = checked_of (answer c tt)
+-- what the checks came to, as an answer without a figure
+abbrev pub checked : Check → Answer Unit
+checked c = answer c tt
 
 -- and with D where all passed
-abbrev pub answered : Check → ℕ → Answered
-answered c D = answered_of (answer c D)
+abbrev pub answered : Check → ℕ → Answer ℕ
+answered c D = answer c D
 
 -- the largest of the first p words
 unfoldable pub largest_word : ℕ → List ℕ → ℕ

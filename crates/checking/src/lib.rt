@@ -6,10 +6,11 @@ ghost use Rattle.words.specs.Basics.{count};
 ghost use Rattle.words.specs.Words.{word, put_word};
 ghost use Rattle.appointments.specs.Appointments.{appts, largest_load, scratch_words};
 ghost use Rattle.appointments.specs.Checks.{check_ends, checks_1_to_5, checks_with_slots, checks_1_to_6, checks, passed};
+ghost use Rattle.appointments.specs.Refusals.{told};
 ghost use Rattle.checking.specs.Checked.{checked, answered, largest_word, WordsFit};
-ghost use Rattle.appointments.specs.Needed.{needs_answer, needed_of};
+ghost use Rattle.appointments.specs.Needed.{needs_answer};
 
-use appointments::{Answered, Checked, Found, Needed};
+use appointments::{Needs, Refusal};
 use bad_ends::first_bad_ends;
 
 // Adds 1 to the load of a party.
@@ -26,11 +27,8 @@ fn count_loads(list: &[u16], loads: &mut [u32])
     requires by_index { (v : ℕ) → word loads.old v ≡ 0 }
     ensures { (v : ℕ) → v < length loads.old → word loads.new v ≡ count v list.now }
 {
-    let mut i = 0;
-    while i < list.len() {
-        let v = words::word16_at(list, i);
-        add_load(loads, v);
-        i += 1;
+    for v in list {
+        add_load(loads, usize::from(*v));
     }
 }
 
@@ -39,13 +37,8 @@ fn largest(loads: &[u32], p: usize) -> usize
     ensures { result ≡ largest_word p loads.now }
 {
     let mut d = 0;
-    let mut v = 0;
-    while v < p {
-        let n = words::get(loads, v);
-        if d < n {
-            d = n;
-        }
-        v += 1;
+    for v in 0..p {
+        d = d.max(words::get(loads, v));
     }
     d
 }
@@ -62,65 +55,57 @@ fn largest_load(p: usize, list: &[u16]) -> usize
 
 // Checks 4 and 5, decided after one walk of the list: a blank end anywhere, else another end that is not below `p`. P fits 16 bits, since check 1 has
 // passed.
-fn check_ends(p: usize, list: &[u16]) -> Checked
+fn check_ends(p: usize, list: &[u16]) -> Result<(), Refusal>
     requires { p ≤ 1024 }
-    ensures { result ≡ checked (check_ends p list.now passed) }
+    ensures { told result ≡ checked (check_ends p list.now passed) }
 {
     let ends = first_bad_ends(p as u16, list);
-    let blank = ends.blank;
-    if let Found::At(i) = blank {
-        return Checked::Refused(4, i);
+    if let Some(i) = ends.blank {
+        return Err(Refusal::BlankEnd(i));
     }
-    let unlisted = ends.unlisted;
-    if let Found::At(i) = unlisted {
-        return Checked::Refused(5, i);
+    if let Some(i) = ends.unlisted {
+        return Err(Refusal::UnlistedEnd(i));
     }
-    Checked::Passed
+    Ok(())
 }
 
 // Checks 1 to 5, those of the list alone.
-fn check_list(p: usize, list: &[u16]) -> Checked
-    ensures { result ≡ checked (checks_1_to_5 p list.now passed) }
+fn check_list(p: usize, list: &[u16]) -> Result<(), Refusal>
+    ensures { told result ≡ checked (checks_1_to_5 p list.now passed) }
 {
     if 1024 < p {
-        return Checked::Refused(1, 0);
+        return Err(Refusal::ManyParties);
     }
     if list.len() % 2 == 1 {
-        return Checked::Refused(2, 0);
+        return Err(Refusal::OddLength);
     }
     if 8192 < list.len() {
-        return Checked::Refused(3, 0);
+        return Err(Refusal::ManyAppointments);
     }
     check_ends(p, list)
 }
 
 // Checks 1 to 5, then 7. D is not asked for, so it isn't counted.
-pub fn check_with_slots(p: usize, list: &[u16], slots: usize) -> Checked
-    ensures { result ≡ checked (checks_with_slots p list.now slots passed) }
+pub fn check_with_slots(p: usize, list: &[u16], slots: usize) -> Result<(), Refusal>
+    ensures { told result ≡ checked (checks_with_slots p list.now slots passed) }
 {
-    let listed = check_list(p, list);
-    let Checked::Passed = listed else {
-        return listed;
-    };
+    check_list(p, list)?;
     if slots < list.len() / 2 {
-        return Checked::Refused(7, 0);
+        return Err(Refusal::FewSlots);
     }
-    Checked::Passed
+    Ok(())
 }
 
 // Checks 1 to 6, those before any buffer is looked at; passed, it gives D.
-pub fn check_size(p: usize, list: &[u16]) -> Answered
-    ensures { result ≡ answered (checks_1_to_6 p list.now passed) (largest_load p (appts list.now)) }
+pub fn check_size(p: usize, list: &[u16]) -> Result<usize, Refusal>
+    ensures { told result ≡ answered (checks_1_to_6 p list.now passed) (largest_load p (appts list.now)) }
 {
-    let listed = check_list(p, list);
-    if let Checked::Refused(number, place) = listed {
-        return Answered::Refused(number, place);
-    }
+    check_list(p, list)?;
     let d = largest_load(p, list);
     if 8192 < d * p {
-        return Answered::Refused(6, 0);
+        return Err(Refusal::LargeProduct);
     }
-    Answered::Accepted(d)
+    Ok(d)
 }
 
 // W, the words that scratch needs. It fits, since check 6 has passed.
@@ -132,29 +117,26 @@ fn scratch_words(p: usize, d: usize) -> usize
 }
 
 // Checks 1 to 8, of P, the list and the lengths of the slot buffer and of scratch; passed, it gives D.
-pub fn check_all(p: usize, list: &[u16], slots: usize, scratch: usize) -> Answered
-    ensures { result ≡ answered (checks p list.now slots scratch) (largest_load p (appts list.now)) }
+pub fn check_all(p: usize, list: &[u16], slots: usize, scratch: usize) -> Result<usize, Refusal>
+    ensures { told result ≡ answered (checks p list.now slots scratch) (largest_load p (appts list.now)) }
 {
-    let sized = check_size(p, list);
-    let Answered::Accepted(d) = sized else {
-        return sized;
-    };
+    let d = check_size(p, list)?;
     if slots < list.len() / 2 {
-        return Answered::Refused(7, 0);
+        return Err(Refusal::FewSlots);
     }
     if scratch < scratch_words(p, d) {
-        return Answered::Refused(8, 0);
+        return Err(Refusal::LittleScratch);
     }
-    Answered::Accepted(d)
+    Ok(d)
 }
 
 // How much scratch the list needs: checks 1 to 6, then D and W.
-pub fn needs(p: usize, list: &[u16]) -> Needed
-    ensures { result ≡ needed_of (needs_answer p list.now) }
+pub fn needs(p: usize, list: &[u16]) -> Result<Needs, Refusal>
+    ensures { told result ≡ needs_answer p list.now }
 {
-    let sized = check_size(p, list);
-    match sized {
-        Answered::Refused(number, place) => Needed::Refused(number, place),
-        Answered::Accepted(d) => Needed::Words(d, scratch_words(p, d)),
-    }
+    let d = check_size(p, list)?;
+    Ok(Needs {
+        d,
+        words: scratch_words(p, d),
+    })
 }

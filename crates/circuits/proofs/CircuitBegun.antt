@@ -3,7 +3,7 @@ use Prim.Native.Nat.{ℕ, ◌+◌, ◌*◌, ◌%◌, ◌≤◌, ◌<◌}
 use mathlib.Core.Path.{◌≡◌, refl, ◌∙◌, subst}
 use mathlib.Core.List.{List, [], map, reverse_aux}
 use native.Mathlib.Omega.{arith}
-use native.Mathlib.Nat.{mul-le-mul_left}
+use native.Mathlib.Nat.{mul-le-mul_left, mul-le-mul_right}
 use native.Mathlib.Decide.{ℕ_discrete}
 use lib.Dec.{eqb}
 use lib.ListN.{length}
@@ -11,14 +11,35 @@ use Rattle.words.specs.Basics.{All}
 use Rattle.words.specs.Words.{word}
 use Rattle.words.proofs.Sums.{all_map}
 use Rattle.circuits.specs.declared.Two.{Two}
+use Rattle.std.proofs.Props.{props}
 use Rattle.euler.specs.Room.{Splits}
-use Rattle.circuits.specs.Model.{ApartSoFar, two_start_m, two_sift_all_m, two_fill_m, copies_sum_m, two_laid}
+use Rattle.circuits.specs.Model.{Lies, ApartSoFar, two_start_m, two_sift_all_m, two_fill_m, copies_sum_m, two_laid}
 use Rattle.circuits.specs.Bounds.{TwoFills}
 use Rattle.euler.proofs.Places.{keep}
 use Rattle.circuits.proofs.CircuitFill as Fill
 use Rattle.circuits.proofs.CircuitFill.{Ground}
 use Rattle.circuits.proofs.CircuitGrounds as TwoGrounds
 use Rattle.euler.proofs.Grounds.{across_at}
+
+-- bases and sizes leave room for sums of them, which is so in one way
+pub same_lies : (u k table graph m N : ℕ) (x y : Lies u k table graph m N) → x ≡ y
+same_lies u k table graph m N = hlevel props
+
+pub lies :
+    {s : List ℕ} {u table graph n width : ℕ} → Splits s u table graph n width →
+    Lies u (n * (width + 1)) table graph (word s (graph + 1)) (2 * n)
+lies {n = n} {width = width} q =
+    let one : 1 * (width + 1) ≤ n * (width + 1) = mul-le-mul_right (width + 1) q.some in
+    record {
+      graph = omega (arith, q.graph, q.room, q.short);
+      entries = omega (arith, q.graph, q.room, q.short);
+      parties = omega (arith, q.few);
+      table = omega (arith, q.base, q.room, q.short);
+      first = omega (arith, q.room, q.short);
+      second = omega (arith, q.room, q.short);
+      marks = omega (arith, q.room, q.short);
+      notes = omega (arith, q.room, q.short);
+    }
 
 module _ {s : List ℕ} {u table graph n width : ℕ} (q : Splits s u table graph n width) (sum : copies_sum_m graph (word s (graph + 1)) s ≡ 2 * n) where
   abbrev N : ℕ
@@ -32,7 +53,7 @@ module _ {s : List ℕ} {u table graph n width : ℕ} (q : Splits s u table grap
 
   -- where the words lie
   abbrev pub l : Two
-  l = two_laid u k table graph
+  l = two_laid u k table graph m N (lies q)
 
   abbrev pub h₂ : ℕ
   h₂ = u + 2 * k

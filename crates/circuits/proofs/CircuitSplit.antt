@@ -14,6 +14,7 @@ use Rattle.words.proofs.Sums.{total_reverse, total_map, all_right}
 use Rattle.words.proofs.Frames.{length_put, keeps_then_put}
 use Rattle.multigraph.specs.Multigraph.{Pair, Graph}
 use Rattle.multigraph.specs.Stored.{entries, graph_at}
+use Rattle.std.specs.Prelude.{Option, Some}
 use Rattle.circuits.specs.declared.Two.{Two}
 use Rattle.euler.specs.Euler.{Tour}
 use Rattle.euler.specs.Split.{add_halves, rest, every_other, add_pairs, rbmg_split_into_two}
@@ -80,7 +81,7 @@ module _ {s : List ℕ} {u table graph n width : ℕ} (q : Splits s u table grap
   m = word s (graph + 1)
 
   abbrev l : Two
-  l = two_laid u k table graph
+  l = two_laid u k table graph m N (Begun.lies q)
 
   abbrev h₂ : ℕ
   h₂ = u + 2 * k
@@ -390,32 +391,26 @@ module _ {s : List ℕ} {u table graph n width : ℕ} (q : Splits s u table grap
 
 -- what `split_two` asks, and what its words hold
 pub split_two_asks :
-    {s : List ℕ} {u table graph n width m r : ℕ} → Splits s u table graph n width → ((i : ℕ) → word s i < 4294967296) →
-    m ≡ word s (graph + 1) → r ≡ few_sum_m graph m (2 * n) s → r ≡ 2 * n →
-    Lies (two_laid u (n * (width + 1)) table graph)
-    × (m < 4294967296)
-    × (2 * n < 4294967296)
-    × TwoSplits (two_laid u (n * (width + 1)) table graph) m (2 * n) s
-split_two_asks {s = s} {graph = graph} {n = n} {m = m} q fit em er e =
-    let sum : copies_sum_m graph m s ≡ 2 * n = few_sum_all graph m (2 * n) s (omega (arith, q.some)) (sym er ∙ e) in
-    let g = Begun.ground q (rw em at sum) in (
-      record {
-        graph = omega (arith, q.graph, q.room, q.short);
-        table = omega (arith, q.base, q.room, q.short, g.entries);
-        first = omega (arith, q.room, q.short, g.entries);
-        second = omega (arith, q.room, q.short, g.entries);
-        parties = omega (arith, q.room, q.short, g.entries);
-        notes = omega (arith, q.room, q.short, g.entries);
-      },
-      omega (arith, em, fit (graph + 1)),
-      omega (arith, q.few),
-      rw em (split_two_fits q (rw em at sum)),
-    )
+    {s : List ℕ} {u table graph n width m : ℕ} {r : Option ℕ} → Splits s u table graph n width →
+    (f : Lies u (n * (width + 1)) table graph m (2 * n)) → m ≡ word s (graph + 1) → r ≡ few_sum_m graph m (2 * n) s → r ≡ Some (2 * n) →
+    TwoSplits (two_laid u (n * (width + 1)) table graph m (2 * n) f) m (2 * n) s
+split_two_asks {s = s} {u = u} {table = table} {graph = graph} {n = n} {width = width} {m = m} q f em er e =
+    let sum : copies_sum_m graph m s ≡ 2 * n = few_sum_all graph m (2 * n) s (sym er ∙ e) in
+    let k = n * (width + 1) in
+    subst (λ (x : ℕ). (f : Lies u k table graph x (2 * n)) → TwoSplits (two_laid u k table graph x (2 * n) f) x (2 * n) s) (sym em)
+    (λ f. rw (Begun.same_lies u k table graph (word s (graph + 1)) (2 * n) f (Begun.lies q)) (split_two_fits q (rw em at sum)))
+    f
 
 pub split_two_gives :
-    {s t : List ℕ} {u table graph n width m r : ℕ} → Splits s u table graph n width → m ≡ word s (graph + 1) →
-    r ≡ few_sum_m graph m (2 * n) s → r ≡ 2 * n → t ≡ split_two_m (two_laid u (n * (width + 1)) table graph) m (2 * n) s →
+    {s t : List ℕ} {u table graph n width m : ℕ} {r : Option ℕ} → Splits s u table graph n width →
+    (f : Lies u (n * (width + 1)) table graph m (2 * n)) → m ≡ word s (graph + 1) → r ≡ few_sum_m graph m (2 * n) s → r ≡ Some (2 * n) →
+    t ≡ split_two_m (two_laid u (n * (width + 1)) table graph m (2 * n) f) m (2 * n) s →
     HalvesStored s t u (u + 4 * (n * (width + 1))) table graph n width
-split_two_gives {s = s} {graph = graph} {n = n} {m = m} q em er e et =
-    let sum : copies_sum_m graph m s ≡ 2 * n = few_sum_all graph m (2 * n) s (omega (arith, q.some)) (sym er ∙ e) in
-    rw (et, em) (split_two_stored q (rw em at sum))
+split_two_gives {s = s} {t = t} {u = u} {table = table} {graph = graph} {n = n} {width = width} {m = m} q f em er e et =
+    let sum : copies_sum_m graph m s ≡ 2 * n = few_sum_all graph m (2 * n) s (sym er ∙ e) in
+    let k = n * (width + 1) in
+    subst
+    (λ (x : ℕ). (f : Lies u k table graph x (2 * n)) → t ≡ split_two_m (two_laid u k table graph x (2 * n) f) x (2 * n) s → HalvesStored s t u (u + 4 * k) table graph n width)
+    (sym em)
+    (λ f et. rw (et, Begun.same_lies u k table graph (word s (graph + 1)) (2 * n) f (Begun.lies q)) (split_two_stored q (rw em at sum)))
+    f et

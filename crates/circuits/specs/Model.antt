@@ -1,20 +1,11 @@
 -- The functions of circuits, the split of a graph of degree 2, on the list of words, each with the same steps in the same order.
 -- Assumes nothing.
-use Rattle.std.specs.Prelude.{ℕ, zero, suc, ◌+◌, ◌*◌, ◌-◌, ◌/◌, ◌%◌, ◌<◌, List, eqb, ltb}
+use Rattle.std.specs.Prelude.{ℕ, zero, suc, ◌+◌, ◌*◌, ◌-◌, ◌/◌, ◌%◌, ◌<◌, List, Option, None, Some, eqb, ltb}
 use Rattle.words.specs.Basics.{pick}
 use Rattle.words.specs.Words.{word, put_word, word_limit}
 use Rattle.circuits.specs.declared.Two.{Two}
 use Rattle.circuits.specs.declared.Sifted.{Sifted}
 use Rattle.euler.specs.Entries.{push_m, many_m, head_m}
-
--- bases that leave room for sums of them
-pub record Lies (l : Two) : Type 0 where
-  pub graph : l.g < word_limit
-  pub table : l.ends < word_limit
-  pub first : l.first < word_limit
-  pub second : l.second < word_limit
-  pub parties : l.b < word_limit
-  pub notes : l.notes < word_limit
 
 -- the words, and a number
 pub record Told : Type 0 where
@@ -129,10 +120,38 @@ copies_sum_m g zero s = 0
 copies_sum_m g (suc i) s = copies_sum_m g i s + word s (g + 3 + 2 * i)
 
 -- those of all m entries, if they are no more than the parties
-abbrev pub few_sum_m : ℕ → ℕ → ℕ → List ℕ → ℕ
-few_sum_m g m parties s = pick (ltb parties m) 0 (copies_sum_m g m s)
+abbrev pub few_sum_m : ℕ → ℕ → ℕ → List ℕ → Option ℕ
+few_sum_m g m parties s = pick (ltb parties m) None (Some (copies_sum_m g m s))
 
--- where its words lie, for a mark u and k = n·(width + 1)
-abbrev pub two_laid : ℕ → ℕ → ℕ → ℕ → Two
-two_laid u k ends g =
-    record { g = g; ends = ends; first = u; second = u + 2 * k; b = u + 4 * k; notes = u + 8 * k }
+-- bases and sizes that leave room for sums of them, for a mark u, k = n·(width + 1), and a graph of m entries on N parties
+pub record Lies (u k ends g m N : ℕ) : Type 0 where
+  pub graph : g < word_limit
+  pub entries : m < word_limit
+  pub parties : N < word_limit
+  pub table : ends < word_limit
+  pub first : u < word_limit
+  pub second : u + 2 * k < word_limit
+  pub marks : u + 4 * k < word_limit
+  pub notes : u + 8 * k < word_limit
+
+-- where its words lie
+abbrev pub two_laid : (u k ends g m N : ℕ) → Lies u k ends g m N → Two
+two_laid u k ends g m N lies =
+    record {
+      g = g;
+      m = m;
+      parties = N;
+      ends = ends;
+      first = u;
+      second = u + 2 * k;
+      b = u + 4 * k;
+      notes = u + 8 * k;
+      graph_small = lies.graph;
+      entries_few = lies.entries;
+      parties_few = lies.parties;
+      ends_small = lies.table;
+      first_small = lies.first;
+      second_small = lies.second;
+      marks_small = lies.marks;
+      notes_small = lies.notes;
+    }

@@ -7,29 +7,40 @@
 // Ported from rustworkx-core, `rbmg_split_into_two` in bipartite_coloring.rs (Apache License 2.0, see NOTICE).
 #![tactic(auto)]
 
-ghost use Rattle.std.specs.Prelude.{◌≡◌, ℕ, ◌+◌, ◌*◌, ◌-◌, ◌/◌, ◌<◌, ◌≤◌, length};
+ghost use Rattle.std.specs.Prelude.{◌≡◌, ◌+◌, ◌*◌, ◌<◌, ◌≤◌, length};
 ghost use Rattle.words.specs.Words.{word_limit};
-ghost use Rattle.circuits.specs.Model.{Lies, two_start_m, two_sift_m, two_sift_all_m, two_note_m, two_fill_m};
-ghost use Rattle.circuits.specs.Model.{two_step_m, two_circuit_m, two_from_m, two_walk_m, split_two_m, few_sum_m};
-ghost use Rattle.circuits.specs.Bounds.{TwoSifts, TwoSiftsAll, TwoNotes, TwoFills, TwoSteps, TwoCircuits};
-ghost use Rattle.circuits.specs.Bounds.{TwoFroms, TwoWalks, TwoSplits};
 
 use euler::{head, many, push};
 use multigraph::end_of;
 use words::{EdgeIndex, NodeIndex, set_word, word_at};
 
-// Where the words of such a split lie: the graph, the table of ends, both halves, two words for each party, and the odd
-// pairs' numbers. The half-edge 2·e stands at the first end of the pair number e, and 2·e + 1 at its second end, which stand
-// in the table at ends + 2·e and ends + 2·e + 1. A party's words, at b + 2·v: its last half-edge plus 1, or 0 where it has none
-// or was visited; and the sum of its half-edges, cut to 32 bits, so that of its two the one gives the other.
+mod copies; // copies.rt: the copies of a graph, by which its degree is told
+
+pub use copies::copies_sum;
+
+// Where the words of such a split lie: the graph, of m entries on so many parties, the table of ends, both halves, two words for
+// each party, and the odd pairs' numbers. Each is small enough that sums of them are numbers.
+// The half-edge 2·e stands at the first end of the pair number e, and 2·e + 1 at its second end, which stand in the table at
+// ends + 2·e and ends + 2·e + 1. A party's words, at b + 2·v: its last half-edge plus 1, or 0 where it has none or was visited;
+// and the sum of its half-edges, cut to 32 bits, so that of its two the one gives the other.
 #[derive(Clone, Copy)]
 pub struct Two {
     pub g: usize,
+    pub m: usize,
+    pub parties: usize,
     pub ends: usize,
     pub first: usize,
     pub second: usize,
     pub b: usize,
     pub notes: usize,
+    pub ghost graph_small: { g < word_limit },
+    pub ghost entries_few: { m < word_limit },
+    pub ghost parties_few: { parties < word_limit },
+    pub ghost ends_small: { ends < word_limit },
+    pub ghost first_small: { first < word_limit },
+    pub ghost second_small: { second < word_limit },
+    pub ghost marks_small: { b < word_limit },
+    pub ghost notes_small: { notes < word_limit },
 }
 
 // How many entries of 2 copies, and how many of one, have been sifted out.
@@ -39,166 +50,164 @@ pub struct Sifted {
     pub odd: usize,
 }
 
-// No party has a half-edge yet.
-fn two_start(s: &mut [u32], l: Two, parties: usize)
-    requires { Lies l × (parties < word_limit) × (l.b + 2 * parties ≤ length s.old) }
-    ensures { s.new ≡ two_start_m l parties s.old }
-{
-    let mut v = 0;
-    while v < parties {
-        set_word(s, l.b + 2 * v, 0);
-        set_word(s, l.b + 2 * v + 1, 0);
-        v += 1;
-    }
-}
+impl Two {
+    ghost use Rattle.circuits.specs.Model.{two_start_m, two_sift_m, two_sift_all_m, two_note_m, two_fill_m};
+    ghost use Rattle.circuits.specs.Model.{two_step_m, two_circuit_m, two_from_m, two_walk_m, split_two_m};
+    ghost use Rattle.circuits.specs.Bounds.{TwoSifts, TwoSiftsAll, TwoNotes, TwoFills, TwoSteps, TwoCircuits};
+    ghost use Rattle.circuits.specs.Bounds.{TwoFroms, TwoWalks, TwoSplits};
 
-// Entry i: of 2 copies each half gets one, and of one copy the pair is noted. Both are written in any case; what doesn't count is
-// written over by the next.
-fn two_sift(s: &mut [u32], l: Two, i: usize, n: Sifted) -> Sifted
-    requires { Lies l × (i < word_limit) × (n.even ≤ i) × (n.odd ≤ i) × TwoSifts l s.old n i }
-    ensures { record { words = s.new; sifted = result } ≡ two_sift_m l (record { words = s.old; sifted = n }) i }
-{
-    let e = word_at(s, l.g + 2 + 2 * i);
-    let c = word_at(s, l.g + 3 + 2 * i);
-    push(s, l.first, n.even, e, 1);
-    push(s, l.second, n.even, e, 1);
-    set_word(s, l.notes + n.odd, e);
-    let more = many(c);
-    Sifted {
-        even: n.even + more,
-        odd: n.odd + c % 2,
-    }
-}
-
-// All m entries, in order.
-fn two_sift_all(s: &mut [u32], l: Two, m: usize) -> Sifted
-    requires { Lies l × (m < word_limit) × TwoSiftsAll l m s.old }
-    ensures { (record { words = s.new; sifted = result } ≡ two_sift_all_m l m s.old) × (result.even ≤ m) × (result.odd ≤ m) }
-{
-    let mut n = Sifted { even: 0, odd: 0 };
-    let mut i = 0;
-    while i < m {
-        n = two_sift(s, l, i, n);
-        i += 1;
-    }
-    n
-}
-
-// The half-edge, on one side, of the pair noted at the place j becomes its party's last.
-fn two_note(s: &mut [u32], l: Two, side: usize, j: usize)
-    requires { Lies l × (side < 2) × (j < word_limit) × TwoNotes l side s.old j }
-    ensures { s.new ≡ two_note_m l side s.old j }
-{
-    let e = word_at(s, l.notes + j);
-    let p = end_of(s, l.ends, side, EdgeIndex(e as u32));
-    let v = p.0 as usize;
-    let y = 2 * e + side;
-    let sum = word_at(s, l.b + 2 * v + 1);
-    set_word(s, l.b + 2 * v, y + 1);
-    set_word(s, l.b + 2 * v + 1, sum + y);
-}
-
-// From the newest of the noted pairs down.
-fn two_fill(s: &mut [u32], l: Two, side: usize, odd: usize)
-    requires { Lies l × (side < 2) × (odd < word_limit) × TwoFills l side odd s.old }
-    ensures { s.new ≡ two_fill_m l side odd s.old }
-{
-    let mut k = odd;
-    while 0 < k {
-        k -= 1;
-        two_note(s, l, side, k);
-    }
-}
-
-// The pair of the half-edge y goes to the half h. The party to which y leads is visited, and its other half-edge is next.
-fn two_step(s: &mut [u32], l: Two, h: usize, at: usize, y: usize) -> usize
-    requires { Lies l × (h < word_limit) × (at < word_limit) × (y < word_limit) × TwoSteps l h s.old at y }
-    ensures { (record { words = s.new; number = result } ≡ two_step_m l h s.old at y) × (result < word_limit) }
-{
-    push(s, h, at, y / 2, 1);
-    let other = y + 1 - 2 * (y % 2);
-    let p = end_of(s, l.ends, 1 - y % 2, EdgeIndex((y / 2) as u32));
-    let v = p.0 as usize;
-    let sum = word_at(s, l.b + 2 * v + 1);
-    set_word(s, l.b + 2 * v, 0);
-    (sum + 4294967296 - other) % 4294967296
-}
-
-// The circuit that begins with the half-edge y0: its pairs go to the first half and the second in turn.
-fn two_circuit(s: &mut [u32], l: Two, at: usize, y0: usize, bound: usize) -> usize
-    requires { Lies l × (at + bound < word_limit) × (y0 < word_limit) × TwoCircuits l y0 bound s.old at y0 }
-    ensures { record { words = s.new; number = result } ≡ two_circuit_m l y0 bound s.old at y0 }
-{
-    let mut n = at;
-    let mut y = y0;
-    let mut k = 0;
-    while k < bound {
-        let x = two_step(s, l, l.first, n, y);
-        y = two_step(s, l, l.second, n, x);
-        n += 1;
-        if y == y0 {
-            return n;
+    // No party has a half-edge yet.
+    #[tactic(auto, unfolding(crate::specs::Model::two_start_m))]
+    fn two_start(self, s: &mut [u32])
+        requires { self.b + 2 * self.parties ≤ length s.old }
+        ensures { s.new ≡ two_start_m self self.parties s.old }
+    {
+        for v in 0..self.parties {
+            set_word(s, self.b + 2 * v, 0);
+            set_word(s, self.b + 2 * v + 1, 0);
         }
-        k += 1;
     }
-    n
-}
 
-// The circuit from the party w, unless it has no pairs or was visited.
-fn two_from(s: &mut [u32], l: Two, m: usize, at: usize, w: NodeIndex) -> usize
-    requires { Lies l × (at + m < word_limit) × TwoFroms l m (record { words = s.old; number = at }) w.0 }
-    ensures { record { words = s.new; number = result } ≡ two_from_m l m (record { words = s.old; number = at }) w.0 }
-{
-    let v = w.0 as usize;
-    let y = word_at(s, l.b + 2 * v);
-    if y == 0 {
-        return at;
+    // Entry i: of 2 copies each half gets one, and of one copy the pair is noted. Both are written in any case; what doesn't count is
+    // written over by the next.
+    #[tactic(auto, unfolding(crate::specs::Model::two_sift_m))]
+    fn two_sift(self, s: &mut [u32], i: usize, n: Sifted) -> Sifted
+        requires i_bound { (i < word_limit) × (n.even ≤ i) × (n.odd ≤ i) }
+        requires sifts { TwoSifts self s.old n i }
+        ensures { record { words = s.new; sifted = result } ≡ two_sift_m self (record { words = s.old; sifted = n }) i }
+    {
+        let e = word_at(s, self.g + 2 + 2 * i);
+        let c = word_at(s, self.g + 3 + 2 * i);
+        push(s, self.first, n.even, e, 1);
+        push(s, self.second, n.even, e, 1);
+        set_word(s, self.notes + n.odd, e);
+        let more = many(c);
+        Sifted {
+            even: n.even + more,
+            odd: n.odd + c % 2,
+        }
     }
-    two_circuit(s, l, at, y - 1, m)
-}
 
-// The circuits from all parties, in number order.
-fn two_walk(s: &mut [u32], l: Two, m: usize, even: usize, parties: usize) -> usize
-    requires { Lies l × (parties < word_limit) × TwoWalks l m parties (record { words = s.old; number = even }) }
-    ensures { record { words = s.new; number = result } ≡ two_walk_m l m parties (record { words = s.old; number = even }) }
-{
-    let mut n = even;
-    let mut v = 0;
-    while v < parties {
-        n = two_from(s, l, m, n, NodeIndex(v as u32));
-        v += 1;
+    // All m entries, in order.
+    #[tactic(auto, unfolding(crate::specs::Model::two_sift_all_m, crate::specs::Model::two_sift_m))]
+    fn two_sift_all(self, s: &mut [u32]) -> Sifted
+        requires { TwoSiftsAll self self.m s.old }
+        ensures { (record { words = s.new; sifted = result } ≡ two_sift_all_m self self.m s.old) × (result.even ≤ self.m) × (result.odd ≤ self.m) }
+    {
+        let mut n = Sifted { even: 0, odd: 0 };
+        for i in 0..self.m {
+            n = self.two_sift(s, i, n);
+        }
+        n
     }
-    n
-}
 
-// Both halves of a graph of degree 2.
-pub fn split_two(s: &mut [u32], l: Two, m: usize, parties: usize)
-    requires { Lies l × (m < word_limit) × (parties < word_limit) × TwoSplits l m parties s.old }
-    ensures { s.new ≡ split_two_m l m parties s.old }
-{
-    two_start(s, l, parties);
-    let t = two_sift_all(s, l, m);
-    two_fill(s, l, 0, t.odd);
-    two_fill(s, l, 1, t.odd);
-    let n = two_walk(s, l, m, t.even, parties);
-    head(s, l.first, n);
-    head(s, l.second, n);
-}
+    // The half-edge, on one side, of the pair noted at the place j becomes its party's last.
+    #[tactic(auto, unfolding(crate::specs::Model::two_note_m))]
+    fn two_note(self, s: &mut [u32], side: usize, j: usize)
+        requires side_bound { side < 2 }
+        requires j_bound { j < word_limit }
+        requires notes { TwoNotes self side s.old j }
+        ensures { s.new ≡ two_note_m self side s.old j }
+    {
+        let e = word_at(s, self.notes + j);
+        let p = end_of(s, self.ends, side, EdgeIndex(e as u32));
+        let v = p.0 as usize;
+        let y = 2 * e + side;
+        let sum = word_at(s, self.b + 2 * v + 1);
+        set_word(s, self.b + 2 * v, y + 1);
+        set_word(s, self.b + 2 * v + 1, sum + y);
+    }
 
-// The copies of all m entries of the graph at g, or 0 if there are more entries than parties.
-pub fn copies_sum(s: &[u32], g: usize, m: usize, parties: usize) -> usize
-    requires { (g < word_limit) × (parties < word_limit) × (g + 3 + 2 * m ≤ length s.now) }
-    ensures { result ≡ few_sum_m g m parties s.now }
-{
-    if parties < m {
-        return 0;
+    // From the newest of the noted pairs down.
+    #[tactic(auto, unfolding(crate::specs::Model::two_fill_m))]
+    fn two_fill(self, s: &mut [u32], side: usize, odd: usize)
+        requires side_bound { side < 2 }
+        requires odd_bound { odd < word_limit }
+        requires fills { TwoFills self side odd s.old }
+        ensures { s.new ≡ two_fill_m self side odd s.old }
+    {
+        for k in (0..odd).rev() {
+            self.two_note(s, side, k);
+        }
     }
-    let mut sum = 0;
-    let mut i = 0;
-    while i < m {
-        let c = word_at(s, g + 3 + 2 * i);
-        sum += c;
-        i += 1;
+
+    // The pair of the half-edge y goes to the half h. The party to which y leads is visited, and its other half-edge is next.
+    #[tactic(auto, unfolding(crate::specs::Model::two_step_m))]
+    fn two_step(self, s: &mut [u32], h: usize, at: usize, y: usize) -> usize
+        requires h_bound { h < word_limit }
+        requires at_bound { at < word_limit }
+        requires y_bound { y < word_limit }
+        requires steps { TwoSteps self h s.old at y }
+        ensures { (record { words = s.new; number = result } ≡ two_step_m self h s.old at y) × (result < word_limit) }
+    {
+        push(s, h, at, y / 2, 1);
+        let other = y + 1 - 2 * (y % 2);
+        let p = end_of(s, self.ends, 1 - y % 2, EdgeIndex((y / 2) as u32));
+        let v = p.0 as usize;
+        let sum = word_at(s, self.b + 2 * v + 1);
+        set_word(s, self.b + 2 * v, 0);
+        (sum + 4294967296 - other) % 4294967296
     }
-    sum
+
+    // The circuit that begins with the half-edge y0: its pairs go to the first half and the second in turn.
+    fn two_circuit(self, s: &mut [u32], at: usize, y0: usize) -> usize
+        requires at_bound { at + self.m < word_limit }
+        requires y0_bound { y0 < word_limit }
+        requires circuits { TwoCircuits self y0 self.m s.old at y0 }
+        ensures { record { words = s.new; number = result } ≡ two_circuit_m self y0 self.m s.old at y0 }
+    {
+        let end = at + self.m;
+        let mut y = y0;
+        for n in at..end {
+            let x = self.two_step(s, self.first, n, y);
+            y = self.two_step(s, self.second, n, x);
+            if y == y0 {
+                return n + 1;
+            }
+        }
+        end
+    }
+
+    // The circuit from the party w, unless it has no pairs or was visited.
+    #[tactic(auto, unfolding(crate::specs::Model::two_from_m))]
+    fn two_from(self, s: &mut [u32], at: usize, w: NodeIndex) -> usize
+        requires at_bound { at + self.m < word_limit }
+        requires froms { TwoFroms self self.m (record { words = s.old; number = at }) w.0 }
+        ensures { record { words = s.new; number = result } ≡ two_from_m self self.m (record { words = s.old; number = at }) w.0 }
+    {
+        let v = w.0 as usize;
+        let y = word_at(s, self.b + 2 * v);
+        if y == 0 {
+            return at;
+        }
+        self.two_circuit(s, at, y - 1)
+    }
+
+    // The circuits from all parties, in number order.
+    #[tactic(auto, unfolding(crate::specs::Model::two_walk_m))]
+    fn two_walk(self, s: &mut [u32], even: usize) -> usize
+        requires { TwoWalks self self.m self.parties (record { words = s.old; number = even }) }
+        ensures { record { words = s.new; number = result } ≡ two_walk_m self self.m self.parties (record { words = s.old; number = even }) }
+    {
+        let mut n = even;
+        for v in 0..self.parties {
+            n = self.two_from(s, n, NodeIndex(v as u32));
+        }
+        n
+    }
+
+    // Both halves of a graph of degree 2.
+    #[tactic(auto, unfolding(crate::specs::Model::split_two_m))]
+    pub fn split_two(self, s: &mut [u32])
+        requires { TwoSplits self self.m self.parties s.old }
+        ensures { s.new ≡ split_two_m self self.m self.parties s.old }
+    {
+        self.two_start(s);
+        let t = self.two_sift_all(s);
+        self.two_fill(s, 0, t.odd);
+        self.two_fill(s, 1, t.odd);
+        let n = self.two_walk(s, t.even);
+        head(s, self.first, n);
+        head(s, self.second, n);
+    }
 }

@@ -6,8 +6,8 @@ use native.Mathlib.Omega.{arith}
 use native.Mathlib.Decide.{ℕ_discrete}
 use lib.ListN.{length}
 use Rattle.words.specs.Words.{word, put_word}
-use Rattle.words.proofs.Ranges.{three_refl, three_trans, three_within}
-use Rattle.diagonal.specs.DiagonalPlaces.{begun, Begins, DiagRoom, DiagSmall, DiagFit, Begun, DiagReady}
+use Rattle.words.proofs.Ranges.{three_trans, three_within}
+use Rattle.diagonal.specs.DiagonalPlaces.{begun, Begins, DiagRoom, DiagFit, Begun, DiagReady}
 use Rattle.words.proofs.Puts.{Put, put_is}
 use Rattle.list_pairs.specs.declared.Bases.{Bases}
 
@@ -65,34 +65,9 @@ module _ (ends diag b m i l r : ℕ) (s : List ℕ) where
         elsewhere = λ k a c d e f. p5.else k f ∙ p4.else k e ∙ p3.else k d ∙ p2.else k c ∙ p1.else k a;
       }
 
--- all places are below the end of the scratch
-pub diag_small : (n : ℕ) (at : Bases) (diag b m : ℕ) (s : List ℕ) → DiagRoom n at diag b m s → DiagSmall at diag b
-diag_small n at diag b m s h =
-    let table : at.ends < 4294967296 = omega (arith, h.after_ends, h.low) in
-    let numbers : diag < 4294967296 = omega (arith, h.after_diag) in
-    record {
-      left = omega (arith, h.after_left);
-      right = omega (arith, h.after_right);
-      ends = table;
-      numbers = numbers;
-      places = omega (arith, h.low);
-    }
-
 module _ (n : ℕ) (at : Bases) (diag b m : ℕ) (s : List ℕ) (h : DiagFit n at diag b m s) where
   lies : DiagRoom n at diag b m s
   lies = h.lies
-
-  -- no place has begun
-  pub begun_none : Begun n at diag b m 0 s s
-  begun_none =
-      record {
-        left_place = λ i a. absurd (omega arith);
-        right_place = λ i a. absurd (omega arith);
-        numbers = λ i a. absurd (omega arith);
-        firsts = λ i a. absurd (omega arith);
-        seconds = λ i a. absurd (omega arith);
-        changes = λ mark. three_refl diag n (at.ends + 2 * m) (2 * n) b (n + n) mark s;
-      }
 
   -- a party of either side, which stand at `base`, stays
   party_same :

@@ -1,14 +1,12 @@
 -- The pairs are looked at over words: the place whose parties are a pair's ends learns its number. Assumes nothing.
 use Prim.Native.Nat.{ℕ, ◌+◌, ◌*◌, ◌≤◌, ◌<◌}
-use mathlib.Core.Path.{◌≡◌, refl, sym, ◌∙◌, ap}
+use mathlib.Core.Path.{◌≡◌, sym, ◌∙◌, ap}
 use mathlib.Core.List.{List}
 use mathlib.Core.Logic.{◌⊎◌, inl, inr, ⊎_elim}
 use native.Mathlib.Omega.{arith}
 use native.Mathlib.Decide.{ℕ_discrete}
 use lib.ListN.{length}
 use Rattle.words.specs.Words.{word, put_word}
-use Rattle.multigraph.specs.Regular.{SameEnds}
-use Rattle.list_pairs.specs.Ends.{Says}
 use Rattle.diagonal.specs.DiagonalPlaces.{place_of, AtPlace, OnDiagonal, Looks, LookedAt, DiagReady, Looked}
 use Rattle.list_pairs.specs.declared.Bases.{Bases}
 use Rattle.multigraph.proofs.TableLaws.{TableSame, first_same, has_ends_old, has_ends_new}
@@ -31,44 +29,7 @@ module _ (n k : ℕ) (at : Bases) (s t : List ℕ) (table : TableSame at.ends k 
 
 -- ── one pair ──
 
--- what one look does, by what it has read
-module _ (n : ℕ) (at : Bases) (diag b e : ℕ) (s : List ℕ) (x y i : ℕ) (ex : x ≡ word s (at.ends + 2 * e))
-    (ey : y ≡ word s (at.ends + 2 * e + 1))
-    (ei : i ≡ word s (b + x)) where
-  place_is : i ≡ place_of at.ends b e s
-  place_is = rw ex at ei
-
-  -- a party without a place
-  pub look_none : n ≤ i → LookedAt n at diag b e s s
-  look_none a = inr (λ q. omega (arith, place_is, q.0), refl)
-
-  module _ (inside : i < n) (l r q : ℕ) (el : l ≡ word s (at.left + i)) (er : r ≡ word s (at.right + i))
-      (says : Says q (SameEnds l r x y)) where
-    same_is : Says q (AtPlace at s e (place_of at.ends b e s))
-    same_is = rw (el, er, place_is, ex, ey) at says
-
-    -- a place with another party
-    pub look_other : q ≡ 0 → LookedAt n at diag b e s s
-    look_other z = inr (λ p. ⊎_elim (λ k. omega (arith, k.1)) (λ k. k.0 p.1) same_is, refl)
-
-    -- the place of both ends
-    pub look_hit : (t : List ℕ) → (q ≡ 0 → ⊥) → t ≡ put_word s (diag + i) e → LookedAt n at diag b e s t
-    look_hit t z w =
-        ⊎_elim
-        (λ k. inl ((omega (arith, place_is), k.0), rw place_is at w))
-        (λ k. absurd (z k.1)) same_is
-
 module _ (n : ℕ) (at : Bases) (diag b m : ℕ) (s : List ℕ) (h : DiagReady n at diag b m s) where
-  -- no pair has been looked at
-  pub looked_none : Looked n at diag m 0 s s
-  looked_none =
-      record {
-        numbers = λ i a. inr (h.numbers i a, λ e k q. omega arith);
-        len = refl;
-        under = λ i a. refl;
-        over = λ i a. refl;
-      }
-
   -- the next pair can be looked at
   pub looks : (k : ℕ) (t : List ℕ) → k < m → length t ≡ length s → Looks n at diag k t
   looks k t inside len =

@@ -30,11 +30,10 @@ pub record DiagRoom (n : ℕ) (at : Bases) (diag b m : ℕ) (s : List ℕ) : Typ
   pub room : b + (n + n) ≤ length s
   pub low : b + (n + n) < word_limit
 
--- all these places are small numbers
+-- all these places are small numbers; that the table's is, `Bases` says
 pub record DiagSmall (at : Bases) (diag b : ℕ) : Type 0 where
   pub left : at.left < word_limit
   pub right : at.right < word_limit
-  pub ends : at.ends < word_limit
   pub numbers : diag < word_limit
   pub places : b < word_limit
 

@@ -10,64 +10,74 @@ use list_pairs::Bases;
 use list_pairs::ends::same_ends;
 use words::{get, set_word, word_at};
 
-// Place `i` begins: both parties learn it, its number is `m + i` for now, and the row of that number has its ends.
-fn begin_place(s: &mut [u32], at: Bases, diag: usize, b: usize, m: usize, i: usize)
-    requires diag_small { DiagSmall at diag b × (m < word_limit) × (i < word_limit) }
-    requires begins { Begins at diag b m i s.old }
-    ensures { s.new ≡ begun at.ends diag b m i (word s.old (at.left + i)) (word s.old (at.right + i)) s.old }
-{
-    let l = word_at(s, at.left + i);
-    let r = word_at(s, at.right + i);
-    set_word(s, b + l, i);
-    set_word(s, b + r, i);
-    set_word(s, diag + i, m + i);
-    set_word(s, at.ends + 2 * (m + i), l);
-    set_word(s, at.ends + 2 * (m + i) + 1, r);
+// Where the diagonal lies: its `n` numbers at `diag`, and each party's place at `b` plus the party, for the graph at `at`, which has `m`
+// pairs. All these numbers are small.
+#[derive(Clone, Copy)]
+struct Places {
+    at: Bases,
+    diag: usize,
+    b: usize,
+    m: usize,
+    n: usize,
+    ghost small: { DiagSmall at diag b },
+    ghost m_small: { m < word_limit },
 }
 
-// All `n` places begin.
-fn begin_places(s: &mut [u32], at: Bases, diag: usize, b: usize, m: usize, n: usize)
-    requires { DiagFit n at diag b m s.old }
-    ensures { Begun n at diag b m n s.old s.new }
-{
-    let mut i = 0;
-    while i < n {
-        begin_place(s, at, diag, b, m, i);
-        i += 1;
+impl Places {
+    // Place `i` begins: both parties learn it, its number is `m + i` for now, and the row of that number has its ends.
+    fn begin_place(self, s: &mut [u32], i: usize)
+        requires i_small { i < word_limit }
+        requires begins { Begins self.at self.diag self.b self.m i s.old }
+        ensures { s.new ≡ begun self.at.ends self.diag self.b self.m i (word s.old (self.at.left + i)) (word s.old (self.at.right + i)) s.old }
+    {
+        let l = word_at(s, self.at.left + i);
+        let r = word_at(s, self.at.right + i);
+        let row = self.at.ends + 2 * (self.m + i);
+        set_word(s, self.b + l, i);
+        set_word(s, self.b + r, i);
+        set_word(s, self.diag + i, self.m + i);
+        set_word(s, row, l);
+        set_word(s, row + 1, r);
     }
-}
 
-// Pair `e` gives its number to a place whose two parties are its ends. The place is read with a test: that an end of a pair is
-// below n + n isn't asked for.
-fn look_at(s: &mut [u32], at: Bases, diag: usize, b: usize, n: usize, e: usize)
-    requires diag_small { DiagSmall at diag b × (e < word_limit) }
-    requires looks { Looks n at diag e s.old }
-    ensures { LookedAt n at diag b e s.old s.new }
-{
-    let x = word_at(s, at.ends + 2 * e);
-    let y = word_at(s, at.ends + 2 * e + 1);
-    let i = get(s, b + x);
-    if i >= n {
-        return;
+    // All `n` places begin.
+    fn begin_places(self, s: &mut [u32])
+        requires { DiagFit self.n self.at self.diag self.b self.m s.old }
+        ensures { Begun self.n self.at self.diag self.b self.m self.n s.old s.new }
+    {
+        for i in 0..self.n {
+            self.begin_place(s, i);
+        }
     }
-    let l = word_at(s, at.left + i);
-    let r = word_at(s, at.right + i);
-    let same = same_ends(l, r, x, y);
-    if same == 0 {
-        return;
-    }
-    set_word(s, diag + i, e);
-}
 
-// All pairs are looked at, of which there are `m`.
-fn look_at_pairs(s: &mut [u32], at: Bases, diag: usize, b: usize, n: usize, m: usize)
-    requires { DiagReady n at diag b m s.old }
-    ensures { Looked n at diag m m s.old s.new }
-{
-    let mut e = 0;
-    while e < m {
-        look_at(s, at, diag, b, n, e);
-        e += 1;
+    // Pair `e` gives its number to a place whose two parties are its ends. The place is read with a test: that an end of a pair is
+    // below n + n isn't asked for.
+    fn look_at(self, s: &mut [u32], e: usize)
+        requires e_small { e < word_limit }
+        requires looks { Looks self.n self.at self.diag e s.old }
+        ensures { LookedAt self.n self.at self.diag self.b e s.old s.new }
+    {
+        let x = word_at(s, self.at.ends + 2 * e);
+        let y = word_at(s, self.at.ends + 2 * e + 1);
+        let i = get(s, self.b + x);
+        if i >= self.n {
+            return;
+        }
+        let l = word_at(s, self.at.left + i);
+        let r = word_at(s, self.at.right + i);
+        if same_ends(l, r, x, y) {
+            set_word(s, self.diag + i, e);
+        }
+    }
+
+    // All pairs are looked at, of which there are `m`.
+    fn look_at_pairs(self, s: &mut [u32])
+        requires { DiagReady self.n self.at self.diag self.b self.m s.old }
+        ensures { Looked self.n self.at self.diag self.m self.m s.old s.new }
+    {
+        for e in 0..self.m {
+            self.look_at(s, e);
+        }
     }
 }
 
@@ -77,6 +87,13 @@ pub(crate) fn diagonal_at(s: &mut [u32], u: usize, n: usize, at: Bases, diag: us
     ensures { DiagonalSet n at.left at.right at.ends at.g diag u s.old u s.new }
 {
     let m = get(s, at.g + 1);
-    begin_places(s, at, diag, u, m, n);
-    look_at_pairs(s, at, diag, u, n, m);
+    let places = Places {
+        at,
+        diag,
+        b: u,
+        m,
+        n,
+    };
+    places.begin_places(s);
+    places.look_at_pairs(s);
 }

@@ -20,7 +20,7 @@ pub fn diagonal(s: &mut [u32], m: &mut Mark, n: usize, at: Bases, diag: usize)
     ensures { DiagonalSet n at.left at.right at.ends at.g diag m.old.taken s.old m.new.taken s.new × (m.new ≡ m.old) }
 {
     let k = n + n;
-    let u = mark::take(m, k);
+    let u = m.take(k);
     diagonal_at(s, u, n, at, diag);
-    mark::give_back(m, u);
+    m.give_back(u);
 }

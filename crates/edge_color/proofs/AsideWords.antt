@@ -18,7 +18,7 @@ use Rattle.multigraph.proofs.Kept.{ends_kept, GraphKept, graph_spares}
 use Rattle.multigraph.proofs.Sizes.{entries_few, entries_copies}
 use Rattle.multigraph.proofs.SideBySide.{matching_kept}
 use Rattle.perfect_matching.specs.Perfect.{Full, MatchingOf}
-use Rattle.matching.specs.Searched.{lefts, rights, Tabled, CanFind, MatchingFound}
+use Rattle.matching.specs.Searched.{lefts, rights, Tabled, MatchingFound}
 use Rattle.matching.specs.declared.Table.{Table}
 use Rattle.perfect_matching.proofs.MatchingLaws.{perfect_single, matching_law}
 use Rattle.matching.proofs.Tables.{tabled_kept}
@@ -56,36 +56,6 @@ module _ (t : Table) (s : List ℕ) (used g n d out : ℕ) (f : ColorFits t s us
   last =
       let e : d ≡ d - 1 + 1 = omega arith in
       ap (λ (k : ℕ). n * k) e ∙ omega arith
-
-  pub aside_finds : CanFind t g n d (out + n * (d - 1)) used s
-  aside_finds =
-      let c = f.graph in
-      record {
-        search =
-            record {
-              side = f.side;
-              regular = c.regular;
-              positive = c.positive;
-              partition = f.partition;
-              several = more;
-              some = c.some;
-              few = c.few;
-              most = omega (arith, f.sized, wider);
-              numbers = c.numbers;
-              tabled = f.tabled;
-              after_places = omega (arith, f.after_places, c.after_out);
-              below = omega (arith, c.below);
-              room = omega (arith, f.room, wider);
-              short = c.short;
-            };
-        after_places = omega (arith, f.after_places);
-        below = omega (arith, c.after_out, c.below, last);
-      }
-    where
-      wider : n * (d + 2) ≤ n * (d + 1) + n * (d + 1)
-      wider =
-          let one : 1 ≤ d + 1 = omega arith in
-          omega (arith, mul-le-mul_left n one, mul-one n)
 
   module _ (u : List ℕ) (mark : ℕ) (fd : MatchingFound t g n d (out + n * (d - 1)) used mark s u) where
     kept : GraphKept t.ends t.pairs s u g

@@ -72,9 +72,6 @@ second_below m k size h o x n mark back a b c d e f = omega arith
 
 -- ── sums that fit, and the degree that falls ──
 
-pub above_one : (d : ℕ) → (d ≡ 0 → ⊥) → (d ≡ 1 → ⊥) → 1 < d
-above_one d a b = omega arith
-
 pub record Sums (first n d r out places : ℕ) : Type 0 where
   pub second : first + 2 * (n * (d + 1)) < 4294967296
   pub into : out + n * (d / 2) < 4294967296

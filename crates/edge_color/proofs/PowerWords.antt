@@ -3,7 +3,7 @@ use Prim.Native.Nat.{ℕ, zero, suc, ◌+◌, ◌*◌, ◌-◌, ◌/◌, ◌^◌
 use mathlib.Core.Path.{◌≡◌, refl, ◌∙◌, ap}
 use mathlib.Core.List.{List, ◌++◌}
 use native.Mathlib.Omega.{arith}
-use native.Mathlib.Nat.{mul-le-mul_left, mul-le-mul_right, mul-one, one-mul}
+use native.Mathlib.Nat.{mul-le-mul_left, mul-one}
 use native.Mathlib.Decide.{dec_lt}
 use lib.ListN.{length}
 use lib.Pow.{pow_pos}
@@ -170,34 +170,7 @@ module _ (s : List ℕ) (used ends g n d out : ℕ) (f : PowerFits s used ends g
         pub power_joined : PowerColored s v used used ends g n d out
         power_joined = record { colors = colors_so; bounds = bounds_so; back = refl; stays = stays_so }
 
--- ── sums that fit, and the degree that falls ──
-
-pub record Small (used g n d out : ℕ) : Type 0 where
-  pub degree : d + 1 ≤ 2097152
-  pub half : n * (d / 2) ≤ n * (d + 1)
-  pub wide : n * (d + 1) ≤ 2097152
-  pub mark : used + 20 * (n * (d + 1)) ≤ 4294967296
-  pub output : out ≤ used
-  pub parties : n ≤ 1024
-  pub graph : g ≤ used
-  pub some : 1 ≤ n * (d + 1)
-
-pub power_small : (s : List ℕ) (used ends g n d out : ℕ) → PowerFits s used ends g n d out → Small used g n d out
-power_small s used ends g n d out f =
-    let c = f.graph in
-    let some : 1 ≤ n = c.some in
-    let half : d / 2 ≤ d + 1 = omega arith in
-    let one : 1 ≤ d + 1 = omega arith in
-    record {
-      degree = omega (arith, mul-le-mul_right (d + 1) some, one-mul (d + 1), c.sized);
-      half = mul-le-mul_left n half;
-      wide = c.sized;
-      mark = omega (arith, f.room, c.short);
-      output = omega (arith, c.after_out, c.below);
-      parties = omega (arith, c.few);
-      graph = omega (arith, c.below);
-      some = omega (arith, mul-le-mul_left n one, mul-one n);
-    }
+-- ── the degree that falls ──
 
 pub power_falls :
     (s : List ℕ) (used ends g n d out t : ℕ) → PowerFits s used ends g n d out → d ≡ t → d / 2 < t

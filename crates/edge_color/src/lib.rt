@@ -8,7 +8,7 @@
 
 ghost use Rattle.std.specs.Prelude.{◌≡◌, ◌+◌, ◌*◌, ◌-◌, ◌^◌, ◌<◌, ◌≤◌};
 ghost use Rattle.words.specs.Words.{word_limit};
-ghost use Rattle.multigraph.specs.Places.{AddsMatching, RemovesMatching};
+ghost use Rattle.multigraph.specs.Places.{AddsMatching};
 ghost use Rattle.words.specs.PowersOfTwo.{log_up};
 ghost use Rattle.edge_color.specs.Room.{PowerFits, PowerColored, ColorFits, AsideStored, Colored};
 
@@ -32,24 +32,14 @@ pub fn rbmg_edge_color_when_power_of_two(
         matching::read_matching(s, g, n, out);
         return;
     }
-    // takes nothing: gives where the mark stands
-    let u = mark::take(m, 0);
+    let u = m.taken;
     let h = d / 2;
     let second = u + 2 * (n * (d + 1));
     let behind = out + n * h;
     splitting::rbmg_split_into_two(s, m, ends, g, n, d);
     rbmg_edge_color_when_power_of_two(s, m, ends, u, n, h, out);
     rbmg_edge_color_when_power_of_two(s, m, ends, second, n, h, behind);
-    mark::give_back(m, u);
-}
-
-// Writes at `to` the graph at `g` without the matching of `n` numbers at `at`. Nothing but `multigraph::remove_matching` with its
-// conditions in one `requires`, as `set_aside` shows them (docs/MARK-PROOFS.md).
-fn take_out(s: &mut [u32], places: usize, g: usize, to: usize, at: usize, n: usize)
-    requires { (places < word_limit) × (g < word_limit) × (to < word_limit) × (at < word_limit) × (n < word_limit) }
-    ensures { RemovesMatching places g to at n s.old s.new }
-{
-    multigraph::remove_matching(s, places, g, to, at, n);
+    m.give_back(u);
 }
 
 // Odd degree: one matching is set aside, behind the place of the others, and removed from the graph. Gives the graph without
@@ -71,8 +61,8 @@ fn set_aside(
     }
     let at = out + n * (d - 1);
     matching::rbmg_find_perfect_matching(s, m, t, g, n, d, at);
-    let u = mark::take(m, 2 * (n * (d + 1)));
-    take_out(s, t.places, g, u, at, n);
+    let u = m.take(2 * (n * (d + 1)));
+    multigraph::remove_matching(s, t.places, g, u, at, n);
     u
 }
 
@@ -116,15 +106,15 @@ pub fn rbmg_edge_color(
         matching::read_matching(s, g, n, out);
         return;
     }
-    let u = mark::take(m, 0);
+    let u = m.taken;
     let h = d / 2;
     let from = out + n * h;
     let rest = set_aside(s, m, t, g, n, d, out);
-    let first = mark::take(m, 0);
+    let first = m.taken;
     let second = first + 2 * (n * (d + 1));
     splitting::rbmg_split_into_two(s, m, t.ends, rest, n, d);
     rbmg_edge_color(s, m, t, first, n, h, from);
     let r = move_earliest(s, t.places, second, from, n, h);
     rbmg_edge_color_when_power_of_two(s, m, t.ends, second, n, r, out);
-    mark::give_back(m, u);
+    m.give_back(u);
 }

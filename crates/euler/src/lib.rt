@@ -15,7 +15,7 @@ use words::set_word;
 pub fn many(copies: usize) -> usize
     ensures { (result ≡ many_m copies) × (result ≤ 1) }
 {
-    if copies < 2 { 0 } else { 1 }
+    usize::from(copies >= 2)
 }
 
 // An entry of a half, at its place `at`.

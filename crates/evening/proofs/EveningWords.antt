@@ -18,7 +18,7 @@ use Rattle.list_pairs.specs.Contract.{first_of, second_of}
 use Rattle.evening.specs.Contract.{EvenedOut}
 use Rattle.list_pairs.specs.Adding.{plain_graph, HasPlace}
 use Rattle.list_pairs.specs.Rows.{rows_from, RowsFit, RowsFilled}
-use Rattle.evening.specs.Filling.{StepTaken, all_passed, left_full, none_right, right_full, both_short, EvensAt, FillSmall}
+use Rattle.evening.specs.Filling.{StepTaken, all_passed, left_full, none_right, right_full, both_short, EvensAt}
 use Rattle.words.proofs.Regions.{region_length}
 use Rattle.regular_graph.proofs.RegularLaws.{Evened, even_out_law}
 use Rattle.multigraph.proofs.TableLaws.{has_ends_new}
@@ -67,21 +67,6 @@ module _ (list : List ℕ) (d n : ℕ) (at : Bases) (u : ℕ) (first : List ℕ)
         inside = h.room;
         small = h.low;
         short = h.short;
-      }
-
-  -- all places are below the mark
-  pub fill_small : FillSmall at (rows_from (n + n) d u)
-  fill_small =
-      let table : at.ends < 4294967296 = omega (arith, h.after_ends, h.after_apair, h.after_graph, h.low) in
-      record {
-        left = omega (arith, h.after_left);
-        right = omega (arith, h.after_right);
-        ends = table;
-        apair = omega (arith, h.after_apair, h.after_graph, h.low);
-        graph = omega (arith, h.after_graph, h.low);
-        counts = omega (arith, h.low);
-        rows = omega (arith, h.low);
-        degree = h.few;
       }
 
   -- the graph and the sides at the start

@@ -9,13 +9,11 @@ use Rattle.list_pairs.specs.Rows.{row, counter}
 use Rattle.list_pairs.specs.declared.Bases.{Bases}
 use Rattle.list_pairs.specs.declared.rows.RowBases.{RowBases}
 
--- every place is a small number
+-- every place is a small number; that those of the table of ends and of the graph are, `Bases` says
 pub record FillSmall (at : Bases) (rs : RowBases) : Type 0 where
   pub left : at.left < word_limit
   pub right : at.right < word_limit
-  pub ends : at.ends < word_limit
   pub apair : at.apair < word_limit
-  pub graph : at.g < word_limit
   pub counts : rs.counts < word_limit
   pub rows : rs.rows < word_limit
   pub degree : rs.d < 2147483648

@@ -9,7 +9,7 @@ ghost use Rattle.std.specs.Prelude.{◌≡◌, ◌+◌, ◌*◌, ◌≤◌};
 ghost use Rattle.evening.specs.Contract.{CanPad, SidesPadded, CanEven, EvenedOut};
 
 use crate::filling::even_at;
-use crate::sides::{larger, pad_side};
+use crate::sides::pad_side;
 use list_pairs::Bases;
 use mark::Mark;
 
@@ -22,7 +22,7 @@ pub fn pad_sides(s: &mut [u32], p: usize, left: usize, l: usize, right: usize, r
     requires { CanPad p left l right r s.old }
     ensures { SidesPadded p left l right r result s.old s.new }
 {
-    let n = larger(l, r);
+    let n = l.max(r);
     pad_side(s, left, l, n, p);
     pad_side(s, right, r, n, p);
     n
@@ -35,7 +35,7 @@ pub fn even_out(s: &mut [u32], m: &mut Mark, list: &[u16], d: usize, n: usize, a
     ensures { EvenedOut list.now d n at.left at.right at.ends at.apair at.g m.old.taken s.old m.new.taken s.new × (m.new ≡ m.old) }
 {
     let k = n + n + d * (n + n);
-    let u = mark::take(m, k);
+    let u = m.take(k);
     even_at(s, u, list, d, n, at);
-    mark::give_back(m, u);
+    m.give_back(u);
 }

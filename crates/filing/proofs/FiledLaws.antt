@@ -13,8 +13,9 @@ use Rattle.appointments.specs.Appointments.{appts}
 use Rattle.appointments.specs.Checks.{Check}
 use Rattle.appointments.proofs.ChecksLaws.{even_test, test_even, bar_passed}
 use Rattle.appointments.specs.Answers.{accepted, refused}
-use Rattle.filing.specs.Filed.{numbers_of, rows, rows_list, rows_slots, filed_length, filed_bytes, writing_checks, writing_answer, writing_output, Header, header, filed_rows, reading_checks, reading_answer, reading_list, reading_slots}
+use Rattle.filing.specs.Filed.{numbers_of, rows, rows_list, rows_slots, filed_length, filed_bytes, writing_checks, writing_answer, writing_output, header, filed_rows, reading_checks, reading_answer, reading_list, reading_slots}
 use Rattle.appointments.proofs.AnswerLaws.{accepted_passed, after_accepted, after_refused}
+use Rattle.filing.specs.declared.Header.{Header}
 use Rattle.filing.proofs.Bytes.{bytes_length, words_length, rows_length, rows_list_length, rows_slots_length}
 
 -- ── what writing accepts ──

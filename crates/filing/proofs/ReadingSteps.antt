@@ -2,6 +2,7 @@
 -- case. Assumes nothing.
 use Prim.Native.Nat.{ℕ, ◌+◌, ◌*◌, ◌≤◌, ◌<◌}
 use mathlib.Core.Path.{◌≡◌, refl, sym, ◌∙◌, ap}
+use mathlib.Core.Logic.{◌⊎◌, inl, inr}
 use mathlib.Core.Bool.{Bool, true, false, ◌||◌}
 use mathlib.Core.List.{List, ◌++◌}
 use native.Mathlib.Omega.{arith}
@@ -11,11 +12,9 @@ use lib.ListN.{length, get_or, drop, set, length-drop}
 use lib.Seq.{get_or-drop}
 use Rattle.words.specs.Words.{filled}
 use Rattle.words.proofs.Filling.{filled_more, filled_all, RowAt}
-use Rattle.appointments.specs.Answers.{refused}
-use Rattle.filing.specs.Filed.{numbers_of, rows_list, rows_slots, header, filed_rows, reading_answer, reading_list, reading_slots}
+use Rattle.appointments.specs.Answers.{accepted, refused}
+use Rattle.filing.specs.Filed.{numbers_of, rows_list, rows_slots, header_of, header, filed_rows, reading_answer, reading_list, reading_slots}
 use Rattle.filing.specs.Buffers.{take_row, take_slot}
-use Rattle.filing.specs.Told.{read_of}
-use Rattle.filing.specs.declared.Read.TheVariants as read
 use Rattle.filing.proofs.Bytes.{words_length, rows_list_length, rows_slots_length}
 use Rattle.filing.proofs.FiledLaws.{Readable, readable_accepted, reading_refused_list, reading_refused_slots, reading_list_read, reading_slots_read}
 use Rattle.filing.proofs.ByIndex.{read_at}
@@ -70,9 +69,9 @@ or_true false = refl
 
 module _ (bytes list slots : List ℕ) where
   -- refused with a number, place 0, list and slots as they were
-  abbrev Barred : ℕ → Type 0
+  abbrev pub Barred : ℕ → Type 0
   Barred number =
-      (read.Refused number 0 ≡ read_of (reading_answer bytes list slots))
+      (refused number 0 ≡ reading_answer bytes list slots)
       × ((list ≡ reading_list bytes list slots) × (slots ≡ reading_slots bytes list slots))
 
   barred : (number : ℕ) → reading_answer bytes list slots ≡ refused number 0 → Barred number
@@ -120,16 +119,14 @@ module _ (bytes list slots : List ℕ) where
                 short,
               ))
 
-          pub list_13 : length list < 2 * count → Barred 13
-          list_13 s = barred_13 (rw (lt-ltb (length list) (2 * count) s))
-
-          pub slots_13 : length slots < count → Barred 13
-          slots_13 s = barred_13 (rw (lt-ltb (length slots) count s, or_true (ltb (length list) (2 * count))))
+          pub short_13 : (length list < 2 * count) ⊎ (length slots < count) → Barred 13
+          short_13 (inl s) = barred_13 (rw (lt-ltb (length list) (2 * count) s))
+          short_13 (inr s) = barred_13 (rw (lt-ltb (length slots) count s, or_true (ltb (length list) (2 * count))))
 
           -- read: P and A, and the list and the slots filled with the plan's
           pub was_read :
               2 * count ≤ length list → count ≤ length slots →
-              (read.Plan p count ≡ read_of (reading_answer bytes list slots))
+              (accepted (header_of p count) ≡ reading_answer bytes list slots)
               × ((filled (rows_list (filed_rows bytes)) (2 * count) list ≡ reading_list bytes list slots)
               × (filled (rows_slots (filed_rows bytes)) count slots ≡ reading_slots bytes list slots))
           unfolding header

@@ -9,7 +9,8 @@ use Rattle.words.specs.Basics.{All}
 use Rattle.appointments.specs.Appointments.{appts}
 use Rattle.appointments.proofs.Loads.{appts_length}
 use Rattle.appointments.specs.Answers.{accepted}
-use Rattle.filing.specs.Filed.{bytes_of, numbers_of, rows, rows_list, rows_slots, filed_length, filed_bytes, writing_answer, writing_output, Header, header_of, header, filed_rows, reading_answer, reading_list, reading_slots, ReadsBack, WritesBack}
+use Rattle.filing.specs.Filed.{bytes_of, numbers_of, rows, rows_list, rows_slots, filed_length, filed_bytes, writing_answer, writing_output, header_of, header, filed_rows, reading_answer, reading_list, reading_slots, ReadsBack, WritesBack}
+use Rattle.filing.specs.declared.Header.{Header}
 use Rattle.filing.proofs.Bytes.{Word, Byte, words_length, words_of_bytes, bytes_of_words, list_of_rows, slots_of_rows, rows_are, rows_back}
 use Rattle.filing.proofs.FiledLaws.{filed_rows_length, Writable, writable_accepted, accepted_writable, filed_bytes_length, writing_wrote, Readable, readable_accepted, accepted_readable, list_read, slots_read, reading_list_read, reading_slots_read}
 

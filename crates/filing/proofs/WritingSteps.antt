@@ -11,10 +11,9 @@ use Rattle.words.proofs.Filling.{filled_more, filled_again, filled_all, RowAt}
 use Rattle.appointments.specs.Appointments.{appts}
 use Rattle.appointments.proofs.ChecksLaws.{test_even}
 use Rattle.appointments.proofs.Flat.{appts_count}
-use Rattle.appointments.specs.Answers.{refused, answered_of}
+use Rattle.appointments.specs.Answers.{accepted, refused}
 use Rattle.filing.specs.Filed.{bytes_of, rows, filed_bytes, writing_answer, writing_output}
 use Rattle.filing.specs.Buffers.{put_number, put_row}
-use Rattle.appointments.specs.declared.Answered.TheVariants as answered
 use Rattle.filing.proofs.Bytes.{bytes_length, rows_length}
 use Rattle.filing.proofs.FiledLaws.{Writable, writable_accepted, writing_refused, writing_wrote}
 use Rattle.filing.proofs.ByIndex.{byte_low, byte_high, rows_at}
@@ -81,7 +80,7 @@ module _ (P : ℕ) (list slots : List ℕ) where
 module _ (P : ℕ) (list slots output : List ℕ) where
   -- refused with a number, place 0, the output as it was
   abbrev Barred : ℕ → Type 0
-  Barred number = (answered.Refused number 0 ≡ answered_of (writing_answer P list slots output)) × (output ≡ writing_output P list slots output)
+  Barred number = (refused number 0 ≡ writing_answer P list slots output) × (output ≡ writing_output P list slots output)
 
   barred : (number : ℕ) → writing_answer P list slots output ≡ refused number 0 → Barred number
   barred number e = (rw e, sym (writing_refused P list slots output number 0 e))
@@ -122,7 +121,7 @@ module _ (P : ℕ) (list slots output : List ℕ) where
       -- written: its length, and the output filled with the plan
       pub written :
           6 * (length list / 2) + 4 ≤ length output →
-          (answered.Accepted (6 * (length list / 2) + 4) ≡ answered_of (writing_answer P list slots output))
+          (accepted (6 * (length list / 2) + 4) ≡ writing_answer P list slots output)
           × (filled (filed_bytes P list slots) (6 * (length list / 2) + 4) output ≡ writing_output P list slots output)
       written o =
           let half : length (appts list) ≡ length list / 2 = appts_count list in

@@ -2,7 +2,8 @@
 -- definition is refused here. Assumes nothing.
 use Rattle.std.specs.Prelude.{ℕ, ◌≡◌, refl, List, [], ◌∷◌, replicate}
 use Rattle.appointments.specs.Answers.{Answer, accepted, refused}
-use Rattle.filing.specs.Filed.{Header, filed_bytes, writing_answer, writing_output, reading_answer, reading_list, reading_slots}
+use Rattle.filing.specs.Filed.{filed_bytes, writing_answer, writing_output, reading_answer, reading_list, reading_slots}
+use Rattle.filing.specs.declared.Header.{Header}
 use Rattle.filing.specs.Computing.{computing}
 
 -- P 1,000 (232 and 3 as bytes) and the appointment 0-999 in slot 258, filed

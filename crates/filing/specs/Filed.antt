@@ -3,6 +3,7 @@ use Rattle.std.specs.Prelude.{ℕ, ◌+◌, ◌*◌, ◌%◌, ◌/◌, ◌≡◌
 use Rattle.appointments.specs.Appointments.{Appt, appts}
 use Rattle.appointments.specs.Checks.{Check, passed, bar, check_parties, check_even, check_count, check_slots}
 use Rattle.appointments.specs.Answers.{Answer, accepted, answer, figure, over, after}
+use Rattle.filing.specs.declared.Header.{Header}
 
 -- 16-bit numbers as bytes, low byte first
 unfoldable pub bytes_of : List ℕ → List ℕ
@@ -66,10 +67,6 @@ unfolding writing_answer filed_bytes
 writing_output P list slots output = after (writing_answer P list slots output) (filed_bytes P list slots) output
 
 -- P and A as the bytes of a filed plan say them
-pub record Header : Type 0 where
-  pub parties : ℕ
-  pub appointments : ℕ
-
 abbrev pub header_of : ℕ → ℕ → Header
 header_of P A = record { parties = P; appointments = A }
 

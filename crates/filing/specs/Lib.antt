@@ -1,5 +1,4 @@
 pub mod Filed
-pub mod Told
 pub mod Buffers
 pub mod Computing
 pub mod Examples

@@ -15,7 +15,7 @@ use Rattle.multigraph.specs.Stored.{graph_at, matchings_at}
 use Rattle.multigraph.specs.Places.{size}
 use Rattle.multigraph.proofs.Kept.{EndsKept, alike_back}
 use Rattle.coloring.specs.EdgeColor.{rbmg_edge_color}
-use Rattle.edge_color.specs.Room.{ColorFits, Colored}
+use Rattle.edge_color.specs.Room.{Colored}
 use Rattle.regular_graph.specs.Evening.{add_appointments, padded, even_out}
 use Rattle.highest_slot.specs.Slots.{give_slots}
 use Rattle.slots.specs.Stored.{SlotsFit, GivesSlots}
@@ -49,36 +49,34 @@ module _
   abbrev m : ℕ
   m = size s (graph_base q)
 
-  -- the graph can be coloured, its number of pairs having been read
-  pub can_color :
-      (pairs : ℕ) → pairs ≡ word s (graph_base q + 1) →
-      ColorFits (table P q pairs) s (first_mark q) (graph_base q) n D (out_at q)
-  can_color pairs e = rw e h.fits
-
   matchings_le : n * D ≤ q
   matchings_le = omega (arith, h.fits.graph.after_out)
 
   q_small : q ≤ 9216
   q_small = omega (arith, z.unit, z.product, z.parties)
 
-  -- what giving slots asks of the numbers, over words of the same length: a appointments, and d matchings
-  pub small :
-      (a d : ℕ) → a ≤ length list → n * d ≤ n * (D + 1) → (t : List ℕ) → length t ≡ length s →
-      (d < 4294967296)
-      × ((n * d < 4294967296)
-      × ((out_at q + n * d ≤ length t)
-      × ((out_at q < 4294967296) × ((apair_at q + a < 4294967296) × (graph_base q < 4294967296)))))
-  small a d few below t e =
-      let some : d ≤ n * d = omega (arith, le_product d n h.fits.graph.some) in (
-        omega (arith, some, h.fits.graph.sized),
-        (
-          omega (arith, h.fits.graph.sized),
-          (
-            omega (arith, h.fits.room, z.whole),
-            (omega (arith, q_small), (omega (arith, q_small, z.named, z.product), omega (arith, q_small))),
-          ),
-        ),
-      )
+  -- the chains' numbers are small, where there are d matchings
+  pub record Few (d : ℕ) : Type 0 where
+    pub matchings : d < 4294967296
+    pub numbers : n * d < 4294967296
+    pub out : out_at q < 4294967296
+    pub links : graph_base q < 4294967296
+
+  pub few : (d : ℕ) → n * d ≤ n * (D + 1) → Few d
+  few d below =
+      record {
+        matchings = omega (arith, le_product d n h.fits.graph.some, h.fits.graph.sized);
+        numbers = omega (arith, h.fits.graph.sized);
+        out = omega (arith, q_small);
+        links = omega (arith, q_small);
+      }
+
+  -- what giving slots asks, over words of the same length
+  pub inside : (d : ℕ) → n * d ≤ n * (D + 1) → (t : List ℕ) → length t ≡ length s → out_at q + n * d ≤ length t
+  inside d below t e = omega (arith, h.fits.room, z.whole)
+
+  pub appointed : (a : ℕ) → a ≤ length list → apair_at q + a < 4294967296
+  appointed a fewer = omega (arith, q_small, z.named, z.product)
 
   module _ {u : ℕ} {t : List ℕ} (x : Colored (table P q m) s t (first_mark q) u (graph_base q) n D (out_at q)) where
     abbrev ms : List Graph

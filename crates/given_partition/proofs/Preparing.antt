@@ -54,6 +54,10 @@ module _ {P D q l : ℕ} {list s₀ : List ℕ} (h : Sided P D q l list s₀) wh
   pub d_small : D ≤ 8192
   d_small = omega (arith, z.product, le_product D P h.some)
 
+  -- the graph stands at a small number
+  pub graph_low : graph_base q < 4294967296
+  graph_low = omega (arith, z.unit, z.product, z.parties)
+
   -- the sides of the padded graph
   abbrev side' : ℕ → ℕ
   side' = padded_side P (region s₀ 0 l) (region s₀ P (P - l)) h.side

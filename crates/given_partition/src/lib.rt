@@ -14,6 +14,7 @@ ghost use Rattle.given_partition.specs.Steps.{left_side, right_side, Sided, Prep
 use list_pairs::Bases;
 use mark::Mark;
 use matching::Table;
+use slot_chains::Chains;
 
 // Where things lie, in units of q words (specs/Steps.antt): the ends of the pairs, the map of places, each appointment's pair, the
 // matchings, the graph, and above all this the first mark.
@@ -92,5 +93,7 @@ pub fn bipartite_edge_color_given_partition(
         pairs,
     };
     color(s, FIRST_MARK * q, t, g, n, d, out);
-    slots::give_slots(s, slots, list.len() / 2, n, d, out, APAIR * q, g);
+    let links = g;
+    let chains = Chains { n, d, out, links };
+    slots::give_slots(s, slots, chains, list.len() / 2, APAIR * q);
 }

@@ -8,7 +8,7 @@ use native.Mathlib.Decide.{ℕ_discrete, dec_lt}
 use borrow.Author.Tests.{lt-ltb, le-ltb}
 use lib.ListN.{length, take, length-take}
 use Rattle.words.specs.Words.{word, put_word}
-use Rattle.words.proofs.Ranges.{three_refl, three_trans, three_within, three_outer}
+use Rattle.words.proofs.Ranges.{three_trans, three_within, three_outer}
 use Rattle.appointments.specs.Appointments.{appts}
 use Rattle.appointments.proofs.Flat.{appts_count}
 use Rattle.multigraph.specs.Multigraph.{add_edge}
@@ -25,19 +25,6 @@ use Rattle.list_pairs.specs.declared.Bases.{Bases}
 use Rattle.words.proofs.Puts.{Put, put_is}
 
 -- ── one appointment more ──
-
-module _ (g apair i : ℕ) (s : List ℕ) (j r : ℕ) (is_j : j ≡ word s (apair + i)) where
-  -- what `pair_of` gives, by what it has read: the number of an earlier appointment's pair
-  pub pair_of_old : j < i → r ≡ word s (apair + j) → r ≡ pair_of g apair i s
-  pair_of_old a e =
-      let b : word s (apair + i) < i = omega arith in
-      rw (lt-ltb (word s (apair + i)) i b) (e ∙ ap (λ n. word s (apair + n)) is_j)
-
-  -- or the next number
-  pub pair_of_new : i ≤ j → r ≡ size s g → r ≡ pair_of g apair i s
-  pair_of_new a e =
-      let b : i ≤ word s (apair + i) = omega arith in
-      rw (le-ltb (word s (apair + i)) i b) e
 
 module _ (list : List ℕ) (at : Bases) (k : ℕ) (s : List ℕ) (h : Building list at k s) (inside : k < length list / 2) where
   abbrev x : ℕ
@@ -191,15 +178,6 @@ module _ (list : List ℕ) (at : Bases) (k : ℕ) (s : List ℕ) (h : Building l
     built = record { building = building'; changes = changed }
 
 -- ── all appointments ──
-
--- no appointment has its pair yet
-pub built_none : (list : List ℕ) (at : Bases) (s : List ℕ) → Building list at 0 s → Built list at 0 s s
-built_none list at s h =
-    record {
-      building = h;
-      changes = λ mark. three_refl at.ends (2 * (length list / 2)) at.apair (length list / 2) at.g
-          (2 + 2 * (length list / 2)) mark s;
-    }
 
 -- one appointment after the others
 pub built_more :

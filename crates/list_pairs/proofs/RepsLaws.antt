@@ -5,20 +5,19 @@ use mathlib.Core.Path.{◌≡◌, refl, sym, ◌∙◌, ap}
 use mathlib.Core.List.{List}
 use mathlib.Core.Logic.{inl, inr, ⊎_elim}
 use native.Mathlib.Omega.{arith}
-use native.Mathlib.Nat.{mul-le-mul_left}
 use native.Mathlib.Decide.{ℕ_discrete, dec_lt}
 use lib.ListN.{length}
 use Rattle.words.specs.Words.{word, put_word}
 use Rattle.words.specs.Frames.{Changes}
 use Rattle.words.proofs.Frames.{here, away, length_put}
-use Rattle.words.proofs.Ranges.{changes_refl, changes_trans, changes_put, changes_put_low}
+use Rattle.words.proofs.Ranges.{changes_trans, changes_put, changes_put_low}
 use Rattle.words.proofs.Below.{row_inside}
 use Rattle.multigraph.specs.Regular.{SameEnds}
 use Rattle.multigraph.proofs.Ends.{same_ends_sym, same_ends_trans}
 use Rattle.list_pairs.specs.Contract.{first_of, second_of}
 use Rattle.list_pairs.specs.declared.rows.RowBases.{RowBases}
 use Rattle.list_pairs.specs.Rows.{row, counter}
-use Rattle.list_pairs.specs.Ends.{Says, Earlier}
+use Rattle.list_pairs.specs.Ends.{Earlier}
 use Rattle.list_pairs.specs.Representatives.{mate, Same, Rep, candidate, Finds, RepFound, RepsFit, RowDone, RepsDone}
 
 -- ── the two ends ──
@@ -57,20 +56,6 @@ half_of list k v w e =
     (2 * k + 1, record { of = omega arith; own = i.1; other = ap (λ n. word list n) m ∙ i.0 }))
     e
 
--- ── what `find_rep` does, by what it has read ──
-
-module _ (list : List ℕ) (map apair h : ℕ) (s t : List ℕ) (v w j r : ℕ) (ev : v ≡ word list h) (ew : w ≡ word list (mate h))
-    (ej : j ≡ word s (map + w)) (says : Says r (Earlier list j (h / 2) v w)) where
-  -- the candidate is an earlier appointment with these ends
-  pub rep_old : r ≡ 1 → t ≡ put_word s (apair + h / 2) j → RepFound list map apair h s t
-  rep_old one e =
-      ⊎_elim (λ x. inl (rw (ej, ev, ew) at x.0, rw (ej, ew) at e)) (λ x. absurd (omega (arith, x.1))) says
-
-  -- it is not
-  pub rep_new : (r ≡ 1 → ⊥) → t ≡ put_word (put_word s (apair + h / 2) (h / 2)) (map + w) (h / 2) → RepFound list map apair h s t
-  rep_new other e =
-      ⊎_elim (λ x. absurd (other x.1)) (λ x. inr (rw (ej, ev, ew) at x.0, rw ew at e)) says
-
 -- ── what is written ──
 
 -- the words after it: representative j for appointment i, candidate c for party w
@@ -79,6 +64,18 @@ pub record RepWritten (map apair w i j c : ℕ) (s t : List ℕ) : Type 0 where
   pub its_map : word t (map + w) ≡ c
   pub elsewhere : (n : ℕ) → (n ≡ apair + i → ⊥) → (n ≡ map + w → ⊥) → word t n ≡ word s n
 
+-- what is known of a half-edge that has been passed
+pub record Passed (list : List ℕ) (map apair h : ℕ) (s : List ℕ) : Type 0 where
+  pub rep : Rep list (h / 2) (word s (apair + h / 2))
+  pub le : candidate list map h s ≤ h / 2
+  pub same : Same list (candidate list map h s) (h / 2)
+
+-- The first k half-edges of the row of v have been passed, and representatives found before are kept.
+pub record Going (list : List ℕ) (rs : RowBases) (map apair v k : ℕ) (s₀ s : List ℕ) : Type 0 where
+  pub passed : (t : ℕ) → t < k → Passed list map apair (row s₀ rs v t) s
+  pub kept : (i : ℕ) → i < length list / 2 → Rep list i (word s₀ (apair + i)) → Rep list i (word s (apair + i))
+  pub changes : Changes apair (length list / 2) map rs.parties s₀ s
+
 module _ (list : List ℕ) (rs : RowBases) (map apair : ℕ) (s₀ : List ℕ) (fit : RepsFit list rs map apair s₀) (v : ℕ)
     (party : v < rs.parties) where
   abbrev h_at : ℕ → ℕ
@@ -86,27 +83,6 @@ module _ (list : List ℕ) (rs : RowBases) (map apair : ℕ) (s₀ : List ℕ) (
 
   abbrev len : ℕ
   len = counter s₀ rs v
-
-  -- what is known of a half-edge that has been passed
-  pub record Passed (h : ℕ) (s : List ℕ) : Type 0 where
-    pub rep : Rep list (h / 2) (word s (apair + h / 2))
-    pub le : candidate list map h s ≤ h / 2
-    pub same : Same list (candidate list map h s) (h / 2)
-
-  -- The first k half-edges of the row have been passed, and representatives found before are kept.
-  pub record Going (k : ℕ) (s : List ℕ) : Type 0 where
-    pub passed : (t : ℕ) → t < k → Passed (h_at t) s
-    pub kept : (i : ℕ) → i < length list / 2 → Rep list i (word s₀ (apair + i)) → Rep list i (word s (apair + i))
-    pub changes : Changes apair (length list / 2) map rs.parties s₀ s
-
-  -- none has been passed
-  pub going_none : Going 0 s₀
-  going_none =
-      record {
-        passed = λ t a. absurd (omega arith);
-        kept = λ i a h. h;
-        changes = changes_refl apair (length list / 2) map rs.parties s₀;
-      }
 
   h_below : (t : ℕ) → t < len → h_at t < length list
   h_below t a = fit.in_rows.below v t party a
@@ -118,29 +94,12 @@ module _ (list : List ℕ) (rs : RowBases) (map apair : ℕ) (s₀ : List ℕ) (
   apair_low = omega (arith, fit.before, fit.after, fit.after_rows)
 
   -- the row is as it was
-  pub row_kept : (k t : ℕ) (s : List ℕ) → t < len → Going k s → row s rs v t ≡ h_at t
+  row_kept : (k t : ℕ) (s : List ℕ) → t < len → Going list rs map apair v k s₀ s → row s rs v t ≡ h_at t
   row_kept k t s a g =
       g.changes.between (rs.rows + rs.d * v + t) (omega (arith, fit.before, fit.after))
       (omega (arith, fit.after_rows, row_inside rs.d v t rs.parties party (omega (arith, fit.lens v party))))
 
-  -- the row begins below the map
-  pub row_low : rs.rows + rs.d * v ≤ map
-  row_low =
-      let less : v ≤ rs.parties = omega arith in
-      omega (arith, mul-le-mul_left rs.d less, fit.after_rows)
-
-  -- the row lies within the words
-  pub row_inside_words : (k t : ℕ) (s : List ℕ) → t < len → Going k s → rs.rows + rs.d * v + t < length s
-  row_inside_words k t s a g =
-      omega (
-        arith,
-        row_inside rs.d v t rs.parties party (omega (arith, fit.lens v party)),
-        fit.after_rows,
-        fit.inside,
-        g.changes.len,
-      )
-
-  module _ (k : ℕ) (s : List ℕ) (inside : k < len) (g : Going k s) where
+  module _ (k : ℕ) (s : List ℕ) (inside : k < len) (g : Going list rs map apair v k s₀ s) where
     abbrev h : ℕ
     h = h_at k
 
@@ -206,7 +165,7 @@ module _ (list : List ℕ) (rs : RowBases) (map apair : ℕ) (s₀ : List ℕ) (
                 wr.elsewhere (map + word list (mate (h_at x))) (λ y. omega (arith, apair_low, i_below)) (λ y. e (omega arith))
           ]
 
-      passed_more : (x : ℕ) → x < k + 1 → Passed (h_at x) t
+      passed_more : (x : ℕ) → x < k + 1 → Passed list map apair (h_at x) t
       passed_more x a =
           elim (ℕ_discrete x k) [
             | yes e ↦
@@ -220,7 +179,7 @@ module _ (list : List ℕ) (rs : RowBases) (map apair : ℕ) (s₀ : List ℕ) (
                 }
           ]
 
-      stepped : Going (k + 1) t
+      stepped : Going list rs map apair v (k + 1) s₀ t
       stepped =
           record {
             passed = passed_more;
@@ -241,7 +200,7 @@ module _ (list : List ℕ) (rs : RowBases) (map apair : ℕ) (s₀ : List ℕ) (
     i_inside = omega (arith, i_below, apair_low, fit.inside, s_len)
 
     -- the next half-edge, its mate and their places
-    pub finds : Finds list map apair h s
+    finds : Finds list map apair h s
     finds =
         record {
           half = h_below k inside;
@@ -252,7 +211,7 @@ module _ (list : List ℕ) (rs : RowBases) (map apair : ℕ) (s₀ : List ℕ) (
 
     going_found :
         (t : List ℕ) → Earlier list (word s (map + w)) i (word list h) w → t ≡ put_word s (apair + i) (word s (map + w)) →
-        Going (k + 1) t
+        Going list rs map apair v (k + 1) s₀ t
     going_found t e q =
         let c : ℕ = word s (map + w) in
         stepped c c t
@@ -285,7 +244,7 @@ module _ (list : List ℕ) (rs : RowBases) (map apair : ℕ) (s₀ : List ℕ) (
 
     going_new :
         (t : List ℕ) → (Earlier list (word s (map + w)) i (word list h) w → ⊥) →
-        t ≡ put_word (put_word s (apair + i) i) (map + w) i → Going (k + 1) t
+        t ≡ put_word (put_word s (apair + i) i) (map + w) i → Going list rs map apair v (k + 1) s₀ t
     going_new t n q =
         let u : List ℕ = put_word s (apair + i) i in
         let u_len : length u ≡ length s = length_put s (apair + i) i in
@@ -310,12 +269,20 @@ module _ (list : List ℕ) (rs : RowBases) (map apair : ℕ) (s₀ : List ℕ) (
         (changes_put_low apair (length list / 2) map rs.parties s (apair + i) i apair_low (omega arith) (omega (arith, i_below)))
         (changes_put apair (length list / 2) map rs.parties u (map + w) i apair_low (omega arith) (omega (arith, w_party)))))
 
-    -- one half-edge more
-    pub going_more : (t : List ℕ) → RepFound list map apair h s t → Going (k + 1) t
+    going_more : (t : List ℕ) → RepFound list map apair h s t → Going list rs map apair v (k + 1) s₀ t
     going_more t f = ⊎_elim (λ x. going_found t x.0 x.1) (λ x. going_new t x.0 x.1) f
 
+    -- it is what is read now
+    module _ (x : ℕ) (read : x ≡ row s rs v k) where
+      is_next : x ≡ h
+      is_next = read ∙ row_kept k k s inside g
+
+      -- one half-edge more
+      pub going_on : (t : List ℕ) → RepFound list map apair x s t → Going list rs map apair v (k + 1) s₀ t
+      going_on t f = going_more t (rw is_next at f)
+
   -- the whole row has been gone through
-  pub row_done : (s : List ℕ) → Going len s → RowDone list rs.parties map apair v s₀ s
+  pub row_done : (s : List ℕ) → Going list rs map apair v len s₀ s → RowDone list rs.parties map apair v s₀ s
   row_done s g =
       record {
         reps = λ h a e. one h (fit.in_rows.there h a) e;
@@ -334,10 +301,6 @@ module _ (list : List ℕ) (rs : RowBases) (map apair : ℕ) (s₀ : List ℕ) (
 -- ── all rows ──
 
 module _ (list : List ℕ) (rs : RowBases) (map apair : ℕ) (s₀ : List ℕ) (fit : RepsFit list rs map apair s₀) where
-  -- no row has been gone through
-  pub reps_none : RepsDone list rs.parties map apair 0 s₀ s₀
-  reps_none = record { reps = λ h a e. absurd (omega arith); changes = changes_refl apair (length list / 2) map rs.parties s₀ }
-
   -- what the search writes is neither a row nor a length
   pub reps_fit_kept : (s : List ℕ) → Changes apair (length list / 2) map rs.parties s₀ s → RepsFit list rs map apair s
   reps_fit_kept s ch =

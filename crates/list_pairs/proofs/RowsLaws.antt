@@ -8,7 +8,7 @@ use lib.ListN.{length, take}
 use Rattle.words.specs.Basics.{is, count}
 use Rattle.words.specs.Words.{word, put_word}
 use Rattle.words.proofs.Sums.{is_same, is_ne, count_take_le}
-use Rattle.words.proofs.Frames.{keeps_refl, keeps_trans, keeps_less}
+use Rattle.words.proofs.Frames.{keeps_trans, keeps_less}
 use Rattle.words.proofs.Below.{rows_apart, row_inside}
 use Rattle.appointments.proofs.Flat.{count_more}
 use Rattle.list_pairs.specs.declared.rows.RowBases.{RowBases}
@@ -16,26 +16,6 @@ use Rattle.list_pairs.specs.Rows.{row, counter, Cleared, Pushes, row_pushed, Row
 use Rattle.words.proofs.Puts.{Put, put_is}
 
 -- ── clearing ──
-
--- no word
-pub cleared_none : (b : ℕ) (s : List ℕ) → Cleared b 0 s s
-cleared_none b s = record { zero = λ v a. absurd (omega arith); keeps = keeps_refl b s }
-
--- one word more
-pub cleared_more :
-    (b n : ℕ) (s t u : List ℕ) → b + n < length s → Cleared b n s t → u ≡ put_word t (b + n) 0 → Cleared b (n + 1) s u
-cleared_more b n s t u inside h e =
-    record { zero = zeros; keeps = keeps_trans h.keeps (record { len = p.len; same = λ i a. p.else i (λ q. omega arith) }) }
-  where
-    p : Put (b + n) 0 t u
-    p = put_is (b + n) 0 t u e (omega (arith, h.keeps.len)) (omega arith)
-
-    zeros : (v : ℕ) → v < n + 1 → word u (b + v) ≡ 0
-    zeros v a =
-        elim (ℕ_discrete v n) [
-          | yes q ↦ rw q p.new
-          | no q ↦ p.else (b + v) (λ x. q (omega arith)) ∙ h.zero v (omega arith)
-        ]
 
 -- there is room for the rows also after some words were cleared
 pub fit_cleared :
@@ -141,7 +121,7 @@ module _ (list : List ℕ) (rs : RowBases) (s : List ℕ) (h : RowsFit list rs s
     v_short = omega (arith, own_count, count_take_le v list (k + 1), h.loads v v_party)
 
     -- it has a place in its row
-    pub pushes : Pushes rs v t
+    pushes : Pushes rs v t
     pushes =
         record {
           count = omega (arith, v_party, h.after, h.inside, x.keeps.len);
@@ -220,10 +200,18 @@ module _ (list : List ℕ) (rs : RowBases) (s : List ℕ) (h : RowsFit list rs s
                 ]
           ]
 
-      -- one half-edge more is in its row
-      pub filled_more : RowsFilled list rs (k + 1) s u
+      filled_more : RowsFilled list rs (k + 1) s u
       filled_more =
           record {
             filled = record { lens = lens'; below = below'; named = each (λ w f. word list f ≡ w) refl x.filled.named; order = order'; there = there' };
             keeps = keeps_trans x.keeps (record { len = p.len; same = p.under });
           }
+
+    -- where the party has been read
+    module _ (w : ℕ) (read : w ≡ v) where
+      pub has_place : Pushes rs w t
+      has_place = rw read pushes
+
+      -- one half-edge more is in its row
+      pub filled_on : (u : List ℕ) → u ≡ row_pushed rs w k t → RowsFilled list rs (k + 1) s u
+      filled_on u e = filled_more u (rw read at e)

@@ -1,11 +1,7 @@
 -- What the tests of two ends say (`src/ends.rt`). Assumes nothing.
-use Rattle.std.specs.Prelude.{ℕ, ◌≤◌, ◌≡◌, List, ◌⊎◌}
+use Rattle.std.specs.Prelude.{ℕ, ◌≤◌, List}
 use Rattle.multigraph.specs.Regular.{SameEnds}
 use Rattle.list_pairs.specs.Contract.{first_of, second_of}
-
--- the number r says whether P holds
-abbrev pub Says : ℕ → Type 0 → Type 0
-Says r P = (P × (r ≡ 1)) ⊎ ((P → ⊥) × (r ≡ 0))
 
 -- appointment i has the ends l and r
 abbrev pub Joins : List ℕ → ℕ → ℕ → ℕ → Type 0

@@ -1,49 +1,38 @@
-// Has an appointment, or a pair, two given ends, whichever way round? The answer is 1 or 0.
-ghost use Rattle.std.specs.Prelude.{◌+◌, ◌*◌, ◌<◌, length};
+// Has an appointment, or a pair, two given ends, whichever way round?
+ghost use Rattle.std.specs.Prelude.{◌+◌, ◌*◌, ◌<◌, ◌↔◌, length, IsTrue};
 ghost use Rattle.words.specs.Words.{word_limit};
 ghost use Rattle.multigraph.specs.Regular.{SameEnds};
-ghost use Rattle.list_pairs.specs.Ends.{Says, Earlier, Joins};
+ghost use Rattle.list_pairs.specs.Ends.{Earlier, Joins};
 
-use words::{get16, word16_at};
+use words::{get, word_at};
 
 // Are `x` and `y` the ends `a` and `b`, one way round or the other?
-pub fn same_ends(a: usize, b: usize, x: usize, y: usize) -> usize
-    requires { (a < word_limit) × (b < word_limit) × (x < word_limit) × (y < word_limit) }
-    ensures { Says result (SameEnds a b x y) }
+pub fn same_ends(a: usize, b: usize, x: usize, y: usize) -> bool
+    ensures { IsTrue result ↔ SameEnds a b x y }
 {
-    if x + y != a + b {
-        return 0;
-    }
-    if x == a {
-        return 1;
-    }
-    if x == b {
-        return 1;
-    }
-    0
+    x == a && y == b || x == b && y == a
 }
 
 // Has appointment `i` the ends `v` and `w`? Read with a test: the search that asks goes on past the half-edges of a row, where
 // any number may stand.
-pub fn joins(list: &[u16], i: usize, v: usize, w: usize) -> usize
-    requires { (i < word_limit) × (v < word_limit) × (w < word_limit) }
-    ensures { Says result (Joins list.now i v w) }
+pub fn joins(list: &[u16], i: usize, v: usize, w: usize) -> bool
+    requires { i < word_limit }
+    ensures { IsTrue result ↔ Joins list.now i v w }
 {
-    let x = get16(list, 2 * i);
-    let y = get16(list, 2 * i + 1);
+    let x = get(list, 2 * i);
+    let y = get(list, 2 * i + 1);
     same_ends(v, w, x, y)
 }
 
 // Is appointment `j` not later than `i`, with the ends `v` and `w`?
-pub(crate) fn earlier(list: &[u16], j: usize, i: usize, v: usize, w: usize) -> usize
-    requires v_lt_word_limit { (v < word_limit) × (w < word_limit) }
-    requires i_in_bounds { 2 * i + 1 < length list.now }
-    ensures { Says result (Earlier list.now j i v w) }
+pub(crate) fn earlier(list: &[u16], j: usize, i: usize, v: usize, w: usize) -> bool
+    requires { 2 * i + 1 < length list.now }
+    ensures { IsTrue result ↔ Earlier list.now j i v w }
 {
     if i < j {
-        return 0;
+        return false;
     }
-    let x = word16_at(list, 2 * j);
-    let y = word16_at(list, 2 * j + 1);
+    let x = word_at(list, 2 * j);
+    let y = word_at(list, 2 * j + 1);
     same_ends(v, w, x, y)
 }

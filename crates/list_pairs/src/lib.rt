@@ -7,10 +7,10 @@
 // Ported from rustworkx-core, the first half of `bipartite_edge_color_given_partition` in bipartite_coloring.rs (Apache License 2.0, see NOTICE).
 #![tactic(auto)]
 
-ghost use Rattle.std.specs.Prelude.{◌≡◌, ◌+◌, ◌*◌, ◌≤◌};
+ghost use Rattle.std.specs.Prelude.{◌≡◌, ◌+◌, ◌*◌, ◌<◌, ◌≤◌};
+ghost use Rattle.words.specs.Words.{word_limit};
 ghost use Rattle.list_pairs.specs.Contract.{CanPair, PairsMade};
 
-use crate::from_list::pairs_at;
 use mark::Mark;
 
 pub mod adding; // copies are added to a pair, or the pair is new
@@ -20,7 +20,8 @@ mod representatives; // for each appointment an earlier one with its ends
 pub mod rows; // each party's half-edges side by side
 
 // Where things lie: the parties of the left and of the right side; the table of ends, two words for each pair; the number of each
-// appointment's pair; the graph. A contract that speaks of them calls the whole `at`.
+// appointment's pair; the graph. A contract that speaks of them calls the whole `at`. The table and the graph, whose places each step
+// here computes with, stand at small numbers.
 #[derive(Clone, Copy)]
 pub struct Bases {
     pub left: usize,
@@ -28,6 +29,8 @@ pub struct Bases {
     pub ends: usize,
     pub apair: usize,
     pub g: usize,
+    pub ghost ends_small: { ends < word_limit },
+    pub ghost g_small: { g < word_limit },
 }
 
 // The pairs of the list, one copy for each appointment, in list order: the table of their ends, the graph, and each
@@ -37,7 +40,7 @@ pub fn pairs_from_list(s: &mut [u32], m: &mut Mark, list: &[u16], p: usize, d: u
     ensures { PairsMade list.now at.ends at.apair at.g m.old.taken s.old m.new.taken s.new × (m.new ≡ m.old) }
 {
     let n = p + d * p + p;
-    let u = mark::take(m, n);
-    pairs_at(s, u, list, p, d, at);
-    mark::give_back(m, u);
+    let u = m.take(n);
+    at.pairs_at(s, u, list, p, d);
+    m.give_back(u);
 }

@@ -8,7 +8,17 @@ ghost use Rattle.list_pairs.specs.Representatives.{mate, Finds, RepFound, RepsFi
 
 use crate::ends::earlier;
 use crate::rows::RowBases;
-use words::{NodeIndex, set_word, word_at, word16_at};
+use words::{NodeIndex, set_word, word_at};
+
+// Where the search for representatives works: the rows that are gone through, the map, and where the representatives go.
+#[derive(Clone, Copy)]
+pub(crate) struct Reps {
+    pub(crate) rows: RowBases,
+    pub(crate) map: usize,
+    pub(crate) apair: usize,
+    ghost map_small: { map < word_limit },
+    ghost apair_small: { apair < word_limit },
+}
 
 // The half-edge at the other end of the same appointment.
 fn other_half(h: usize) -> usize
@@ -18,52 +28,49 @@ fn other_half(h: usize) -> usize
     2 * (h / 2) + (1 - h % 2)
 }
 
-// The representative of the appointment of half-edge `h`: what the map has for the other end, if that is an earlier appointment with
-// its ends; else itself, and the map has it from now on.
-fn find_rep(s: &mut [u32], list: &[u16], map: usize, apair: usize, h: usize)
-    requires map_lt_word_limit { (map < word_limit) × (apair < word_limit) × (h < word_limit) }
-    requires finds { Finds list.now map apair h s.old }
-    ensures { RepFound list.now map apair h s.old s.new }
-{
-    let i = h / 2;
-    let v = word16_at(list, h);
-    let f = other_half(h);
-    let w = word16_at(list, f);
-    let j = word_at(s, map + w);
-    let found = earlier(list, j, i, v, w);
-    if found == 1 {
-        set_word(s, apair + i, j);
-        return;
+impl Reps {
+    // The representative of the appointment of half-edge `h`: what the map has for the other end, if that is an earlier appointment with
+    // its ends; else itself, and the map has it from now on.
+    fn find_rep(self, s: &mut [u32], list: &[u16], h: usize)
+        requires h_small { h < word_limit }
+        requires finds { Finds list.now self.map self.apair h s.old }
+        ensures { RepFound list.now self.map self.apair h s.old s.new }
+    {
+        let i = h / 2;
+        let v = word_at(list, h);
+        let f = other_half(h);
+        let w = word_at(list, f);
+        let j = word_at(s, self.map + w);
+        if earlier(list, j, i, v, w) {
+            set_word(s, self.apair + i, j);
+            return;
+        }
+        set_word(s, self.apair + i, i);
+        set_word(s, self.map + w, i);
     }
-    set_word(s, apair + i, i);
-    set_word(s, map + w, i);
-}
 
-// The representatives of the appointments of party `w`, whose row is gone through.
-fn rep_row(s: &mut [u32], list: &[u16], at: RowBases, map: usize, apair: usize, w: NodeIndex)
-    requires reps_fit { RepsFit list.now at map apair s.old }
-    requires w_lt_parties { w.0 < at.parties }
-    ensures { RowDone list.now at.parties map apair w.0 s.old s.new }
-{
-    let v = w.0 as usize;
-    let n = word_at(s, at.counts + v);
-    let from = at.rows + at.d * v;
-    let mut t = 0;
-    while t < n {
-        let h = word_at(s, from + t);
-        find_rep(s, list, map, apair, h);
-        t += 1;
+    // The representatives of the appointments of party `w`, whose row is gone through.
+    fn rep_row(self, s: &mut [u32], list: &[u16], w: NodeIndex)
+        requires reps_fit { RepsFit list.now self.rows self.map self.apair s.old }
+        requires w_lt_parties { w.0 < self.rows.parties }
+        ensures { RowDone list.now self.rows.parties self.map self.apair w.0 s.old s.new }
+    {
+        let v = w.0 as usize;
+        let n = word_at(s, self.rows.counts + v);
+        let from = self.rows.rows + self.rows.d * v;
+        for t in 0..n {
+            let h = word_at(s, from + t);
+            self.find_rep(s, list, h);
+        }
     }
-}
 
-// The representatives of all appointments.
-pub(crate) fn rep_rows(s: &mut [u32], list: &[u16], at: RowBases, map: usize, apair: usize)
-    requires { RepsFit list.now at map apair s.old }
-    ensures { RepsDone list.now at.parties map apair at.parties s.old s.new }
-{
-    let mut v = 0;
-    while v < at.parties {
-        rep_row(s, list, at, map, apair, NodeIndex(v as u32));
-        v += 1;
+    // The representatives of all appointments.
+    pub(crate) fn rep_rows(self, s: &mut [u32], list: &[u16])
+        requires { RepsFit list.now self.rows self.map self.apair s.old }
+        ensures { RepsDone list.now self.rows.parties self.map self.apair self.rows.parties s.old s.new }
+    {
+        for v in 0..self.rows.parties {
+            self.rep_row(s, list, NodeIndex(v as u32));
+        }
     }
 }

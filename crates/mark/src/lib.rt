@@ -11,20 +11,22 @@ pub struct Mark {
     pub there: usize,
 }
 
-// Takes n words above those that are taken, and gives the place where they begin.
-pub fn take(m: &mut Mark, n: usize) -> usize
-    requires { m.old.taken + n ≤ m.old.there }
-    ensures { (result ≡ m.old.taken) × (m.new ≡ taken_more n m.old) }
-{
-    let at = m.taken;
-    m.taken = at + n;
-    at
-}
+impl Mark {
+    // Takes n words above those that are taken, and gives the place where they begin.
+    pub fn take(&mut self, n: usize) -> usize
+        requires { self.old.taken + n ≤ self.old.there }
+        ensures { (result ≡ self.old.taken) × (self.new ≡ taken_more n self.old) }
+    {
+        let at = self.taken;
+        self.taken = at + n;
+        at
+    }
 
-// Gives back every word from a place on.
-pub fn give_back(m: &mut Mark, to: usize)
-    requires { to ≤ m.old.taken }
-    ensures { m.new ≡ given_back to m.old }
-{
-    m.taken = to;
+    // Gives back every word from a place on.
+    pub fn give_back(&mut self, to: usize)
+        requires { to ≤ self.old.taken }
+        ensures { self.new ≡ given_back to self.old }
+    {
+        self.taken = to;
+    }
 }

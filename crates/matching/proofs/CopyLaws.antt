@@ -1,6 +1,6 @@
 -- A graph copied to another place, its copies times α: entry by entry, and what it is as a graph. Assumes nothing.
 use Prim.Native.Nat.{ℕ, ◌+◌, ◌*◌, ◌-◌, ◌≤◌, ◌<◌}
-use mathlib.Core.Path.{◌≡◌, refl, ◌∙◌, ap}
+use mathlib.Core.Path.{◌≡◌, ◌∙◌, ap}
 use mathlib.Core.List.{List}
 use native.Mathlib.Omega.{arith}
 use native.Mathlib.Decide.{ℕ_discrete, dec_lt, dec_le}
@@ -8,17 +8,7 @@ use lib.ListN.{length}
 use Rattle.words.specs.Words.{word, put_word}
 use Rattle.words.proofs.Frames.{here, away, length_put}
 use Rattle.multigraph.specs.Places.{size, number, copies_of}
-use Rattle.matching.specs.Choosing.{CanCopy, Copying, Copied}
-
-pub copying_none : (from to α : ℕ) (s : List ℕ) → Copying from to α 0 s s
-copying_none from to α s =
-    record {
-      len = refl;
-      numbers = λ j h. absurd (omega arith);
-      copies = λ j h. absurd (omega arith);
-      under = λ j h. refl;
-      over = λ j h. refl;
-    }
+use Rattle.matching.specs.Choosing.{CanCopy, Copying}
 
 -- the words of the graph itself are not written
 copying_source :
@@ -86,28 +76,3 @@ copying_more from to α i s t u can lt c e =
         here t1 (to + 3 + 2 * i) (α * word t (from + 3 + 2 * i)) (omega (arith, can.inside, c.len, len1))
         (rw its_copies (can.copies i lt))
         ∙ ap (λ (x : ℕ). α * x) its_copies
-
--- then the header and the count
-pub copied_done :
-    (from to α m : ℕ) (s t u : List ℕ) → CanCopy from to α s → m ≡ size s from → Copying from to α m s t →
-    u ≡ put_word (put_word t to to) (to + 1) m → Copied from to α s u
-copied_done from to α m s t u can e c w =
-    rw w
-    (record {
-      len = length_put t1 (to + 1) m ∙ len1 ∙ c.len;
-      header = away t1 (to + 1) to m (λ x. omega arith) ∙ here t to to (omega (arith, can.inside, c.len)) (omega (arith, can.small));
-      sized = here t1 (to + 1) m (omega (arith, can.inside, c.len, len1)) (omega (arith, can.small)) ∙ e;
-      numbers = λ j h. old (to + 2 + 2 * j) (λ x. omega arith) (λ x. omega arith) ∙ c.numbers j (omega arith);
-      copies = λ j h. old (to + 3 + 2 * j) (λ x. omega arith) (λ x. omega arith) ∙ c.copies j (omega arith);
-      under = λ j h. old j (λ x. omega arith) (λ x. omega arith) ∙ c.under j (omega arith);
-      over = λ j h. old j (λ x. omega arith) (λ x. omega arith) ∙ c.over j (omega arith);
-    })
-  where
-    t1 : List ℕ
-    t1 = put_word t to to
-
-    len1 : length t1 ≡ length t
-    len1 = length_put t to to
-
-    old : (j : ℕ) → (j ≡ to → ⊥) → (j ≡ to + 1 → ⊥) → word (put_word t1 (to + 1) m) j ≡ word t j
-    old j p q = away t1 (to + 1) j m q ∙ away t to j to p

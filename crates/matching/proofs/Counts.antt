@@ -1,16 +1,16 @@
--- Flagged pairs and flagged copies of a graph that lies in words, counted entry by entry; and the least power of two, doubled
--- up to. Assumes nothing.
-use Prim.Native.Nat.{ℕ, suc, ◌+◌, ◌*◌, ◌^◌, ◌≤◌, ◌<◌}
+-- Flagged pairs and flagged copies of a graph that lies in words, counted entry by entry; and the least power of two. Assumes nothing.
+use Prim.Native.Nat.{ℕ, zero, suc, ◌+◌, ◌*◌, ◌/◌, ◌^◌, ◌≤◌, ◌<◌, max}
 use mathlib.Core.Path.{◌≡◌, refl, ◌∙◌, ap}
 use mathlib.Core.Bool.{Bool, true, false}
 use mathlib.Core.List.{List}
 use native.Mathlib.Omega.{arith}
 use native.Mathlib.Nat.{one-mul, zero-mul, add-zero}
 use native.Mathlib.Numerals.{add-one}
-use native.Mathlib.Decide.{dec_lt}
-use borrow.Author.Tests.{lt-leb, le-leb}
+use native.Mathlib.Decide.{dec_le}
 use lib.Dec.{leb}
-use lib.ListN.{length, take, drop, length-take, length-drop}
+use lib.Pow.{pow_pos, pow_mono}
+use Rattle.std.specs.Int.{IsPowerOfTwo}
+use lib.ListN.{take, drop}
 use lib.Seq.{get_or-take, get_or-drop}
 use Rattle.words.specs.Basics.{pick, sum_below}
 use Rattle.words.specs.Words.{word}
@@ -22,17 +22,19 @@ use Rattle.multigraph.specs.Places.{size, number, copies_of}
 use Rattle.multigraph.proofs.Spans.{graph_span, total_span}
 use Rattle.perfect_matching.specs.Matching.{flagged_pairs, flagged_copies}
 use Rattle.words.specs.PowersOfTwo.{log_up}
-use Rattle.matching.specs.Choosing.{flagged_by, flagged_entry, Whole, fewer, Chooses, InsideBoth, SideBySide}
+use Rattle.matching.specs.declared.Count.{Count}
+use Rattle.matching.specs.declared.Count.TheVariants.{FlaggedPairs, FlaggedCopies}
+use Rattle.matching.specs.Choosing.{flagged_by, flagged_entry, fewer, Chooses, InsideBoth, SideBySide}
 
 -- ── entry by entry ──
 
 pub flagged_sum :
-    (by : Bool) (s : List ℕ) (ends pairs g : ℕ) →
+    (by : Count) (s : List ℕ) (ends pairs g : ℕ) →
     flagged_by by (graph_at s ends pairs g) ≡ sum_below (flagged_entry by s pairs g) (size s g)
 unfolding flagged_pairs flagged_copies
-flagged_sum false s ends pairs g =
+flagged_sum FlaggedPairs s ends pairs g =
     rw (graph_span s ends pairs g) (total_span (λ p. p.bad) (entry s ends pairs g) (size s g))
-flagged_sum true s ends pairs g =
+flagged_sum FlaggedCopies s ends pairs g =
     rw (graph_span s ends pairs g)
     (total_span (λ p. p.bad * p.copies) (entry s ends pairs g) (size s g)
     ∙ sum_below_cong (size s g) (λ i h. go (leb pairs (number s g i)) (copies_of s g i)))
@@ -43,22 +45,14 @@ flagged_sum true s ends pairs g =
 
 -- one more entry
 pub flagged_more :
-    (by : Bool) (s : List ℕ) (pairs g i : ℕ) →
+    (by : Count) (s : List ℕ) (pairs g i : ℕ) →
     sum_below (flagged_entry by s pairs g) (i + 1) ≡ sum_below (flagged_entry by s pairs g) i + flagged_entry by s pairs g i
 unfolding sum_below
 flagged_more by s pairs g i = rw add-one
 
-pub flagged_none : (by : Bool) (s : List ℕ) (pairs g : ℕ) → sum_below (flagged_entry by s pairs g) 0 ≡ 0
+pub flagged_none : (by : Count) (s : List ℕ) (pairs g : ℕ) → sum_below (flagged_entry by s pairs g) 0 ≡ 0
 unfolding sum_below
 flagged_none by s pairs g = refl
-
--- what one entry counts
-module _ (by : Bool) (s : List ℕ) (pairs g i e : ℕ) (is : e ≡ number s g i) where
-  pub entry_unflagged : e < pairs → 0 ≡ flagged_entry by s pairs g i
-  entry_unflagged h = rw (← is, lt-leb pairs e h)
-
-  pub entry_flagged : pairs ≤ e → pick by (copies_of s g i) 1 ≡ flagged_entry by s pairs g i
-  entry_flagged h = rw (← is, le-leb pairs e h)
 
 -- ── a part of the words ──
 
@@ -66,19 +60,12 @@ module _ (by : Bool) (s : List ℕ) (pairs g i e : ℕ) (is : e ≡ number s g i
 abbrev pub part : List ℕ → ℕ → ℕ → List ℕ
 part s a w = take w (drop a s)
 
-pub part_length : (s : List ℕ) (a w : ℕ) → a + w ≤ length s → length (part s a w) ≡ w
-part_length s a w h = simp (length-take, length-drop) (omega arith)
-
 pub part_word : (s : List ℕ) (a w i : ℕ) → i < w → word (part s a w) i ≡ word s (a + i)
 part_word s a w i h = rw (get_or-take, get_or-drop)
 
--- A graph with room for its words in a part has them there.
-pub part_whole : (s : List ℕ) (a w : ℕ) → a + w ≤ length s → 2 + 2 * size s a ≤ w → Whole (part s a w)
-part_whole s a w h k = omega (arith, part_length s a w h, part_word s a w 1 (omega arith))
-
 -- A graph in a part of the words has as many flagged as where it lies.
 pub part_flagged :
-    (by : Bool) (s : List ℕ) (ends pairs a w : ℕ) → 2 + 2 * size s a ≤ w →
+    (by : Count) (s : List ℕ) (ends pairs a w : ℕ) → 2 + 2 * size s a ≤ w →
     flagged_by by (graph_at (part s a w) ends pairs 0) ≡ flagged_by by (graph_at s ends pairs a)
 part_flagged by s ends pairs a w h =
     rw (flagged_sum by (part s a w) ends pairs 0, flagged_sum by s ends pairs a, sized)
@@ -97,7 +84,7 @@ part_flagged by s ends pairs a w h =
 
 -- what is read of the chosen one
 pub fewer_map {ℓ κ} :
-    {A : Type ℓ} {B : Type κ} (f : A → B) (by : Bool) (g h : Graph) (a b : A) →
+    {A : Type ℓ} {B : Type κ} (f : A → B) (by : Count) (g h : Graph) (a b : A) →
     f (fewer by g h a b) ≡ fewer by g h (f a) (f b)
 fewer_map f by g h a b = go (leb (flagged_by by g) (flagged_by by h))
   where
@@ -107,7 +94,7 @@ fewer_map f by g h a b = go (leb (flagged_by by g) (flagged_by by h))
 
 -- what both have, the chosen one has
 pub fewer_is {ℓ} :
-    {A : Type ℓ} (P : A → Type 0) (by : Bool) (g h : Graph) (a b : A) → P a → P b → P (fewer by g h a b)
+    {A : Type ℓ} (P : A → Type 0) (by : Count) (g h : Graph) (a b : A) → P a → P b → P (fewer by g h a b)
 fewer_is P by g h a b p q = go (leb (flagged_by by g) (flagged_by by h))
   where
     go : (t : Bool) → P (pick t a b)
@@ -116,7 +103,7 @@ fewer_is P by g h a b p q = go (leb (flagged_by by g) (flagged_by by h))
 
 -- Of two parts side by side, each with the words of a half: the first word of the chosen one is its header.
 pub chooses :
-    (first room pairs : ℕ) (by : Bool) (s l : List ℕ) → 0 < room →
+    (first room pairs : ℕ) (by : Count) (s l : List ℕ) → 0 < room →
     2 + 2 * size s first ≤ room → 2 + 2 * size s (first + room) ≤ room →
     ((ends : ℕ) →
     l ≡ fewer by (graph_at (part s first room) ends pairs 0) (graph_at (part s (first + room) room) ends pairs 0)
@@ -137,7 +124,7 @@ chooses first room pairs by s l pos a b is ends =
 
 -- The chosen half lies inside the words, and so does its copy at h.
 pub chosen_inside :
-    (first room pairs h : ℕ) (by : Bool) (s : List ℕ) (r : ℕ) → SideBySide first room h s →
+    (first room pairs h : ℕ) (by : Count) (s : List ℕ) (r : ℕ) → SideBySide first room h s →
     Chooses first room pairs by s r → InsideBoth r h (size s r) s
 chosen_inside first room pairs h by s r halves is =
     rw (is 0)
@@ -147,37 +134,26 @@ chosen_inside first room pairs h by s r halves is =
 
 -- ── the least power of two ──
 
--- doubled e times, and not past the least power
-pub record Doubling (m t : ℕ) : Type 0 where
-  pub times : ℕ
-  pub power : t ≡ 2 ^ times
-  pub least : times ≤ log_up m
-  pub positive : 0 < t
-
-pub doubling_none : (m : ℕ) → Doubling m 1
-doubling_none m = record { times = 0; power = refl; least = omega arith; positive = omega arith }
-
-pub doubling_more : (m t : ℕ) → t < m → Doubling m t → Doubling m (2 * t)
-doubling_more m t h d =
-    record {
-      times = suc d.times;
-      power = rw (two_pow d.times, ← d.power);
-      least = go d.times (log_up m) refl refl;
-      positive = omega (arith, d.positive);
-    }
+-- std's next power of two has the exponent `log_up`
+pub next_power : (m p : ℕ) → IsPowerOfTwo p → m ≤ p → p / 2 < max 1 m → p ≡ 2 ^ log_up m
+next_power m p power above below =
+    let low : log_up m ≤ power.0 = (log_up_law m).least power.0 (rw power.1 at above) in
+    elim (dec_le power.0 (log_up m)) [
+      | yes k ↦
+          let same : power.0 ≡ log_up m = omega arith in
+          rw same at power.1
+      | no k ↦ absurd (past power.0 power.1 (omega arith))
+    ]
   where
-    go : (x e : ℕ) → d.times ≡ x → log_up m ≡ e → suc x ≤ e
-    go x e p q =
-        elim (dec_lt x e) [
-          | yes k ↦ k
-          | no k ↦
-              let same : log_up m ≡ d.times = omega (arith, d.least) in
-              let reach : m ≤ 2 ^ d.times = rw same at (log_up_law m).reaches in
-              absurd (omega (arith, d.power))
-        ]
-
-pub doubling_done : (m t : ℕ) → m ≤ t → Doubling m t → t ≡ 2 ^ log_up m
-doubling_done m t h d =
-    let reach : m ≤ 2 ^ d.times = rw d.power at h in
-    let same : d.times ≡ log_up m = omega (arith, d.least, (log_up_law m).least d.times reach) in
-    rw same at d.power
+    past : (e : ℕ) → p ≡ 2 ^ e → log_up m < e → ⊥
+    past zero is l = omega arith
+    past (suc e) is l =
+        omega (
+          arith,
+          is,
+          two_pow e,
+          pow_mono {i = log_up m} {j = e} (omega arith),
+          (log_up_law m).reaches,
+          pow_pos (log_up m),
+          below,
+        )

@@ -1,7 +1,6 @@
 -- Both searches over words are `rbmg_find_perfect_matching`; its numbers are then written out (Reading). Assumes nothing.
 use Prim.Native.Nat.{ℕ, ◌+◌, ◌*◌, ◌≤◌, ◌<◌}
 use mathlib.Core.Path.{◌≡◌, sym, ◌∙◌, ap}
-use mathlib.Core.Bool.{true, false}
 use mathlib.Core.List.{List}
 use native.Mathlib.Omega.{arith}
 use native.Mathlib.Decide.{dec_le}
@@ -23,6 +22,7 @@ use Rattle.perfect_matching.specs.Matching.{search_graph, halve, flagged_pairs, 
 use Rattle.words.specs.PowersOfTwo.{log_up}
 use Rattle.perfect_matching.specs.Perfect.{MatchingOf}
 use Rattle.matching.specs.Searched.{lefts, rights, CanSearch, SearchDone, SearchesDone, CanRead, MatchingRead, ReadsMatching, CanFind, MatchingFound}
+use Rattle.matching.specs.declared.Count.TheVariants.{FlaggedPairs, FlaggedCopies}
 use Rattle.matching.specs.declared.Table.{Table}
 use Rattle.perfect_matching.proofs.MatchingLaws.{matching_law}
 use Rattle.matching.proofs.Columns.{length_column}
@@ -94,7 +94,7 @@ unfolding rbmg_find_perfect_matching
 second_found N left right k g x m h some again = rw (h, ne_eqb (flagged_pairs x) 0 some, again)
 
 pub one_search :
-    (t : Table) (g n k mark new flagged : ℕ) (s u : List ℕ) → SearchDone t g n k false mark new flagged s u → flagged ≡ 0 →
+    (t : Table) (g n k mark new flagged : ℕ) (s u : List ℕ) → SearchDone t g n k FlaggedPairs mark new flagged s u → flagged ≡ 0 →
     SearchesDone t g n k mark new s u
 one_search t g n k mark new flagged s u d z =
     record {
@@ -109,8 +109,8 @@ one_search t g n k mark new flagged s u d z =
 
 pub two_searches :
     (t : Table) (g n k mark middle new flagged later : ℕ) (s u v : List ℕ) → CanSearch t g n k mark s →
-    SearchDone t g n k false mark middle flagged s u → (flagged ≡ 0 → ⊥) →
-    SearchDone t g n k true middle new later u v → SearchesDone t g n k mark new s v
+    SearchDone t g n k FlaggedPairs mark middle flagged s u → (flagged ≡ 0 → ⊥) →
+    SearchDone t g n k FlaggedCopies middle new later u v → SearchesDone t g n k mark new s v
 two_searches t g n k mark middle new flagged later s u v can d some e =
     record {
       found =

@@ -29,6 +29,7 @@ use Rattle.euler.proofs.SplitLaws.{split_law}
 use Rattle.perfect_matching.specs.Matching.{fewer_flagged, halve}
 use Rattle.matching.specs.Choosing.{flagged_by, Chooses, CanCopy, Copied, Copies, SideBySide}
 use Rattle.matching.specs.Searched.{SearchLaid, Searching, CanHalve, Halved, CanHalveAll, HalvedAll}
+use Rattle.matching.specs.declared.Count.{Count}
 use Rattle.matching.specs.declared.Table.{Table}
 use Rattle.perfect_matching.proofs.Halving.{HalfOf, half_of}
 use Rattle.matching.proofs.Narrow.{LiesWithin, lies_within}
@@ -133,7 +134,7 @@ module _ (t : Table) (h n width mark : ℕ) (s : List ℕ) (can : CanHalve t h n
 
   -- ── the half that goes on ──
 
-  module _ (by : Bool) (v u : List ℕ) (above from new : ℕ) (st : HalvesStored s v mark above t.ends h n width)
+  module _ (by : Count) (v u : List ℕ) (above from new : ℕ) (st : HalvesStored s v mark above t.ends h n width)
       (chooses : Chooses mark wide t.pairs by v from) (copies : Copies from h 1 v u) (same : new ≡ mark) where
     abbrev both : Halves
     both =
@@ -178,7 +179,7 @@ module _ (t : Table) (h n width mark : ℕ) (s : List ℕ) (can : CanHalve t h n
 -- ── halving after halving ──
 
 -- The graph of degree x at h: f halvings of it are what e halvings of the first one are.
-pub record HalvingOn (t : Table) (h n width : ℕ) (side : ℕ → ℕ) (e : ℕ) (by : Bool) (x : ℕ) (s u : List ℕ) : Type 0 where
+pub record HalvingOn (t : Table) (h n width : ℕ) (side : ℕ → ℕ) (e : ℕ) (by : Count) (x : ℕ) (s u : List ℕ) : Type 0 where
   pub left : ℕ
   pub power : x ≡ 2 ^ left
   pub rest :
@@ -188,7 +189,7 @@ pub record HalvingOn (t : Table) (h n width : ℕ) (side : ℕ → ℕ) (e : ℕ
   pub keeps : Keeps h s u
 
 pub halving_none :
-    (t : Table) (h n width : ℕ) (side : ℕ → ℕ) (e : ℕ) (by : Bool) (x : ℕ) (s : List ℕ) → x ≡ 2 ^ e →
+    (t : Table) (h n width : ℕ) (side : ℕ → ℕ) (e : ℕ) (by : Count) (x : ℕ) (s : List ℕ) → x ≡ 2 ^ e →
     Searching t h n width side x s → HalvingOn t h n width side e by x s s
 halving_none t h n width side e by x s p g =
     record { left = e; power = p; rest = refl; graph = g; keeps = keeps_refl h s }
@@ -222,7 +223,7 @@ laid_kept t h n width mark s u l len =
     }
 
 pub can_halve :
-    (t : Table) (h n width : ℕ) (side : ℕ → ℕ) (e : ℕ) (by : Bool) (x mark : ℕ) (s u : List ℕ) →
+    (t : Table) (h n width : ℕ) (side : ℕ → ℕ) (e : ℕ) (by : Count) (x mark : ℕ) (s u : List ℕ) →
     SearchLaid t h n width mark s → x < 4294967296 → 1 < x → HalvingOn t h n width side e by x s u →
     CanHalve t h n width mark u
 can_halve t h n width side e by x mark s u l light more o =
@@ -242,7 +243,7 @@ unfolding halve
 halve_step N flagged e g hs s = rw s
 
 pub halving_more :
-    (t : Table) (h n width : ℕ) (side : ℕ → ℕ) (e : ℕ) (by : Bool) (x mark new : ℕ) (s u v : List ℕ) → 1 < x →
+    (t : Table) (h n width : ℕ) (side : ℕ → ℕ) (e : ℕ) (by : Count) (x mark new : ℕ) (s u v : List ℕ) → 1 < x →
     HalvingOn t h n width side e by x s u → Halved t h n by mark new u v → HalvingOn t h n width side e by (x / 2) s v
 halving_more t h n width side e by x mark new s u v more o d =
     record {
@@ -279,7 +280,7 @@ halving_more t h n width side e by x mark new s u v more o d =
         ))
 
 pub halving_done :
-    (t : Table) (h n width : ℕ) (side : ℕ → ℕ) (e : ℕ) (by : Bool) (degree x mark new : ℕ) (s u : List ℕ) → degree ≡ 2 ^ e →
+    (t : Table) (h n width : ℕ) (side : ℕ → ℕ) (e : ℕ) (by : Count) (degree x mark new : ℕ) (s u : List ℕ) → degree ≡ 2 ^ e →
     x ≤ 1 → new ≡ mark → SearchLaid t h n width mark s → HalvingOn t h n width side e by x s u →
     HalvedAll t h n width degree by mark new s u
 unfolding halve
@@ -303,13 +304,13 @@ halving_done t h n width side e by degree x mark new s u p less m l o =
 
 -- below degree 2 nothing is to be done
 pub halving_stops :
-    (t : Table) (h n width degree mark : ℕ) (by : Bool) (s : List ℕ) → CanHalveAll t h n width degree mark s → degree < 2 →
+    (t : Table) (h n width degree mark : ℕ) (by : Count) (s : List ℕ) → CanHalveAll t h n width degree mark s → degree < 2 →
     HalvedAll t h n width degree by mark mark s s
 halving_stops t h n width degree mark by s can less =
     halving_done t h n width can.side can.exponent by degree degree mark mark s s can.power (omega (arith, less)) refl
     can.laid (halving_none t h n width can.side can.exponent by degree s can.power can.graph)
 
-module _ (t : Table) (h n width degree mark : ℕ) (by : Bool) (s : List ℕ) (can : CanHalveAll t h n width degree mark s)
+module _ (t : Table) (h n width degree mark : ℕ) (by : Count) (s : List ℕ) (can : CanHalveAll t h n width degree mark s)
     (more : 1 < degree) where
   begun : HalvingOn t h n width can.side can.exponent by degree s s
   begun = halving_none t h n width can.side can.exponent by degree s can.power can.graph

@@ -1,6 +1,6 @@
 -- The numbers of a perfect matching written out side by side, and when that can be done. Assumes nothing.
 use Prim.Native.Nat.{ℕ, ◌+◌, ◌*◌, ◌≤◌, ◌<◌}
-use mathlib.Core.Path.{◌≡◌, refl, ◌∙◌}
+use mathlib.Core.Path.{◌≡◌, ◌∙◌}
 use mathlib.Core.List.{List}
 use native.Mathlib.Omega.{arith}
 use native.Mathlib.Decide.{ℕ_discrete}
@@ -38,10 +38,6 @@ pub record Reading (h out i : ℕ) (s u : List ℕ) : Type 0 where
   pub numbers : (j : ℕ) → j < i → word u (out + j) ≡ number s h j
   pub under : (j : ℕ) → j < out → word u j ≡ word s j
   pub over : (j : ℕ) → out + i ≤ j → word u j ≡ word s j
-
-pub reading_none : (h out : ℕ) (s : List ℕ) → Reading h out 0 s s
-reading_none h out s =
-    record { len = refl; numbers = λ j a. absurd (omega arith); under = λ j a. refl; over = λ j a. refl }
 
 pub reading_more :
     (ends rows h n out i : ℕ) (s u v : List ℕ) → CanRead ends rows h n out s → i < n → Reading h out i s u →

@@ -1,7 +1,6 @@
 -- One search over words: what its steps ask follows from what it asks, and what it leaves is the definition's. Assumes nothing.
 use Prim.Native.Nat.{ℕ, ◌+◌, ◌*◌, ◌-◌, ◌/◌, ◌^◌, ◌≤◌, ◌<◌}
 use mathlib.Core.Path.{◌≡◌, refl, sym, ◌∙◌, ap}
-use mathlib.Core.Bool.{Bool}
 use mathlib.Core.List.{List, []}
 use mathlib.Core.Logic.{⊎_elim}
 use native.Mathlib.Omega.{arith}
@@ -18,7 +17,8 @@ use Rattle.multigraph.proofs.Sizes.{entries_few, entries_copies}
 use Rattle.perfect_matching.specs.Matching.{add_times, add_diagonal, search_graph, flagged_pairs}
 use Rattle.words.specs.PowersOfTwo.{log_up}
 use Rattle.matching.specs.Choosing.{InsideBoth}
-use Rattle.matching.specs.Searched.{lefts, rights, CanBuild, GraphBuilt, Searching, CanHalveAll, HalvedAll, CanSearch, SearchDone}
+use Rattle.matching.specs.Searched.{lefts, rights, CanBuild, GraphBuilt, BuildsGraph, Searching, CanHalveAll, HalvedAll, CanSearch, SearchDone}
+use Rattle.matching.specs.declared.Count.{Count}
 use Rattle.matching.specs.declared.Table.{Table}
 use Rattle.matching.proofs.Columns.{length_column, column_at, column_once}
 use Rattle.perfect_matching.proofs.Powers.{Shares, shares}
@@ -120,7 +120,7 @@ module _ (t : Table) (g n k mark : ℕ) (s : List ℕ) (can : CanSearch t g n k 
     c : Cut n k p
     c = cut n k p is can.several can.some can.most
 
-    pub can_build : CanBuild p t g mark n (p / k) (p - k * (p / k)) s
+    can_build : CanBuild p t g mark n (p / k) (p - k * (p / k)) s
     can_build =
         record {
           tabled = can.tabled;
@@ -148,7 +148,10 @@ module _ (t : Table) (g n k mark : ℕ) (s : List ℕ) (can : CanSearch t g n k 
     unfolding search_graph
     search_is = rw (length_column s (t.ends + 2 * t.pairs) n, ← is)
 
-    module _ (v : List ℕ) (b : GraphBuilt t g mark n (p / k) (p - k * (p / k)) s v) where
+    module _ (v : List ℕ) (built : BuildsGraph t g mark n (p / k) (p - k * (p / k)) s v) where
+      b : GraphBuilt t g mark n (p / k) (p - k * (p / k)) s v
+      b = built p can_build
+
       graph_is : graph_at v t.ends t.pairs mark ≡ search_graph (lefts t n s) (rights t n s) k G
       graph_is = b.graph ∙ sym search_is
 
@@ -189,7 +192,7 @@ module _ (t : Table) (g n k mark : ℕ) (s : List ℕ) (can : CanSearch t g n k 
           }
 
       pub search_done :
-          (by : Bool) (new flagged above : ℕ) (u : List ℕ) → HalvedAll t mark n (k + 1) p by (mark + 2 * (n * (k + 2))) above v u →
+          (by : Count) (new flagged above : ℕ) (u : List ℕ) → HalvedAll t mark n (k + 1) p by (mark + 2 * (n * (k + 2))) above v u →
           ((ends : ℕ) → flagged ≡ flagged_pairs (graph_at u ends t.pairs mark)) →
           new ≡ mark → SearchDone t g n k by mark new flagged s u
       search_done by new flagged above u h counted same =

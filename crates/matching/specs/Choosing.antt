@@ -1,31 +1,38 @@
 -- What the routines that count flagged pairs, choose a half and copy it state. Assumes nothing.
-use Rattle.std.specs.Prelude.{ℕ, ◌+◌, ◌*◌, ◌<◌, ◌≤◌, ◌≡◌, Bool, true, false, List, leb, length}
+use Rattle.std.specs.Prelude.{ℕ, ◌+◌, ◌*◌, ◌<◌, ◌≤◌, ◌≡◌, List, leb, length}
 use Rattle.words.specs.Basics.{pick}
 use Rattle.words.specs.Words.{word, word_limit}
 use Rattle.multigraph.specs.Multigraph.{Graph}
 use Rattle.multigraph.specs.Stored.{graph_at}
 use Rattle.multigraph.specs.Places.{size, number, copies_of}
 use Rattle.perfect_matching.specs.Matching.{flagged_pairs, flagged_copies}
+use Rattle.matching.specs.declared.Count.{Count}
+use Rattle.matching.specs.declared.Count.TheVariants.{FlaggedPairs, FlaggedCopies}
 
 -- what a search counts: the first one flagged pairs, the second one their copies
-abbrev pub flagged_by : Bool → Graph → ℕ
-flagged_by true = flagged_copies
-flagged_by false = flagged_pairs
+abbrev pub flagged_by : Count → Graph → ℕ
+flagged_by FlaggedPairs = flagged_pairs
+flagged_by FlaggedCopies = flagged_copies
+
+-- what a flagged pair with so many copies counts
+abbrev pub counted : Count → ℕ → ℕ
+counted FlaggedPairs copies = 1
+counted FlaggedCopies copies = copies
 
 -- what entry i of the graph at g counts
-abbrev pub flagged_entry : Bool → List ℕ → ℕ → ℕ → ℕ → ℕ
-flagged_entry by s pairs g i = pick (leb pairs (number s g i)) (pick by (copies_of s g i) 1) 0
+abbrev pub flagged_entry : Count → List ℕ → ℕ → ℕ → ℕ → ℕ
+flagged_entry by s pairs g i = pick (leb pairs (number s g i)) (counted by (copies_of s g i)) 0
 
 -- the words of a graph of its own are all there
 abbrev pub Whole : List ℕ → Type 0
 Whole g = 2 + 2 * size g 0 ≤ length g
 
 -- The chooser's answer, of any two things that stand for two graphs: the first unless the second has fewer flagged.
-abbrev pub fewer {ℓ} : {A : Type ℓ} → Bool → Graph → Graph → A → A → A
+abbrev pub fewer {ℓ} : {A : Type ℓ} → Count → Graph → Graph → A → A → A
 fewer by g h a b = pick (leb (flagged_by by g) (flagged_by by h)) a b
 
 -- the header of the half that goes on, where two halves lie side by side and each has so much room
-abbrev pub Chooses : ℕ → ℕ → ℕ → Bool → List ℕ → ℕ → Type 0
+abbrev pub Chooses : ℕ → ℕ → ℕ → Count → List ℕ → ℕ → Type 0
 Chooses first room pairs by s r =
     (ends : ℕ) →
     r ≡ fewer by (graph_at s ends pairs first) (graph_at s ends pairs (first + room)) (word s first) (word s (first + room))
@@ -75,7 +82,7 @@ pub record SideBySide (first room h : ℕ) (s : List ℕ) : Type 0 where
   pub below : h + room ≤ length s
 
 -- Of two halves side by side at `first` the one that goes on is copied to h.
-pub record GoesOn (first room pairs h : ℕ) (by : Bool) (s t : List ℕ) : Type 0 where
+pub record GoesOn (first room pairs h : ℕ) (by : Count) (s t : List ℕ) : Type 0 where
   pub from : ℕ
   pub chosen : Chooses first room pairs by s from
   pub copied : Copies from h 1 s t

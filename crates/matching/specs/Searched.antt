@@ -1,5 +1,5 @@
 -- What a search for a perfect matching asks of the words, and what its steps give. Assumes nothing.
-use Rattle.std.specs.Prelude.{ℕ, zero, suc, ◌+◌, ◌*◌, ◌^◌, ◌<◌, ◌≤◌, ◌≡◌, Bool, List, [], ◌∷◌, ◌⊎◌, length}
+use Rattle.std.specs.Prelude.{ℕ, zero, suc, ◌+◌, ◌*◌, ◌^◌, ◌<◌, ◌≤◌, ◌≡◌, List, [], ◌∷◌, ◌⊎◌, length}
 use Rattle.words.specs.Basics.{total, ran}
 use Rattle.words.specs.Words.{word, word_limit}
 use Rattle.words.specs.Frames.{Keeps, Stays, Spares, Changes}
@@ -11,6 +11,7 @@ use Rattle.euler.specs.Split.{Halves, rbmg_split_into_two}
 use Rattle.perfect_matching.specs.Matching.{add_times, add_diagonal, fewer_flagged, halve, search_graph, flagged_pairs, rbmg_find_perfect_matching}
 use Rattle.words.specs.PowersOfTwo.{log_up}
 use Rattle.matching.specs.Choosing.{flagged_by}
+use Rattle.matching.specs.declared.Count.{Count}
 use Rattle.matching.specs.declared.Table.{Table}
 
 -- ── the table ──
@@ -114,7 +115,7 @@ pub record CanHalve (t : Table) (h n width mark : ℕ) (s : List ℕ) : Type 0 w
   pub light : half < word_limit
 
 -- The graph at h has become the half that goes on.
-pub record Halved (t : Table) (h n : ℕ) (by : Bool) (mark new : ℕ) (s u : List ℕ) : Type 0 where
+pub record Halved (t : Table) (h n : ℕ) (by : Count) (mark new : ℕ) (s u : List ℕ) : Type 0 where
   pub halves : Halves
   pub split : rbmg_split_into_two (2 * n) (graph_at s t.ends t.pairs h) ≡ ran halves
   pub goes_on : graph_at u t.ends t.pairs h ≡ fewer_flagged (flagged_by by) halves
@@ -132,7 +133,7 @@ pub record CanHalveAll (t : Table) (h n width x mark : ℕ) (s : List ℕ) : Typ
   pub light : x < word_limit
 
 -- The graph at h has become what so many halvings leave of it.
-pub record HalvedAll (t : Table) (h n width x : ℕ) (by : Bool) (mark new : ℕ) (s u : List ℕ) : Type 0 where
+pub record HalvedAll (t : Table) (h n width x : ℕ) (by : Count) (mark new : ℕ) (s u : List ℕ) : Type 0 where
   pub left :
       (e : ℕ) → x ≡ 2 ^ e →
       halve (2 * n) (flagged_by by) e (graph_at s t.ends t.pairs h) ≡ ran (graph_at u t.ends t.pairs h)
@@ -162,7 +163,7 @@ pub record CanSearch (t : Table) (g n k mark : ℕ) (s : List ℕ) : Type 0 wher
   pub short : length s ≤ word_limit
 
 -- What a search leaves stands at the mark; below it only the map has changed.
-pub record SearchDone (t : Table) (g n k : ℕ) (by : Bool) (mark new flagged : ℕ) (s u : List ℕ) : Type 0 where
+pub record SearchDone (t : Table) (g n k : ℕ) (by : Count) (mark new flagged : ℕ) (s u : List ℕ) : Type 0 where
   pub left :
       halve (2 * n) (flagged_by by) (log_up (k * n))
       (search_graph (lefts t n s) (rights t n s) k (graph_at s t.ends t.pairs g))

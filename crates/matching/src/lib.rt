@@ -27,44 +27,46 @@ pub struct Table {
     pub pairs: usize,
 }
 
+// What a search counts of a graph: its flagged pairs, or the copies that these have.
+#[derive(Clone, Copy)]
+pub enum Count {
+    FlaggedPairs,
+    FlaggedCopies,
+}
+
 // The least power of two not below `m`.
+#[tactic(auto, using(crate::proofs::Counts::next_power))]
 pub fn next_power_of_two(m: usize) -> usize
     requires { m < word_limit }
     ensures { result ≡ 2 ^ log_up m }
 {
-    let mut t: usize = 1;
-    while t < m {
-        t = 2 * t;
-    }
-    t
+    m.next_power_of_two()
 }
 
 // What entry `i` of a graph's own words counts: nothing if it isn't flagged, else 1, or its copies.
-fn flagged_at(g: &[u32], pairs: usize, by_copies: bool, i: usize) -> usize
+fn flagged_at(g: &[u32], pairs: usize, count: Count, i: usize) -> usize
     requires { (i < word_limit) × (3 + 2 * i < length g.now) }
-    ensures { (result ≡ flagged_entry by_copies g.now pairs 0 i) × (result < word_limit) }
+    ensures { (result ≡ flagged_entry count g.now pairs 0 i) × (result < word_limit) }
 {
     let e = word_at(g, 2 + 2 * i);
     if e < pairs {
         return 0;
     }
-    if by_copies {
-        return word_at(g, 3 + 2 * i);
+    match count {
+        Count::FlaggedPairs => 1,
+        Count::FlaggedCopies => word_at(g, 3 + 2 * i),
     }
-    1
 }
 
 // How many pairs of a graph are flagged, or how many copies these have. The slice holds the graph's own words.
-fn flagged(g: &[u32], pairs: usize, by_copies: bool) -> usize
+fn flagged(g: &[u32], pairs: usize, count: Count) -> usize
     requires { Whole g.now }
-    ensures { (ends : ℕ) → result ≡ flagged_by by_copies (graph_at g.now ends pairs 0) }
+    ensures { (ends : ℕ) → result ≡ flagged_by count (graph_at g.now ends pairs 0) }
 {
     let m = word_at(g, 1);
-    let mut c: usize = 0;
-    let mut i = 0;
-    while i < m {
-        c += flagged_at(g, pairs, by_copies, i);
-        i += 1;
+    let mut c = 0;
+    for i in 0..m {
+        c += flagged_at(g, pairs, count, i);
     }
     c
 }
@@ -74,13 +76,13 @@ pub fn fewer_flagged<'a>(
     first: &'a [u32],
     second: &'a [u32],
     pairs: usize,
-    by_copies: bool,
+    count: Count,
 ) -> &'a [u32]
     requires { Whole first.now × Whole second.now }
-    ensures { (ends : ℕ) → result ≡ fewer by_copies (graph_at first.now ends pairs 0) (graph_at second.now ends pairs 0) first.entry second.entry }
+    ensures { (ends : ℕ) → result ≡ fewer count (graph_at first.now ends pairs 0) (graph_at second.now ends pairs 0) first.entry second.entry }
 {
-    let x = flagged(first, pairs, by_copies);
-    let y = flagged(second, pairs, by_copies);
+    let x = flagged(first, pairs, count);
+    let y = flagged(second, pairs, count);
     if x <= y {
         return first;
     }
@@ -88,45 +90,49 @@ pub fn fewer_flagged<'a>(
 }
 
 // The base of the half that goes on, where the two lie side by side.
-fn chosen(s: &[u32], first: usize, room: usize, pairs: usize, by_copies: bool) -> usize
+fn chosen(s: &[u32], first: usize, room: usize, pairs: usize, count: Count) -> usize
     requires { (0 < room) × (first + room + room ≤ length s.now) × (2 + 2 * size s.now first ≤ room) × (2 + 2 * size s.now (first + room) ≤ room) }
-    ensures { Chooses first room pairs by_copies s.now result × (result < word_limit) }
+    ensures { Chooses first room pairs count s.now result × (result < word_limit) }
 {
     let middle = first + room;
     let end = middle + room;
-    let r = fewer_flagged(&s[first..middle], &s[middle..end], pairs, by_copies);
-    let x = r[0];
-    x as usize
+    let r = fewer_flagged(&s[first..middle], &s[middle..end], pairs, count);
+    get(r, 0)
 }
 
-// Copies entry `i`, its copies times `alpha`.
-fn copy_entry(s: &mut [u32], from: usize, to: usize, alpha: usize, i: usize)
-    requires from_lt_word_limit { from < word_limit }
-    requires to_lt_word_limit { to < word_limit }
-    requires alpha_lt_word_limit { alpha < word_limit }
-    requires i_lt_word_limit { i < word_limit }
-    requires inside_both { InsideBoth from to (i + 1) s.old }
-    ensures { s.new ≡ put_word (put_word s.old (to + 2 + 2 * i) (word s.old (from + 2 + 2 * i))) (to + 3 + 2 * i) (alpha * word s.old (from + 3 + 2 * i)) }
-{
-    let e = word_at(s, from + 2 + 2 * i);
-    let c = word_at(s, from + 3 + 2 * i);
-    set_word(s, to + 2 + 2 * i, e);
-    set_word(s, to + 3 + 2 * i, alpha * c);
+// A copy of the graph at `from` to `to`, every pair's copies times `alpha`.
+#[derive(Clone, Copy)]
+struct GraphCopy {
+    from: usize,
+    to: usize,
+    alpha: usize,
+    ghost from_small: { from < word_limit },
+    ghost to_small: { to < word_limit },
+    ghost alpha_small: { alpha < word_limit },
 }
 
-// Copies `m` entries.
-fn copy_entries(s: &mut [u32], from: usize, to: usize, alpha: usize, m: usize)
-    requires from_lt_word_limit { from < word_limit }
-    requires to_lt_word_limit { to < word_limit }
-    requires alpha_lt_word_limit { alpha < word_limit }
-    requires m_lt_word_limit { m < word_limit }
-    requires inside_both { InsideBoth from to m s.old }
-    ensures { m ≡ size s.old from → CanCopy from to alpha s.old → Copying from to alpha m s.old s.new }
-{
-    let mut i = 0;
-    while i < m {
-        copy_entry(s, from, to, alpha, i);
-        i += 1;
+impl GraphCopy {
+    // Copies entry `i`.
+    fn copy_entry(self, s: &mut [u32], i: usize)
+        requires i_small { i < word_limit }
+        requires inside_both { InsideBoth self.from self.to (i + 1) s.old }
+        ensures { s.new ≡ put_word (put_word s.old (self.to + 2 + 2 * i) (word s.old (self.from + 2 + 2 * i))) (self.to + 3 + 2 * i) (self.alpha * word s.old (self.from + 3 + 2 * i)) }
+    {
+        let e = word_at(s, self.from + 2 + 2 * i);
+        let c = word_at(s, self.from + 3 + 2 * i);
+        set_word(s, self.to + 2 + 2 * i, e);
+        set_word(s, self.to + 3 + 2 * i, self.alpha * c);
+    }
+
+    // Copies `m` entries.
+    fn copy_entries(self, s: &mut [u32], m: usize)
+        requires m_small { m < word_limit }
+        requires inside_both { InsideBoth self.from self.to m s.old }
+        ensures { m ≡ size s.old self.from → CanCopy self.from self.to self.alpha s.old → Copying self.from self.to self.alpha m s.old s.new }
+    {
+        for i in 0..m {
+            self.copy_entry(s, i);
+        }
     }
 }
 
@@ -139,100 +145,92 @@ fn copy_times(s: &mut [u32], from: usize, to: usize, alpha: usize)
     ensures { Copies from to alpha s.old s.new }
 {
     let m = word_at(s, from + 1);
-    copy_entries(s, from, to, alpha, m);
+    let copy = GraphCopy { from, to, alpha };
+    copy.copy_entries(s, m);
     set_word(s, to, to);
     set_word(s, to + 1, m);
 }
 
-// `beta` copies of left `i` with right `i`: the pair that has these ends, or a new one with the number of their row.
-fn add_pair(s: &mut [u32], t: Table, h: usize, beta: usize, i: usize)
-    requires places_lt_word_limit { t.places < word_limit }
-    requires diag_lt_word_limit { t.diag < word_limit }
-    requires i_bound { t.pairs + i < word_limit }
-    requires h_lt_word_limit { h < word_limit }
-    requires beta_lt_word_limit { beta < word_limit }
-    ensures { AddsEdge t.places h (word s.old (t.diag + i)) (t.pairs + i) beta s.old s.new }
-{
-    let e = get(s, t.diag + i);
-    let key = EdgeIndex(e as u32);
-    let number = EdgeIndex((t.pairs + i) as u32);
-    multigraph::add_edge(s, t.places, h, key, number, beta);
-}
-
-// `beta` copies of each left party with the right party of the same place, in order.
-fn add_diagonal(s: &mut [u32], t: Table, h: usize, n: usize, beta: usize)
-    requires places_lt_word_limit { t.places < word_limit }
-    requires diag_lt_word_limit { t.diag < word_limit }
-    requires n_bound { t.pairs + n < word_limit }
-    requires h_lt_word_limit { h < word_limit }
-    requires beta_lt_word_limit { beta < word_limit }
-    ensures { AddsDiagonal t h n beta s.old s.new }
-{
-    multigraph::map_places(s, t.places, h, t.diag, n);
-    let mut i = 0;
-    while i < n {
-        add_pair(s, t, h, beta, i);
-        i += 1;
-    }
-}
-
-// The graph that a search splits, built at `h` from the graph at `g`.
-fn search_graph(s: &mut [u32], t: Table, g: usize, h: usize, n: usize, alpha: usize, beta: usize)
-    requires { (t.places < word_limit) × (t.diag < word_limit) × (t.pairs + n < word_limit) × (g < word_limit) × (h < word_limit) × (alpha < word_limit) × (beta < word_limit) × InsideBoth g h (size s.old g) s.old }
-    ensures { BuildsGraph t g h n alpha beta s.old s.new }
-{
-    copy_times(s, g, h, alpha);
-    add_diagonal(s, t, h, n, beta);
-}
-
 // Of the two halves at `first`, side by side, the one that goes on is copied down to `h`.
-fn go_on(s: &mut [u32], first: usize, room: usize, pairs: usize, h: usize, by_copies: bool)
+fn go_on(s: &mut [u32], first: usize, room: usize, pairs: usize, h: usize, count: Count)
     requires { (0 < room) × (h < word_limit) × SideBySide first room h s.old }
-    ensures { GoesOn first room pairs h by_copies s.old s.new }
+    ensures { GoesOn first room pairs h count s.old s.new }
 {
-    let from = chosen(s, first, room, pairs, by_copies);
+    let from = chosen(s, first, room, pairs, count);
     copy_times(s, from, h, 1);
 }
 
-// One halving of the graph at `h`: both halves are pushed, and the one that goes on is copied down to `h`.
-fn halve_once(
-    s: &mut [u32],
-    m: &mut Mark,
+// The graph that a search splits: it stands at `h`, on `n` parties a side, and no party is in more than `width` of its pairs. What
+// decides between two halves is `count`.
+#[derive(Clone, Copy)]
+struct SearchGraph {
     t: Table,
     h: usize,
     n: usize,
     width: usize,
-    by_copies: bool,
-)
-    requires { CanHalve t h n width m.old.taken s.old × (m.old.taken + 16 * (n * (width + 1)) ≤ m.old.there) }
-    ensures { Halved t h n by_copies m.old.taken m.new.taken s.old s.new × (m.new ≡ m.old) }
-{
-    // takes nothing: gives where the mark stands
-    let u = mark::take(m, 0);
-    splitting::rbmg_split_into_two(s, m, t.ends, h, n, width);
-    go_on(s, u, 2 * (n * (width + 1)), t.pairs, h, by_copies);
-    mark::give_back(m, u);
+    count: Count,
+    ghost places_small: { t.places < word_limit },
+    ghost diag_small: { t.diag < word_limit },
+    ghost rows_small: { t.pairs + n < word_limit },
+    ghost h_small: { h < word_limit },
 }
 
-// From degree `degree`, a power of two, down to degree 1.
-fn halve_all(
-    s: &mut [u32],
-    m: &mut Mark,
-    t: Table,
-    h: usize,
-    n: usize,
-    width: usize,
-    degree: usize,
-    by_copies: bool,
-)
-    requires { CanHalveAll t h n width degree m.old.taken s.old × (m.old.taken + 16 * (n * (width + 1)) ≤ m.old.there) }
-    ensures { HalvedAll t h n width degree by_copies m.old.taken m.new.taken s.old s.new × (m.new ≡ m.old) }
-{
-    if degree < 2 {
-        return;
+impl SearchGraph {
+    // `beta` copies of left `i` with right `i`: the pair that has these ends, or a new one with the number of their row.
+    fn add_pair(self, s: &mut [u32], beta: usize, i: usize)
+        requires i_lt_n { i < self.n }
+        requires beta_small { beta < word_limit }
+        ensures { AddsEdge self.t.places self.h (word s.old (self.t.diag + i)) (self.t.pairs + i) beta s.old s.new }
+    {
+        let e = get(s, self.t.diag + i);
+        let key = EdgeIndex(e as u32);
+        let number = EdgeIndex((self.t.pairs + i) as u32);
+        multigraph::add_edge(s, self.t.places, self.h, key, number, beta);
     }
-    halve_once(s, m, t, h, n, width, by_copies);
-    halve_all(s, m, t, h, n, width, degree / 2, by_copies);
+
+    // `beta` copies of each left party with the right party of the same place, in order.
+    fn add_diagonal(self, s: &mut [u32], beta: usize)
+        requires { beta < word_limit }
+        ensures { AddsDiagonal self.t self.h self.n beta s.old s.new }
+    {
+        multigraph::map_places(s, self.t.places, self.h, self.t.diag, self.n);
+        for i in 0..self.n {
+            self.add_pair(s, beta, i);
+        }
+    }
+
+    // Builds it from the graph at `g`.
+    fn build(self, s: &mut [u32], g: usize, alpha: usize, beta: usize)
+        requires { (g < word_limit) × (alpha < word_limit) × (beta < word_limit) × InsideBoth g self.h (size s.old g) s.old }
+        ensures { BuildsGraph self.t g self.h self.n alpha beta s.old s.new }
+    {
+        copy_times(s, g, self.h, alpha);
+        self.add_diagonal(s, beta);
+    }
+
+    // One halving: both halves are pushed, and the one that goes on is copied down to `h`.
+    fn halve_once(self, s: &mut [u32], m: &mut Mark)
+        requires { CanHalve self.t self.h self.n self.width m.old.taken s.old × (m.old.taken + 16 * (self.n * (self.width + 1)) ≤ m.old.there) }
+        ensures { Halved self.t self.h self.n self.count m.old.taken m.new.taken s.old s.new × (m.new ≡ m.old) }
+    {
+        let u = m.taken;
+        let room = 2 * (self.n * (self.width + 1));
+        splitting::rbmg_split_into_two(s, m, self.t.ends, self.h, self.n, self.width);
+        go_on(s, u, room, self.t.pairs, self.h, self.count);
+        m.give_back(u);
+    }
+
+    // From degree `degree`, a power of two, down to degree 1.
+    fn halve_all(self, s: &mut [u32], m: &mut Mark, degree: usize)
+        requires { CanHalveAll self.t self.h self.n self.width degree m.old.taken s.old × (m.old.taken + 16 * (self.n * (self.width + 1)) ≤ m.old.there) }
+        ensures { HalvedAll self.t self.h self.n self.width degree self.count m.old.taken m.new.taken s.old s.new × (m.new ≡ m.old) }
+    {
+        if degree < 2 {
+            return;
+        }
+        self.halve_once(s, m);
+        self.halve_all(s, m, degree / 2);
+    }
 }
 
 // How many pairs of the graph at `h`, whose words lie in so much room, are flagged.
@@ -241,16 +239,7 @@ fn flagged_in(s: &[u32], h: usize, room: usize, pairs: usize) -> usize
     ensures { (ends : ℕ) → result ≡ flagged_pairs (graph_at s.now ends pairs h) }
 {
     let end = h + room;
-    flagged(&s[h..end], pairs, false)
-}
-
-// The same of words that are lent to be changed; none is. It is what `search` calls at its end, which hands on the scratch that it is
-// lent (docs/MARK-PROOFS.md).
-fn flagged_left(s: &mut [u32], h: usize, room: usize, pairs: usize) -> usize
-    requires { (h + room ≤ length s.old) × (2 + 2 * size s.old h ≤ room) }
-    ensures { ((ends : ℕ) → result ≡ flagged_pairs (graph_at s.old ends pairs h)) × (s.new ≡ s.old) }
-{
-    flagged_in(s, h, room, pairs)
+    flagged(&s[h..end], pairs, Count::FlaggedPairs)
 }
 
 // One search of the graph at `g`: what it leaves stands at the mark. Gives how many flagged pairs are among it.
@@ -261,19 +250,26 @@ fn search(
     g: usize,
     n: usize,
     k: usize,
-    by_copies: bool,
+    count: Count,
 ) -> usize
     requires { CanSearch t g n k m.old.taken s.old × (m.old.taken + 18 * (n * (k + 2)) ≤ m.old.there) }
-    ensures { SearchDone t g n k by_copies m.old.taken m.new.taken result s.old s.new × (m.new ≡ m.old) }
+    ensures { SearchDone t g n k count m.old.taken m.new.taken result s.old s.new × (m.new ≡ m.old) }
 {
     let room = 2 * (n * (k + 2));
-    let h = mark::take(m, room);
+    let h = m.take(room);
     let degree = next_power_of_two(k * n);
     let alpha = degree / k;
-    search_graph(s, t, g, h, n, alpha, degree - k * alpha);
-    halve_all(s, m, t, h, n, k + 1, degree, by_copies);
-    mark::give_back(m, h);
-    flagged_left(s, h, room, t.pairs)
+    let graph = SearchGraph {
+        t,
+        h,
+        n,
+        width: k + 1,
+        count,
+    };
+    graph.build(s, g, alpha, degree - k * alpha);
+    graph.halve_all(s, m, degree);
+    m.give_back(h);
+    flagged_in(s, h, room, t.pairs)
 }
 
 // The search that counts flagged pairs; and if one survives, the search that counts their copies.
@@ -281,11 +277,11 @@ fn searches(s: &mut [u32], m: &mut Mark, t: Table, g: usize, n: usize, k: usize)
     requires { CanSearch t g n k m.old.taken s.old × (m.old.taken + 18 * (n * (k + 2)) ≤ m.old.there) }
     ensures { SearchesDone t g n k m.old.taken m.new.taken s.old s.new × (m.new ≡ m.old) }
 {
-    let flagged = search(s, m, t, g, n, k, false);
+    let flagged = search(s, m, t, g, n, k, Count::FlaggedPairs);
     if flagged == 0 {
         return;
     }
-    search(s, m, t, g, n, k, true);
+    search(s, m, t, g, n, k, Count::FlaggedCopies);
 }
 
 // Writes the numbers of the `n` pairs of the graph at `h` to `out`.
@@ -293,11 +289,9 @@ pub fn read_matching(s: &mut [u32], h: usize, n: usize, out: usize)
     requires { (h < word_limit) × (n < word_limit) × (out < word_limit) }
     ensures { ReadsMatching h n out s.old s.new }
 {
-    let mut i = 0;
-    while i < n {
+    for i in 0..n {
         let e = get(s, h + 2 + 2 * i);
         put(s, out + i, e);
-        i += 1;
     }
 }
 
@@ -314,7 +308,7 @@ pub fn rbmg_find_perfect_matching(
     requires { CanFind t g n k out m.old.taken s.old × (m.old.taken + 18 * (n * (k + 2)) ≤ m.old.there) }
     ensures { MatchingFound t g n k out m.old.taken m.new.taken s.old s.new × (m.new ≡ m.old) }
 {
-    let h = mark::take(m, 0);
+    let h = m.taken;
     searches(s, m, t, g, n, k);
     read_matching(s, h, n, out);
 }

@@ -39,10 +39,8 @@ fn write_absent(s: &mut [u32], places: usize, from: usize, n: usize)
     requires n_lt_word_limit { n < word_limit }
     ensures { Writes (λ (i : ℕ). from + i) (λ (i : ℕ). 0) n places s.old s.new }
 {
-    let mut i = 0;
-    while i < n {
+    for i in 0..n {
         write_place(s, places, from + i, 0);
-        i += 1;
     }
 }
 
@@ -53,10 +51,8 @@ fn write_places(s: &mut [u32], places: usize, g: usize)
     ensures { Writes (λ (i : ℕ). g + 2 + 2 * i) (λ (i : ℕ). i + 1) (size s.old g) places s.old s.new }
 {
     let m = get(s, g + 1);
-    let mut i = 0;
-    while i < m {
+    for i in 0..m {
         write_place(s, places, g + 2 + 2 * i, i + 1);
-        i += 1;
     }
 }
 
@@ -139,10 +135,8 @@ pub fn add_matching(s: &mut [u32], places: usize, g: usize, m: usize, n: usize)
     ensures { AddsMatching places g m n s.old s.new }
 {
     map_places(s, places, g, m, n);
-    let mut i = 0;
-    while i < n {
+    for i in 0..n {
         add_number(s, places, g, m + i);
-        i += 1;
     }
 }
 
@@ -159,10 +153,7 @@ fn left_over(s: &[u32], places: usize, g: usize, i: usize, e: EdgeIndex) -> usiz
     if place > 0 {
         return c;
     }
-    if c > 0 {
-        return c - 1;
-    }
-    0
+    c.saturating_sub(1)
 }
 
 // Copies entry `i` of the graph at `g` to place `at` of the one at `to`, with what is left of it. Gives the next place: the
@@ -194,10 +185,8 @@ fn copy_rest(s: &mut [u32], places: usize, g: usize, to: usize) -> usize
 {
     let m = get(s, g + 1);
     let mut at = 0;
-    let mut i = 0;
-    while i < m {
+    for i in 0..m {
         at = rest_step(s, places, g, to, at, i);
-        i += 1;
     }
     at
 }

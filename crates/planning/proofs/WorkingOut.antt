@@ -6,21 +6,20 @@ use mathlib.Core.List.{List, [], ◌∷◌, ◌++◌, append-nil}
 use native.Mathlib.Omega.{arith}
 use native.Mathlib.Nat.{zero-add}
 use lib.ListN.{length, take, drop, replicate, length-take, length-replicate, drop_of_length-le}
+use Rattle.std.specs.Prelude.{Some, None}
 use Rattle.words.specs.Basics.{All}
 use Rattle.appointments.specs.Appointments.{Appt, appts}
 use Rattle.appointments.specs.Checks.{Check, passed}
 use Rattle.checking.specs.Checked.{answered}
 use Rattle.appointments.specs.Answers.{Answer, accepted, refused}
 use Rattle.appointments.specs.Lent.{Lent, lent_appts, lent_d, lent_words, lent_checks}
-use Rattle.appointments.specs.declared.Answered.{Answered}
-use Rattle.appointments.specs.declared.Answered.TheVariants.{Accepted, Refused}
 use Rattle.appointments.proofs.Loads.{Listed, largest_load_empty}
 use Rattle.appointments.proofs.ChecksLaws.{Passes, passes_passed, good_goes_on}
 use Rattle.appointments.proofs.LentLaws.{lent_passes, lent_goes_on}
-use Rattle.checking.proofs.Answering.{answered_passed, answered_figure, answered_number, d_small}
+use Rattle.appointments.proofs.AnswerLaws.{accepted_passed}
+use Rattle.checking.proofs.Answering.{answered_number, d_small}
 use Rattle.bipartition.specs.TwoColor.{sides, not_bipartite, two_color}
 use Rattle.two_color.specs.Contract.{Colored}
-use Rattle.two_color.specs.declared.TwoColoring.TheVariants.{Sides, NotBipartite}
 use Rattle.bipartition.proofs.TwoColorLaws.{sides_proper}
 use Rattle.given_partition.specs.GivenPartition.{bipartite_edge_color_given_partition}
 use Rattle.given_partition.specs.Steps.{Ready, left_side, right_side, Sided, SlotsPlanned}
@@ -42,12 +41,12 @@ ready_on e r =
 
 -- the two sides, from word 0 and from word P on
 sides_found :
-    {P u l : ℕ} {list s t : List ℕ} → Colored P list 0 s u t (Sides l) →
+    {P u l : ℕ} {list s t : List ℕ} → Colored P list 0 s u t (Some l) →
     two_color P (appts list) ≡ sides (left_side t l) (right_side t P l)
 sides_found c = rw zero-add at c.answers.1
 
 module _ {P D q u l : ℕ} {list s t : List ℕ} (r : Ready P D q list s) where
-  pub two_colored : 0 < P → Colored P list 0 s u t (Sides l) → Sided P D q l list t
+  pub two_colored : 0 < P → Colored P list 0 s u t (Some l) → Sided P D q l list t
   two_colored some c =
       let proper = sides_proper P (appts list) (sizes r).listed (sides_found c) in
       record {
@@ -86,13 +85,13 @@ module _ {P D : ℕ} {list slots : List ℕ} where
       record { answers = rw (found, idle); holds = rw found; len = refl }
 
   pub worked_odd :
-      {u : ℕ} {s t : List ℕ} → Colored P list 0 s u t NotBipartite → WorkedOut P D list slots slots (refused 9 0) s t
+      {u : ℕ} {s t : List ℕ} → Colored P list 0 s u t None → WorkedOut P D list slots slots (refused 9 0) s t
   worked_odd c =
       let found : bipartite_edge_color P (appts list) ≡ graph_not_bipartite = odd_outcome P (appts list) c.answers in
       record { answers = rw found; holds = refl; len = c.keeps.len }
 
   pub worked_plan :
-      {l u : ℕ} {slots' s t v : List ℕ} → Colored P list 0 s u t (Sides l) → SlotsPlanned P l list slots slots' t v →
+      {l u : ℕ} {slots' s t v : List ℕ} → Colored P list 0 s u t (Some l) → SlotsPlanned P l list slots slots' t v →
       WorkedOut P D list slots slots' (accepted D) s v
   worked_plan c x =
       let found : bipartite_edge_color P (appts list) ≡ plan x.slots_of =
@@ -125,15 +124,13 @@ module _ (l : Lent) where
       Stated a slots scratch
   stated a slots scratch e f g = (e, (f, (g, rw (e, f) (demand_3 l))))
 
-  abbrev pub Told : Answered → Type 0
-  Told c = c ≡ answered (lent_checks l passed) (lent_d l)
+  -- what the checks told
+  abbrev pub Told : Answer ℕ → Type 0
+  Told a = a ≡ answered (lent_checks l passed) (lent_d l)
 
-  pub told_as : {r c : Answered} → r ≡ c → Told r → Told c
-  told_as e t = sym e ∙ t
-
-  module _ {number place : ℕ} (told : Told (Refused number place)) where
+  module _ {number place : ℕ} (told : Told (refused number place)) where
     barred : lent_checks l passed ≡ Check.refused number place
-    barred = answered_number (lent_checks l passed) (lent_d l) number place (sym told)
+    barred = answered_number (lent_checks l passed) (lent_d l) number place told
 
     answers : plan_answer l ≡ refused number place
     answers = barred_answer l number place barred
@@ -143,12 +140,15 @@ module _ (l : Lent) where
         stated (refused number place) l.slots l.scratch (sym answers) (sym (refusal_slots l number place answers))
         (sym (barred_scratch l number place barred))
 
-  module _ {D : ℕ} (told : Told (Accepted D)) where
+  module _ {D : ℕ} (told : Told (accepted D)) where
+    passed_with : (lent_checks l passed ≡ passed) × (lent_d l ≡ D)
+    passed_with = accepted_passed (lent_checks l passed) (lent_d l) D (sym told)
+
     ok : lent_checks l passed ≡ passed
-    ok = answered_passed (lent_checks l passed) (lent_d l) D (sym told)
+    ok = passed_with.0
 
     figure : D ≡ lent_d l
-    figure = answered_figure (lent_checks l passed) (lent_d l) D (sym told)
+    figure = sym passed_with.1
 
     passes : Passes l.parties l.list (length l.slots) (length l.scratch)
     passes = lent_passes l ok

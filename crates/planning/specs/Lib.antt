@@ -5,5 +5,4 @@ pub mod Examples
 pub mod Computing
 pub mod LowestFree
 pub mod WorkedExample
-pub mod Told
 pub mod Steps

@@ -10,41 +10,44 @@ ghost use Rattle.appointments.specs.Lent.{lent};
 ghost use Rattle.given_partition.specs.Steps.{Ready};
 ghost use Rattle.planning.specs.Planning.{plan_answer, plan_slots, plan_scratch};
 ghost use Rattle.planning.specs.Demand3.{Demand3};
-ghost use Rattle.planning.specs.Told.{answer_of};
+ghost use Rattle.appointments.specs.Refusals.{told};
 ghost use Rattle.planning.specs.Steps.{WorkedOut};
 
-use appointments::Answered;
-use two_color::TwoColoring;
-
-// Planned, with D; or refused, with document 01's number and place.
-#[derive(Clone, Copy)]
-pub enum Answer {
-    Planned(usize),
-    Refused(usize, usize),
-}
+use appointments::Refusal;
 
 // The answer to a list that passed the checks, and its slots; scratch, of W words, is left as it happens to be.
-fn work_out(s: &mut [u32], slots: &mut [u16], list: &[u16], p: usize, d: usize) -> Answer
+fn work_out(
+    s: &mut [u32],
+    slots: &mut [u16],
+    list: &[u16],
+    p: usize,
+    d: usize,
+) -> Result<usize, Refusal>
     requires ready { Ready p d (p * (d + 1)) list.now s.old }
     requires list_in_bounds { length (appts list.now) ≤ length slots.old }
-    ensures { WorkedOut p d list.now slots.old slots.new (answer_of result) s.old s.new }
+    ensures { WorkedOut p d list.now slots.old slots.new (told result) s.old s.new }
 {
     if p == 0 {
-        return Answer::Planned(0);
+        return Ok(0);
     }
-    let colored = two_color::two_sides(s, p, d, list);
-    let TwoColoring::Sides(left) = colored else {
-        return Answer::Refused(9, 0);
+    let Some(left) = two_color::two_sides(s, p, d, list) else {
+        return Err(Refusal::OddRound);
     };
     given_partition::bipartite_edge_color_given_partition(s, slots, list, p, d, left);
-    Answer::Planned(d)
+    Ok(d)
 }
 
 // The same, and all of scratch is cleared.
-fn work_out_cleanly(s: &mut [u32], slots: &mut [u16], list: &[u16], p: usize, d: usize) -> Answer
+fn work_out_cleanly(
+    s: &mut [u32],
+    slots: &mut [u16],
+    list: &[u16],
+    p: usize,
+    d: usize,
+) -> Result<usize, Refusal>
     requires ready { Ready p d (p * (d + 1)) list.now s.old }
     requires list_in_bounds { length (appts list.now) ≤ length slots.old }
-    ensures worked_out { WorkedOut p d list.now slots.old slots.new (answer_of result) s.old s.new }
+    ensures worked_out { WorkedOut p d list.now slots.old slots.new (told result) s.old s.new }
     ensures s_after { s.new ≡ replicate (length s.old) 0 }
 {
     let answer = work_out(s, slots, list, p, d);
@@ -54,20 +57,20 @@ fn work_out_cleanly(s: &mut [u32], slots: &mut [u16], list: &[u16], p: usize, d:
 
 // The planning call: the slots of a list of appointments between `p` parties, or a refusal. Accepted, the first A entries of `slots`
 // hold the plan. The first W words of `scratch` are 0 after acceptance and after 9; 1 to 8 leave all. What both held affects nothing.
-pub fn bipartite_edge_color(p: u16, list: &[u16], slots: &mut [u16], scratch: &mut [u32]) -> Answer
-    ensures answer { answer_of result ≡ plan_answer (lent p list.now slots.old scratch.old) }
+pub fn bipartite_edge_color(
+    p: u16,
+    list: &[u16],
+    slots: &mut [u16],
+    scratch: &mut [u32],
+) -> Result<usize, Refusal>
+    ensures answer { told result ≡ plan_answer (lent p list.now slots.old scratch.old) }
     ensures slots { slots.new ≡ plan_slots (lent p list.now slots.old scratch.old) }
     ensures scratch { scratch.new ≡ plan_scratch (lent p list.now slots.old scratch.old) }
-    ensures demand_3 { Demand3 (lent p list.now slots.old scratch.old) (answer_of result) slots.new }
+    ensures demand_3 { Demand3 (lent p list.now slots.old scratch.old) (told result) slots.new }
 {
     let parties = p as usize;
-    let checked = checking::check_all(parties, list, slots.len(), scratch.len());
-    match checked {
-        Answered::Refused(number, place) => Answer::Refused(number, place),
-        Answered::Accepted(d) => {
-            let q = parties * (d + 1);
-            let w = 128 * q;
-            work_out_cleanly(&mut scratch[..w], slots, list, parties, d)
-        }
-    }
+    let d = checking::check_all(parties, list, slots.len(), scratch.len())?;
+    let q = parties * (d + 1);
+    let w = 128 * q;
+    work_out_cleanly(&mut scratch[..w], slots, list, parties, d)
 }

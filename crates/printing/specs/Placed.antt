@@ -1,23 +1,15 @@
--- What printing does to a lent buffer: bytes stored from a place on, and the place behind them. Assumes nothing.
+-- What printing does to the text that was put so far. Assumes nothing.
 use Rattle.std.specs.Prelude.{ℕ, ◌+◌, ◌*◌, ◌≤◌, ◌≡◌, List, [], ◌∷◌, ◌++◌, length, get_or}
-use Rattle.std.proofs.lemmas.List.Edits.{sets}
 use Rattle.appointments.specs.Appointments.{appt}
-use Rattle.appointments.specs.Answers.{over}
 use Rattle.printing.specs.Printing.{appointment_line}
 
--- the buffer has room for the bytes from a place on
-pub record Room (buffer : List ℕ) (at : ℕ) (bytes : List ℕ) : Type 0 where
-  pub fits : at + length bytes ≤ length buffer
+-- there is room for the bytes behind the text, which holds a number of bytes at most
+pub record Room (most : ℕ) (text bytes : List ℕ) : Type 0 where
+  pub fits : length text + length bytes ≤ most
 
--- the bytes are stored one after the other from a place on, and the next place is the one behind them
-pub record Placed (buffer : List ℕ) (at : ℕ) (bytes after : List ℕ) (next : ℕ) : Type 0 where
-  pub end : next ≡ at + length bytes
-  pub stored : after ≡ sets buffer at bytes
-
--- The bytes are the first ones of the buffer, whose later bytes stay, and they were counted.
-pub record Printed (bytes : List ℕ) (count : ℕ) (buffer after : List ℕ) : Type 0 where
-  pub counted : count ≡ length bytes
-  pub stored : after ≡ over bytes buffer
+-- the bytes stand behind the text, and nothing else changed
+pub record Placed (text bytes after : List ℕ) : Type 0 where
+  pub stored : after ≡ text ++ bytes
 
 -- a field and the byte behind it
 abbrev pub field : List ℕ → ℕ → List ℕ

@@ -4,7 +4,7 @@ use Prim.Native.Nat.{ℕ, ◌+◌, ◌<◌}
 use mathlib.Core.Path.{◌≡◌, refl, sym, ◌∙◌, ap, subst}
 use mathlib.Core.Bool.{Bool, true, false}
 use mathlib.Core.List.{List, [], ◌∷◌, ◌++◌}
-use mathlib.Core.Option.{Option, none, some}
+use Rattle.std.specs.Prelude.{Option, None, Some}
 use native.Mathlib.Omega.{arith}
 use native.Mathlib.Decide.{ℕ_discrete}
 use borrow.Author.Tests.{eq-eqb, ne_eqb}
@@ -96,10 +96,10 @@ GoesOn k (malformed n) whole = whole ≡ malformed n
 GoesOn k (input P list) whole = (n : ℕ) → whole ≡ malformed n → n ≡ k
 
 line_goes_on : (k n : ℕ) (o : Option Appt) (later whole : Input) → GoesOn k later whole → GoesOn k (and_then_lines n o later) (and_then_lines n o whole)
-line_goes_on k n none later whole h = refl
-line_goes_on k n (some x) (malformed m) whole h = ap (with_ends x) h
-line_goes_on k n (some x) (input P list) (malformed m) h = h
-line_goes_on k n (some x) (input P list) (input Q l) h = λ m e. let z : ◌≡◌ {A = ℕ} 0 1 = cc in absurd (omega arith)
+line_goes_on k n None later whole h = refl
+line_goes_on k n (Some x) (malformed m) whole h = ap (with_ends x) h
+line_goes_on k n (Some x) (input P list) (malformed m) h = h
+line_goes_on k n (Some x) (input P list) (input Q l) h = λ m e. cc
 
 -- a part stands behind the lines
 behind : (rest : List ℕ) (lines : List (List ℕ)) → 0 < length (lines ++ (rest ∷ []))
@@ -110,7 +110,7 @@ unfolding read_lines
 lines_go_on rest [] P n = go (eqb (length rest) 0)
   where
     go : (t : Bool) (m : ℕ) → pick t (input P []) (malformed n) ≡ malformed m → m ≡ n + 0
-    go true m q = let z : ◌≡◌ {A = ℕ} 0 1 = cc in absurd (omega arith)
+    go true m q = cc
     go false m q = let same : n ≡ m = cc in omega arith
 lines_go_on rest (line ∷ lines) P n =
     let later : GoesOn (n + length (line ∷ lines)) (read_lines P (n + 1) (lines ++ ([] ∷ []))) (read_lines P (n + 1) (lines ++ (rest ∷ []))) =
@@ -127,8 +127,8 @@ text_goes_on bytes = go (parted bytes).lines (parted bytes).all (parted bytes).o
 
     first : (line : List ℕ) (lines : List (List ℕ)) (o : Option ℕ) → 1 + count line_feed bytes ≡ 2 + length lines
         → GoesOn (1 + count line_feed bytes) (with_parties o (lines ++ ([] ∷ []))) (with_parties o (lines ++ (rest ∷ [])))
-    first line lines none k = refl
-    first line lines (some P) k = rw k (lines_go_on rest lines P 2)
+    first line lines None k = refl
+    first line lines (Some P) k = rw k (lines_go_on rest lines P 2)
 
     go : (lines : List (List ℕ)) → parts line_feed bytes ≡ lines ++ (rest ∷ []) → parts line_feed (ended bytes) ≡ lines ++ ([] ∷ [])
         → GoesOn (1 + count line_feed bytes) (read_text (ended bytes)) (read_text bytes)
@@ -159,8 +159,8 @@ module _ (bytes : List ℕ) where
   broken_no_list P list = go (read_text bytes)
     where
       go : (i : Input) → broke_off bytes i ≡ input P list → ⊥
-      go (malformed n) e = let z : ◌≡◌ {A = ℕ} 0 1 = cc in omega arith
-      go (input Q l) e = let z : ◌≡◌ {A = ℕ} 0 1 = cc in omega arith
+      go (malformed n) e = cc
+      go (input Q l) e = cc
 
 -- A broken input is read as specs/Broken.antt says.
 pub reads_broken : (bytes : List ℕ) → ReadsBroken bytes

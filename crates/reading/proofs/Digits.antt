@@ -3,7 +3,7 @@ use Prim.Native.Nat.{ℕ, ◌+◌, ◌-◌, ◌*◌, ◌≤◌, ◌<◌}
 use mathlib.Core.Path.{◌≡◌, sym, ◌∙◌, ap}
 use mathlib.Core.Bool.{true}
 use mathlib.Core.List.{List, [], ◌∷◌, ◌++◌}
-use mathlib.Core.Option.{some}
+use Rattle.std.specs.Prelude.{Some}
 use native.Mathlib.Omega.{arith}
 use borrow.Author.Tests.{le-leb}
 use Rattle.words.specs.Basics.{All}
@@ -20,7 +20,7 @@ pub value_digit : (v b : ℕ) (rest : List ℕ) → Digit b → digits_value v (
 unfolding digits_value
 value_digit v b rest d = rw (digit_test b d)
 
-pub value_append : (v m : ℕ) (front rest : List ℕ) → All Digit front → digits_value v front ≡ some m → digits_value v (front ++ rest) ≡ digits_value m rest
+pub value_append : (v m : ℕ) (front rest : List ℕ) → All Digit front → digits_value v front ≡ Some m → digits_value v (front ++ rest) ≡ digits_value m rest
 unfolding digits_value
 value_append v m [] rest h e = let same : v ≡ m = cc in rw same
 value_append v m (b ∷ front) rest h e =
@@ -28,8 +28,8 @@ value_append v m (b ∷ front) rest h e =
     ∙ value_append (10 * v + (b - 48)) m front rest h.1 (sym (value_digit v b front h.0) ∙ e)
 
 -- the value of one more digit
-pub value_last : (m d : ℕ) → d < 10 → digits_value m ((48 + d) ∷ []) ≡ some (10 * m + d)
+pub value_last : (m d : ℕ) → d < 10 → digits_value m ((48 + d) ∷ []) ≡ Some (10 * m + d)
 unfolding digits_value
 value_last m d h =
     value_digit m (48 + d) [] (record { low = omega arith; high = omega arith })
-    ∙ ap some (omega arith)
+    ∙ ap Some (omega arith)

@@ -1,10 +1,10 @@
 -- Reading line by line, by the definition: what was read so far stands first in the lent list, and the lines that are left give
 -- the rest. Assumes nothing.
 use Prim.Native.Nat.{ℕ, ◌+◌, ◌-◌, ◌/◌, ◌≤◌, ◌<◌}
-use mathlib.Core.Path.{◌≡◌, refl, sym, ◌∙◌, ap, subst}
+use mathlib.Core.Path.{◌≡◌, refl, sym, ◌∙◌, ap}
 use mathlib.Core.Bool.{Bool, true, false}
 use mathlib.Core.List.{List, [], ◌∷◌, ◌++◌, append_assoc, append-nil}
-use mathlib.Core.Option.{Option, none, some}
+use Rattle.std.specs.Prelude.{Option, None, Some, option_map, Ok, Err}
 use native.Mathlib.Omega.{arith}
 use native.Mathlib.Numerals.{add-one}
 use borrow.Author.Tests.{ne_eqb}
@@ -13,50 +13,47 @@ use lib.Seq.{drop-length, drop-drop, drop-append-add, length-take-le, take_at, s
 use Rattle.appointments.specs.Appointments.{Appt, appt}
 use Rattle.words.specs.Ascii.{line_feed}
 use Rattle.reading.specs.Reading.{parts, number, appointment_of, Input, input, malformed, with_ends, and_then_lines, read_lines, with_parties, read_text, read_input}
-use Rattle.reading.specs.Told.{FirstAt, value_of, ends_of, OneLine, NextLine, ReadAs}
-use Rattle.reading.specs.declared.Value.TheVariants as value
-use Rattle.reading.specs.declared.Ends.TheVariants as ends
+use Rattle.appointments.specs.declared.Refusal.{Refusal}
+use Rattle.appointments.specs.declared.Refusal.TheVariants.{MalformedLine}
+use Rattle.reading.specs.Told.{FirstAt, ends_of, OneLine, ReadAs}
+use Rattle.reading.specs.declared.Ends.{Ends}
 use Rattle.reading.specs.declared.Line.{Line}
-use Rattle.reading.specs.declared.Line.TheVariants as line
 use Rattle.reading.specs.declared.ReadInput.{ReadInput}
-use Rattle.reading.specs.declared.ReadInput.TheVariants as read
-use Rattle.reading.proofs.Parting.{parts_at, parts_none, parts_some}
+use Rattle.reading.proofs.Parting.{Unfound, parts_at, parts_none, parts_some}
 use Rattle.reading.proofs.ReadingLaws.{LineRead, line_is, line_step, first_step, reads}
-use Rattle.reading.proofs.ParsingSteps.{is_some, is_none}
 
 -- ── one line ──
 
-ends_some : (a b : ℕ) (o : Option Appt) → ends.Both a b ≡ ends_of o → o ≡ some (appt a b)
-ends_some a b (some x) e =
-    let one : a ≡ x.first = cc in
-    let two : b ≡ x.second = cc in
-    rw (one, two)
-ends_some a b none e = let z : ◌≡◌ {A = ℕ} 0 1 = cc in absurd (omega arith)
+told_some : (ends : Ends) (o : Option Appt) → Some ends ≡ option_map ends_of o → o ≡ Some (appt ends.first ends.second)
+told_some ends (Some x) e =
+    let same : ends ≡ ends_of x = cc in
+    rw same
+told_some ends None e = cc
 
-ends_none : (o : Option Appt) → ends.Missing ≡ ends_of o → o ≡ none
-ends_none (some x) e = let z : ◌≡◌ {A = ℕ} 0 1 = cc in absurd (omega arith)
-ends_none none e = refl
+told_none : (o : Option Appt) → None ≡ option_map ends_of o → o ≡ None
+told_none (Some x) e = cc
+told_none None e = refl
 
-module _ (bytes rest : List ℕ) (from end : ℕ) (e : rest ≡ drop from bytes) (h : from < length bytes) (f : FirstAt line_feed rest end) where
+module _ (bytes rest : List ℕ) (from : ℕ) (e : rest ≡ drop from bytes) (h : from < length bytes) where
   rest_length : length rest ≡ length bytes - from
   rest_length = ap length e ∙ length-drop from bytes
 
   -- no line feed
-  pub line_unended : end ≡ length rest → (P n : ℕ) → read_lines P n (parts line_feed (drop from bytes)) ≡ malformed n
+  pub line_unended : Unfound line_feed rest → (P n : ℕ) → read_lines P n (parts line_feed (drop from bytes)) ≡ malformed n
   unfolding read_lines
-  line_unended u P n =
+  line_unended f P n =
       let some_byte : length rest ≡ 0 → ⊥ = λ z. omega (arith, rest_length) in
-      rw (← e, parts_none line_feed rest end f u, ne_eqb (length rest) 0 some_byte)
+      rw (← e, parts_none line_feed rest f, ne_eqb (length rest) 0 some_byte)
 
-  module _ (k : end < length rest) where
+  module _ (end : ℕ) (f : FirstAt line_feed rest end) where
     line_parted : (P n : ℕ) → read_lines P n (parts line_feed (drop from bytes)) ≡ and_then_lines n (appointment_of (take end rest)) (read_lines P (n + 1) (parts line_feed (drop (end + 1) rest)))
     line_parted P n =
-        rw (← e, parts_at line_feed rest end f k)
+        rw (← e, parts_at line_feed rest end f)
         (line_step P n (take end rest) (parts line_feed (drop (end + 1) rest)) (parts_some line_feed (drop (end + 1) rest)))
 
-    pub line_malformed : ends.Missing ≡ ends_of (appointment_of (take end rest)) → (P n : ℕ) → read_lines P n (parts line_feed (drop from bytes)) ≡ malformed n
+    pub line_malformed : None ≡ option_map ends_of (appointment_of (take end rest)) → (P n : ℕ) → read_lines P n (parts line_feed (drop from bytes)) ≡ malformed n
     line_malformed m P n =
-        let gone : appointment_of (take end rest) ≡ none = ends_none (appointment_of (take end rest)) m in
+        let gone : appointment_of (take end rest) ≡ None = told_none (appointment_of (take end rest)) m in
         line_parted P n ∙ ap (λ (o : Option Appt). and_then_lines n o (read_lines P (n + 1) (parts line_feed (drop (end + 1) rest)))) gone
 
     behind_line : drop (end + 1) rest ≡ drop (from + end + 1) bytes
@@ -64,27 +61,19 @@ module _ (bytes rest : List ℕ) (from end : ℕ) (e : rest ≡ drop from bytes)
         let on : from + (end + 1) ≡ from + end + 1 = omega arith in
         ap (drop (end + 1)) e ∙ drop-drop (end + 1) from bytes ∙ ap (λ (j : ℕ). drop j bytes) on
 
-    pub line_read : (a b : ℕ) → ends.Both a b ≡ ends_of (appointment_of (take end rest)) → OneLine bytes from a b (from + end + 1)
-    line_read a b m =
-        let got : appointment_of (take end rest) ≡ some (appt a b) = ends_some a b (appointment_of (take end rest)) m in
-        let l : LineRead (take end rest) (appt a b) = line_is (take end rest) (appt a b) got in
+    pub line_read : (ends : Ends) → Some ends ≡ option_map ends_of (appointment_of (take end rest)) → OneLine bytes from (record { ends = ends; next = from + end + 1 })
+    line_read ends m =
+        let x : Appt = appt ends.first ends.second in
+        let got : appointment_of (take end rest) ≡ Some x = told_some ends (appointment_of (take end rest)) m in
+        let l : LineRead (take end rest) x = line_is (take end rest) x got in
         record {
-          first_end = l.first_end;
-          second_end = l.second_end;
-          on = omega (arith, l.some_byte, length-take-le end rest (omega arith));
-          inside = omega (arith, rest_length);
+          on = omega (arith, l.some_byte, length-take-le end rest (omega (arith, f.inside)));
+          inside = omega (arith, rest_length, f.inside);
           lines = λ P n.
               line_parted P n
               ∙ ap (λ (o : Option Appt). and_then_lines n o (read_lines P (n + 1) (parts line_feed (drop (end + 1) rest)))) got
-              ∙ ap (λ (l : List ℕ). with_ends (appt a b) (read_lines P (n + 1) (parts line_feed l))) behind_line;
+              ∙ ap (λ (l : List ℕ). with_ends x (read_lines P (n + 1) (parts line_feed l))) behind_line;
         }
-
--- what is told of a line
-pub told_line : {bytes : List ℕ} {from a b next : ℕ} {l : Line} → l ≡ line.Of a b next → NextLine bytes from l → OneLine bytes from a b next
-told_line {bytes} {from} e h = subst (NextLine bytes from) e h
-
-pub told_malformed : (bytes : List ℕ) (from : ℕ) {l : Line} → l ≡ line.Malformed → NextLine bytes from l → NextLine bytes from line.Malformed
-told_malformed bytes from e h = subst (NextLine bytes from) e h
 
 -- ── the lines ──
 
@@ -142,8 +131,10 @@ module _ {P : ℕ} {bytes before : List ℕ} {n count from : ℕ} {list : List �
       ∙ ap (λ (l : List ℕ). (l ++ (a ∷ b ∷ [])) ++ drop (count + 2) list) front
       ∙ ap (λ (l : List ℕ). (s.done ++ (a ∷ b ∷ [])) ++ l) back)
 
-  pub so_far_more : (a b next : ℕ) → OneLine bytes from a b next → SoFar P bytes before (n + 1) (count + 2) next (set (set list count a) (count + 1) b)
-  so_far_more a b next o =
+  pub so_far_more : (l : Line) → OneLine bytes from l → SoFar P bytes before (n + 1) (count + 2) l.next (set (set list count l.ends.first) (count + 1) l.ends.second)
+  so_far_more l o =
+      let a : ℕ = l.ends.first in
+      let b : ℕ = l.ends.second in
       record {
         done = s.done ++ (a ∷ b ∷ []);
         counted = omega (arith, length-append s.done (a ∷ b ∷ []), s.counted);
@@ -151,16 +142,16 @@ module _ {P : ℕ} {bytes before : List ℕ} {n count from : ℕ} {list : List �
         lines =
             s.lines
             ∙ ap (behind s.done) (o.lines P n)
-            ∙ behind_more s.done a b (read_lines P (n + 1) (parts line_feed (drop next bytes)));
+            ∙ behind_more s.done a b (read_lines P (n + 1) (parts line_feed (drop l.next bytes)));
         few = omega (arith, s.few, o.on);
         inside = o.inside;
         line_number = omega (arith, s.line_number, o.on);
       }
 
-  pub so_far_malformed : ((Q m : ℕ) → read_lines Q m (parts line_feed (drop from bytes)) ≡ malformed m) → ReadAs (read_lines P 2 (parts line_feed bytes)) (read.Malformed n) before list
+  pub so_far_malformed : ((Q m : ℕ) → read_lines Q m (parts line_feed (drop from bytes)) ≡ malformed m) → ReadAs (read_lines P 2 (parts line_feed bytes)) (Err (MalformedLine n)) before list
   so_far_malformed h = rw (s.lines, h P n) refl
 
-  pub so_far_all : from ≡ length bytes → ReadAs (read_lines P 2 (parts line_feed bytes)) (read.Input P count) before list
+  pub so_far_all : from ≡ length bytes → ReadAs (read_lines P 2 (parts line_feed bytes)) (Ok (record { parties = P; count = count })) before list
   unfolding read_lines parts
   so_far_all e =
       let over : drop from bytes ≡ [] = ap (λ (k : ℕ). drop k bytes) e ∙ drop-length bytes in
@@ -168,62 +159,62 @@ module _ {P : ℕ} {bytes before : List ℕ} {n count from : ℕ} {list : List �
 
 -- ── the first line ──
 
-pub text_unended : (bytes : List ℕ) (end : ℕ) → FirstAt line_feed bytes end → end ≡ length bytes → (before after : List ℕ) → ReadAs (read_text bytes) (read.Malformed 1) before after
+pub text_unended : (bytes : List ℕ) → Unfound line_feed bytes → read_text bytes ≡ malformed 1
 unfolding read_text
-text_unended bytes end f e before after = rw (parts_none line_feed bytes end f e) refl
+text_unended bytes f = rw (parts_none line_feed bytes f)
 
-module _ (bytes : List ℕ) (end : ℕ) (f : FirstAt line_feed bytes end) (h : end < length bytes) where
+module _ (bytes : List ℕ) (end : ℕ) (f : FirstAt line_feed bytes end) where
   first_line : read_text bytes ≡ with_parties (number (take end bytes)) (parts line_feed (drop (end + 1) bytes))
   unfolding read_text
   first_line =
-      rw (parts_at line_feed bytes end f h)
+      rw (parts_at line_feed bytes end f)
       (first_step (take end bytes) (parts line_feed (drop (end + 1) bytes)) (parts_some line_feed (drop (end + 1) bytes)))
 
-  pub text_no_number : value.Missing ≡ value_of (number (take end bytes)) → (before after : List ℕ) → ReadAs (read_text bytes) (read.Malformed 1) before after
-  text_no_number m before after = rw (first_line, is_none (number (take end bytes)) m) refl
+  pub text_no_number : None ≡ number (take end bytes) → read_text bytes ≡ malformed 1
+  text_no_number m = rw (first_line, ← m)
 
-  pub text_lines : (P : ℕ) → value.Is P ≡ value_of (number (take end bytes)) → read_text bytes ≡ read_lines P 2 (parts line_feed (drop (end + 1) bytes))
-  text_lines P m = rw (first_line, is_some P (number (take end bytes)) m)
+  pub text_lines : (P : ℕ) → Some P ≡ number (take end bytes) → read_text bytes ≡ read_lines P 2 (parts line_feed (drop (end + 1) bytes))
+  text_lines P m = rw (first_line, ← m)
 
 -- ── what was read ──
 
 -- P and the first numbers of the lent list
-pub record WasRead (i : Input) (P count : ℕ) (lent : List ℕ) : Type 0 where
-  pub inside : count ≤ length lent
-  pub is : i ≡ input P (take count lent)
+pub record WasRead (i : Input) (r : ReadInput) (lent : List ℕ) : Type 0 where
+  pub inside : r.count ≤ length lent
+  pub is : i ≡ input r.parties (take r.count lent)
 
-pub was_read : (i : Input) (r : ReadInput) (P count : ℕ) (before after : List ℕ) → r ≡ read.Input P count → ReadAs i r before after → WasRead i P count after
-was_read (input Q list) r P count before after e t =
-    let same : read.Input P count ≡ read.Input Q (length list) = sym e ∙ t.0 in
-    let same_P : P ≡ Q = cc in
-    let same_count : count ≡ length list = cc in
-    let front : take count after ≡ list = rw t.1 (take_at list (drop (length list) before) count (sym same_count)) in
+pub was_read : (i : Input) (r : ReadInput) (before after : List ℕ) → ReadAs i (Ok r) before after → WasRead i r after
+was_read (input Q list) r before after t =
+    let same_P : r.parties ≡ Q = cc in
+    let same_count : r.count ≡ length list = cc in
+    let front : take r.count after ≡ list = rw t.1 (take_at list (drop (length list) before) r.count (sym same_count)) in
     record {
       inside = rw (t.1, length-append list (drop (length list) before)) (omega (arith, same_count));
       is = rw (front, same_P);
     }
-was_read (malformed n) r P count before after e t = let z : ◌≡◌ {A = ℕ} 0 1 = cc in absurd (omega arith)
+was_read (malformed n) r before after t = cc
 
 -- or the malformed line
-pub was_malformed : (i : Input) (r : ReadInput) (n : ℕ) (before after : List ℕ) → r ≡ read.Malformed n → ReadAs i r before after → i ≡ malformed n
-was_malformed (input Q list) r n before after e t = let z : ◌≡◌ {A = ℕ} 0 1 = cc in absurd (omega arith)
-was_malformed (malformed m) r n before after e t = let same : m ≡ n = cc in ap malformed same
+pub was_malformed : (i : Input) (e : Refusal) (before after : List ℕ) → ReadAs i (Err e) before after → (n : ℕ) × (i ≡ malformed n) × (e ≡ MalformedLine n)
+was_malformed (input Q list) e before after t = let no : Ok _ ≡ Err e = sym t.0 in cc
+was_malformed (malformed m) e before after t = (m, refl, cc)
 
 -- ── of an input that may be broken ──
 
-module _ (bytes : List ℕ) (r : ReadInput) (before after : List ℕ) (t : ReadAs (read_text bytes) r before after) where
-  pub input_malformed : (broken : Bool) (n : ℕ) → r ≡ read.Malformed n → ReadAs (read_input broken bytes) r before after
+module _ (bytes before after : List ℕ) where
+  pub input_malformed : (broken : Bool) (e : Refusal) → ReadAs (read_text bytes) (Err e) before after → ReadAs (read_input broken bytes) (Err e) before after
   unfolding read_input
-  input_malformed false n e = t
-  input_malformed true n e = rw (was_malformed (read_text bytes) r n before after e t) e
+  input_malformed false e t = t
+  input_malformed true e t = let m = was_malformed (read_text bytes) e before after t in rw m.1 (ap Err m.2)
 
-  pub input_broken : (P count n : ℕ) → r ≡ read.Input P count → n ≡ count / 2 + 2 → ReadAs (read_input true bytes) (read.Malformed n) before after
-  unfolding read_input
-  input_broken P count n e h =
-      let w : WasRead (read_text bytes) P count after = was_read (read_text bytes) r P count before after e t in
-      rw w.is
-      (ap read.Malformed (omega (arith, (reads bytes P (take count after) w.is).lines, length-take-le count after w.inside)))
+  module _ (r : ReadInput) (t : ReadAs (read_text bytes) (Ok r) before after) where
+    pub input_broken : ReadAs (read_input true bytes) (Err (MalformedLine (r.count / 2 + 2))) before after
+    unfolding read_input
+    input_broken =
+        let w : WasRead (read_text bytes) r after = was_read (read_text bytes) r before after t in
+        rw w.is
+        (ap (λ (n : ℕ). Err (MalformedLine n)) (omega (arith, (reads bytes r.parties (take r.count after) w.is).lines, length-take-le r.count after w.inside)))
 
-  pub input_whole : (P count : ℕ) → r ≡ read.Input P count → ReadAs (read_input false bytes) (read.Input P count) before after
-  unfolding read_input
-  input_whole P count e = rw e at t
+    pub input_whole : ReadAs (read_input false bytes) (Ok r) before after
+    unfolding read_input
+    input_whole = t

@@ -1,23 +1,18 @@
 -- The steps of reading by the definitions: a digit more, a number, an end, a line. Assumes nothing.
 use Prim.Native.Nat.{ℕ, suc, ◌+◌, ◌-◌, ◌*◌, ◌^◌, ◌≤◌, ◌<◌}
 use mathlib.Core.Path.{◌≡◌, refl, sym, ◌∙◌, ap}
-use mathlib.Core.Bool.{false}
+use mathlib.Core.Bool.{true, false}
 use mathlib.Core.List.{List, [], ◌∷◌}
-use mathlib.Core.Option.{Option, none, some}
+use Rattle.std.specs.Prelude.{Option, None, Some, is_some, option_map}
 use native.Mathlib.Omega.{arith}
 use native.Mathlib.Nat.{pow-le-pow_right}
 use native.Mathlib.Numerals.{add-one}
-use borrow.Author.Tests.{eq-eqb, ne_eqb, le-leb, lt-leb, lt-ltb, le-ltb}
 use lib.ListN.{length, get_or, take, drop}
 use lib.Seq.{drop-cons, drop-length}
-use Rattle.appointments.specs.Checks.{blank}
 use Rattle.words.specs.Ascii.{comma}
-use Rattle.reading.specs.Reading.{parts, is_digit, digits_value, below_blank, number, end_of, both, two_ends, appointment_of}
-use Rattle.reading.specs.Told.{FirstAt, value_of, ends_of}
-use Rattle.reading.specs.declared.Value.TheVariants as value
-use Rattle.reading.specs.declared.Ends.TheVariants as ends
-use Rattle.reading.proofs.Parting.{parts_at, parts_none, parts_some}
-use Rattle.reading.proofs.ReadingLaws.{end_number}
+use Rattle.reading.specs.Reading.{parts, is_digit, digits_value, end_of, both, two_ends, appointment_of}
+use Rattle.reading.specs.Told.{FirstAt, ends_of}
+use Rattle.reading.proofs.Parting.{Unfound, Finds, parts_at, parts_none, parts_some}
 use Rattle.reading.proofs.Digits.{value_digit}
 
 -- ── digits ──
@@ -50,106 +45,62 @@ module _ {bytes : List ℕ} {v i : ℕ} (d : DigitsSoFar bytes v i) where
       }
 
   -- a byte that is no digit
-  pub digits_other : i < length bytes → is_digit (get_or bytes i 0) ≡ false → value.Missing ≡ value_of (digits_value 0 bytes)
+  pub digits_other : i < length bytes → is_digit (get_or bytes i 0) ≡ false → None ≡ digits_value 0 bytes
   unfolding digits_value
   digits_other h other =
-      let gone : digits_value v (get_or bytes i 0 ∷ drop (suc i) bytes) ≡ none = rw other in
-      ap value_of (sym (next_digit h ∙ gone))
+      let gone : digits_value v (get_or bytes i 0 ∷ drop (suc i) bytes) ≡ None = rw other in
+      sym (next_digit h ∙ gone)
 
-  pub digits_all : i ≡ length bytes → value.Is v ≡ value_of (digits_value 0 bytes)
+  pub digits_all : i ≡ length bytes → Some v ≡ digits_value 0 bytes
   unfolding digits_value
   digits_all e =
       let over : drop i bytes ≡ [] = ap (λ (k : ℕ). drop k bytes) e ∙ drop-length bytes in
-      ap value_of (sym (d.rest ∙ ap (digits_value v) over))
-
-pub below_digits : (b : ℕ) → b < 48 → is_digit b ≡ false
-below_digits b h = rw (lt-leb 48 b h)
-
-pub above_digits : (b : ℕ) → 57 < b → is_digit b ≡ false
-above_digits b h = rw (le-leb 48 b (omega arith), lt-leb b 57 h)
-
--- what is told of a value
-pub is_some : (v : ℕ) (o : Option ℕ) → value.Is v ≡ value_of o → o ≡ some v
-is_some v (some w) e = let same : v ≡ w = cc in ap some (sym same)
-is_some v none e = let z : ◌≡◌ {A = ℕ} 0 1 = cc in absurd (omega arith)
-
-pub is_none : (o : Option ℕ) → value.Missing ≡ value_of o → o ≡ none
-is_none (some v) e = let z : ◌≡◌ {A = ℕ} 0 1 = cc in absurd (omega arith)
-is_none none e = refl
-
--- ── a number ──
-
-pub number_empty : (bytes : List ℕ) → length bytes ≡ 0 → value.Missing ≡ value_of (number bytes)
-unfolding number
-number_empty bytes h = rw (eq-eqb (length bytes) 0 h)
-
-pub number_long : (bytes : List ℕ) → 5 < length bytes → value.Missing ≡ value_of (number bytes)
-unfolding number
-number_long bytes h = rw (ne_eqb (length bytes) 0 (omega arith), lt-ltb 5 (length bytes) h)
-
--- 1 to 5 bytes
-module _ (bytes : List ℕ) (some_byte : length bytes ≡ 0 → ⊥) (short : length bytes ≤ 5) where
-  number_digits : number bytes ≡ below_blank (digits_value 0 bytes)
-  unfolding number
-  number_digits = rw (ne_eqb (length bytes) 0 some_byte, le-ltb 5 (length bytes) short)
-
-  pub number_other : value.Missing ≡ value_of (digits_value 0 bytes) → value.Missing ≡ value_of (number bytes)
-  number_other h = rw number_digits (go (digits_value 0 bytes) h)
-    where
-      go : (o : Option ℕ) → value.Missing ≡ value_of o → value.Missing ≡ value_of (below_blank o)
-      go (some v) e = cc
-      go none e = refl
-
-  pub number_large : (v : ℕ) → value.Is v ≡ value_of (digits_value 0 bytes) → 65535 ≤ v → value.Missing ≡ value_of (number bytes)
-  number_large v h l = rw (number_digits, is_some v (digits_value 0 bytes) h, le-ltb v blank l)
-
-  pub number_read : (v : ℕ) → value.Is v ≡ value_of (digits_value 0 bytes) → v < 65535 → value.Is v ≡ value_of (number bytes)
-  number_read v h l = rw (number_digits, is_some v (digits_value 0 bytes) h, lt-ltb v blank l)
-
--- ── an end ──
-
-pub end_empty : (bytes : List ℕ) → length bytes ≡ 0 → value.Is 65535 ≡ value_of (end_of bytes)
-unfolding end_of
-end_empty [] h = refl
-end_empty (b ∷ bytes) h = absurd (omega arith)
-
-pub end_filled : (bytes : List ℕ) → (length bytes ≡ 0 → ⊥) → value_of (number bytes) ≡ value_of (end_of bytes)
-end_filled bytes h = ap value_of (sym (end_number bytes (omega arith)))
+      sym (d.rest ∙ ap (digits_value v) over)
 
 -- ── a line of an appointment ──
 
-both_none : (o : Option ℕ) → both o none ≡ none
-both_none (some v) = refl
-both_none none = refl
+-- what the line tells: its ends, or that it has none
+both_none : (o : Option ℕ) → both o None ≡ None
+both_none (Some v) = refl
+both_none None = refl
 
 -- a line without a comma
-pub ends_unparted : (line : List ℕ) (i : ℕ) → FirstAt comma line i → i ≡ length line → ends.Missing ≡ ends_of (appointment_of line)
+pub ends_unparted : (line : List ℕ) → Unfound comma line → None ≡ option_map ends_of (appointment_of line)
 unfolding appointment_of
-ends_unparted line i f e = rw (parts_none comma line i f e)
+ends_unparted line f = rw (parts_none comma line f)
 
-module _ (line back : List ℕ) (i j : ℕ) (f : FirstAt comma line i) (h : i < length line) (e : back ≡ drop (i + 1) line) (g : FirstAt comma back j) where
+module _ (line back : List ℕ) (i : ℕ) (f : FirstAt comma line i) (e : back ≡ drop (i + 1) line) (o : Option ℕ) (g : Finds comma back o) where
   parted : parts comma line ≡ take i line ∷ parts comma back
-  parted = rw e (parts_at comma line i f h)
+  parted = rw e (parts_at comma line i f)
 
   -- a second comma
-  pub ends_three : j < length back → ends.Missing ≡ ends_of (appointment_of line)
+  pub ends_three : is_some o ≡ true → None ≡ option_map ends_of (appointment_of line)
   unfolding appointment_of
-  ends_three k = rw (parted, parts_at comma back j g k) (go (parts comma (drop (j + 1) back)) (parts_some comma (drop (j + 1) back)))
+  ends_three s = go o g s
     where
-      go : (ps : List (List ℕ)) → 0 < length ps → ends.Missing ≡ ends_of (two_ends (take i line ∷ take j back ∷ ps))
-      go [] l = absurd (omega arith)
-      go (p ∷ ps) l = refl
+      two : (ps : List (List ℕ)) → 0 < length ps → (b : List ℕ) → two_ends (take i line ∷ b ∷ ps) ≡ None
+      two [] l b = absurd (omega arith)
+      two (p ∷ ps) l b = refl
 
-  module _ (k : length back ≤ j) where
+      go : (o : Option ℕ) → Finds comma back o → is_some o ≡ true → None ≡ option_map ends_of (two_ends (parts comma line))
+      go None g s = cc
+      go (Some j) g s = rw (parted, parts_at comma back j g, two (parts comma (drop (j + 1) back)) (parts_some comma (drop (j + 1) back)) (take j back))
+
+  -- none
+  module _ (s : is_some o ≡ false) where
     two_parts : appointment_of line ≡ both (end_of (take i line)) (end_of back)
     unfolding appointment_of
-    two_parts = rw (parted, parts_none comma back j g (omega (arith, g.inside)))
+    two_parts = rw (parted, go o g s)
+      where
+        go : (o : Option ℕ) → Finds comma back o → is_some o ≡ false → parts comma back ≡ back ∷ []
+        go None g s = parts_none comma back g
+        go (Some j) g s = cc
 
-    pub ends_no_first : value.Missing ≡ value_of (end_of (take i line)) → ends.Missing ≡ ends_of (appointment_of line)
-    ends_no_first a = rw (two_parts, is_none (end_of (take i line)) a)
+    pub ends_no_first : None ≡ end_of (take i line) → None ≡ option_map ends_of (appointment_of line)
+    ends_no_first a = rw (two_parts, ← a)
 
-    pub ends_no_second : value.Missing ≡ value_of (end_of back) → ends.Missing ≡ ends_of (appointment_of line)
-    ends_no_second b = rw (two_parts, is_none (end_of back) b, both_none (end_of (take i line)))
+    pub ends_no_second : None ≡ end_of back → None ≡ option_map ends_of (appointment_of line)
+    ends_no_second b = rw (two_parts, ← b, both_none (end_of (take i line)))
 
-    pub ends_both : (a b : ℕ) → value.Is a ≡ value_of (end_of (take i line)) → value.Is b ≡ value_of (end_of back) → ends.Both a b ≡ ends_of (appointment_of line)
-    ends_both a b p q = rw (two_parts, is_some a (end_of (take i line)) p, is_some b (end_of back) q)
+    pub ends_both : (a b : ℕ) → Some a ≡ end_of (take i line) → Some b ≡ end_of back → Some (record { first = a; second = b }) ≡ option_map ends_of (appointment_of line)
+    ends_both a b p q = rw (two_parts, ← p, ← q)

@@ -4,10 +4,11 @@ use mathlib.Core.Path.{◌≡◌, refl, sym, ◌∙◌, ap}
 use mathlib.Core.Bool.{Bool, true, false}
 use mathlib.Core.List.{List, [], ◌∷◌, ◌++◌}
 use native.Mathlib.Omega.{arith}
+use Rattle.std.specs.Prelude.{Option, MatchOption}
 use native.Mathlib.Numerals.{add-one}
 use borrow.Author.Tests.{eq-eqb, ne_eqb}
 use lib.Dec.{eqb}
-use lib.ListN.{length, take, drop, length-drop}
+use lib.ListN.{length, get_or, take, drop, length-drop}
 use lib.Seq.{take_all, split_at, get_or-take, length-take-le}
 use Rattle.words.specs.Basics.{pick, All}
 use Rattle.words.proofs.Sums.{all_by}
@@ -53,20 +54,26 @@ module _ (separator : ℕ) (bytes : List ℕ) (i : ℕ) (f : FirstAt separator b
   free_before =
       all_by (λ (b : ℕ). b ≡ separator → ⊥) (take i bytes) 0
       (λ k h q.
-      let l : k < i = omega (arith, length-take-le i bytes f.inside) in
+      let l : k < i = omega (arith, length-take-le i bytes (omega (arith, f.inside))) in
       f.before k l (sym (get_or-take i bytes k 0 l) ∙ q))
 
   -- the part before it, then the parts behind it
-  pub parts_at : i < length bytes → parts separator bytes ≡ take i bytes ∷ parts separator (drop (i + 1) bytes)
-  parts_at h =
+  pub parts_at : parts separator bytes ≡ take i bytes ∷ parts separator (drop (i + 1) bytes)
+  parts_at =
       let whole : bytes ≡ take i bytes ++ (separator ∷ drop (suc i) bytes) =
-      split_at bytes i 0 h ∙ ap (λ (b : ℕ). take i bytes ++ (b ∷ drop (suc i) bytes)) (f.here h) in
+      split_at bytes i 0 f.inside ∙ ap (λ (b : ℕ). take i bytes ++ (b ∷ drop (suc i) bytes)) f.here in
       rw (add-one i) (ap (parts separator) whole ∙ parts_first separator (take i bytes) (drop (suc i) bytes) free_before)
 
 -- none was found
-pub parts_none : (separator : ℕ) (bytes : List ℕ) (i : ℕ) → FirstAt separator bytes i → i ≡ length bytes → parts separator bytes ≡ bytes ∷ []
-parts_none separator bytes i f e =
-    parts_last separator bytes (all_by (λ (b : ℕ). b ≡ separator → ⊥) bytes 0 (λ k h q. f.before k (omega arith) q))
+abbrev pub Unfound : ℕ → List ℕ → Type 0
+Unfound separator bytes = (k : ℕ) → k < length bytes → get_or bytes k 0 ≡ separator → ⊥
+
+-- what a search found
+abbrev pub Finds : ℕ → List ℕ → Option ℕ → Type 0
+Finds separator bytes o = MatchOption o (Unfound separator bytes) (FirstAt separator bytes)
+
+pub parts_none : (separator : ℕ) (bytes : List ℕ) → Unfound separator bytes → parts separator bytes ≡ bytes ∷ []
+parts_none separator bytes f = parts_last separator bytes (all_by (λ (b : ℕ). b ≡ separator → ⊥) bytes 0 f)
 
 -- a part up to the end
 pub to_the_end : (l : List ℕ) (k : ℕ) → take (length l - k) (drop k l) ≡ drop k l

@@ -4,7 +4,7 @@ use Prim.Native.Nat.{ℕ, suc, ◌+◌, ◌*◌, ◌%◌, ◌/◌, ◌≤◌, �
 use mathlib.Core.Path.{◌≡◌, refl, sym, ◌∙◌, ap, subst}
 use mathlib.Core.Bool.{Bool, true, false, ◌||◌}
 use mathlib.Core.List.{List, [], ◌∷◌}
-use mathlib.Core.Option.{Option, none, some}
+use Rattle.std.specs.Prelude.{Option, None, Some}
 use native.Mathlib.Omega.{arith}
 use borrow.Author.Tests.{eqb-true, eqb-false, ltb-true}
 use lib.Dec.{eqb, ltb}
@@ -16,9 +16,6 @@ use Rattle.appointments.specs.Appointments.{Appt, appt}
 use Rattle.appointments.specs.Checks.{blank}
 use Rattle.words.specs.Ascii.{line_feed, comma}
 use Rattle.reading.specs.Reading.{onto, parts, digits_value, below_blank, number, end_of, both, two_ends, appointment_of, Input, input, malformed, and_then_lines, read_lines, with_parties, read_first, read_text, broke_off, read_input}
-
-none_some {ℓ} : {A : Type 0} {Y : Type ℓ} (a : A) → ◌≡◌ {A = Option A} none (some a) → Y
-none_some a e = let z : ◌≡◌ {A = ℕ} 0 1 = cc in absurd (omega arith)
 
 -- ── parts ──
 
@@ -75,35 +72,35 @@ pub record Number (bytes : List ℕ) (v : ℕ) : Type 0 where
   pub below : v < 65535
   pub some_digit : 0 < length bytes
 
-below_is : (o : Option ℕ) (v : ℕ) → below_blank o ≡ some v → v < 65535
-below_is none v e = none_some v e
-below_is (some w) v e = go (ltb w blank) refl e
+below_is : (o : Option ℕ) (v : ℕ) → below_blank o ≡ Some v → v < 65535
+below_is None v e = cc
+below_is (Some w) v e = go (ltb w blank) refl e
   where
-    go : (t : Bool) → ltb w blank ≡ t → pick t (some w) none ≡ some v → v < 65535
+    go : (t : Bool) → ltb w blank ≡ t → pick t (Some w) None ≡ Some v → v < 65535
     go true h q = let same : w ≡ v = cc in omega (arith, ltb-true w blank h)
-    go false h q = none_some v q
+    go false h q = cc
 
-pub number_is : (bytes : List ℕ) (v : ℕ) → number bytes ≡ some v → Number bytes v
+pub number_is : (bytes : List ℕ) (v : ℕ) → number bytes ≡ Some v → Number bytes v
 unfolding number
 number_is bytes v e = go (eqb (length bytes) 0 || ltb 5 (length bytes)) refl e
   where
-    go : (t : Bool) → (eqb (length bytes) 0 || ltb 5 (length bytes)) ≡ t → pick t none (below_blank (digits_value 0 bytes)) ≡ some v → Number bytes v
-    go true h q = none_some v q
+    go : (t : Bool) → (eqb (length bytes) 0 || ltb 5 (length bytes)) ≡ t → pick t None (below_blank (digits_value 0 bytes)) ≡ Some v → Number bytes v
+    go true h q = cc
     go false h q =
         let n = neither (eqb (length bytes) 0) (ltb 5 (length bytes)) h in
         let some_byte : length bytes ≡ 0 → ⊥ = eqb-false (length bytes) 0 n.0 in
         record { below = below_is (digits_value 0 bytes) v q; some_digit = omega arith }
 
 -- an end is a 16-bit number
-end_is : (bytes : List ℕ) (v : ℕ) → end_of bytes ≡ some v → v < 65536
+end_is : (bytes : List ℕ) (v : ℕ) → end_of bytes ≡ Some v → v < 65536
 unfolding end_of
 end_is [] v e = let same : blank ≡ v = cc in omega arith
 end_is (b ∷ bytes) v e = omega (arith, number_is (b ∷ bytes) v e)
 
-both_are : (a b : Option ℕ) (x : Appt) → both a b ≡ some x → (a ≡ some x.first) × (b ≡ some x.second)
-both_are (some a) (some b) x e = let same : appt a b ≡ x = cc in (ap (λ (y : Appt). some y.first) same, ap (λ (y : Appt). some y.second) same)
-both_are (some a) none x e = none_some x e
-both_are none b x e = none_some x e
+both_are : (a b : Option ℕ) (x : Appt) → both a b ≡ Some x → (a ≡ Some x.first) × (b ≡ Some x.second)
+both_are (Some a) (Some b) x e = let same : appt a b ≡ x = cc in (ap (λ (y : Appt). Some y.first) same, ap (λ (y : Appt). Some y.second) same)
+both_are (Some a) None x e = cc
+both_are None b x e = cc
 
 -- what is read from a line of an appointment: its ends are 16-bit numbers, and there is a byte at least, the comma
 pub record LineRead (bytes : List ℕ) (x : Appt) : Type 0 where
@@ -111,22 +108,19 @@ pub record LineRead (bytes : List ℕ) (x : Appt) : Type 0 where
   pub second_end : x.second < 65536
   pub some_byte : 0 < length bytes
 
-pub line_is : (bytes : List ℕ) (x : Appt) → appointment_of bytes ≡ some x → LineRead bytes x
+pub line_is : (bytes : List ℕ) (x : Appt) → appointment_of bytes ≡ Some x → LineRead bytes x
 unfolding appointment_of total
 line_is bytes x e = go (parts comma bytes) (parts_spread comma bytes) e
   where
-    go : (ps : List (List ℕ)) → spread ps ≡ length bytes + 1 → two_ends ps ≡ some x → LineRead bytes x
-    go [] l q = none_some x q
-    go (a ∷ []) l q = none_some x q
+    go : (ps : List (List ℕ)) → spread ps ≡ length bytes + 1 → two_ends ps ≡ Some x → LineRead bytes x
+    go [] l q = cc
+    go (a ∷ []) l q = cc
     go (a ∷ b ∷ []) l q =
         let ends = both_are (end_of a) (end_of b) x q in
         record { first_end = end_is a x.first ends.0; second_end = end_is b x.second ends.1; some_byte = omega arith }
-    go (a ∷ b ∷ c ∷ more) l q = none_some x q
+    go (a ∷ b ∷ c ∷ more) l q = cc
 
 -- ── the lines ──
-
-input_malformed {ℓ} : {Y : Type ℓ} (i : Input) (P : ℕ) (list : List ℕ) (n : ℕ) → i ≡ input P list → i ≡ malformed n → Y
-input_malformed i P list n p q = let z : ◌≡◌ {A = ℕ} 0 1 = cc in absurd (omega arith)
 
 pub record LinesRead (ps : List (List ℕ)) (P Q : ℕ) (list : List ℕ) : Type 0 where
   pub same : P ≡ Q
@@ -148,7 +142,7 @@ with_line line ps P Q x list l r =
 
 lines_are : (P n : ℕ) (ps : List (List ℕ)) (Q : ℕ) (list : List ℕ) → read_lines P n ps ≡ input Q list → LinesRead ps P Q list
 unfolding read_lines total
-lines_are P n [] Q list e = input_malformed (malformed n) Q list n e refl
+lines_are P n [] Q list e = cc
 lines_are P n (rest ∷ []) Q list e = go (eqb (length rest) 0) e
   where
     go : (t : Bool) → pick t (input P []) (malformed n) ≡ input Q list → LinesRead (rest ∷ []) P Q list
@@ -156,14 +150,14 @@ lines_are P n (rest ∷ []) Q list e = go (eqb (length rest) 0) e
         let same : P ≡ Q = cc in
         let none_left : [] ≡ list = cc in
         subst (λ (l : List ℕ). LinesRead (rest ∷ []) P Q l) none_left (record { same = same; two_each = refl; ends = tt; short = omega arith })
-    go false q = input_malformed (malformed n) Q list n q refl
+    go false q = cc
 lines_are P n (line ∷ next ∷ more) Q list e = go (appointment_of line) refl (read_lines P (n + 1) (next ∷ more)) (lines_are P (n + 1) (next ∷ more) Q) e
   where
     go : (o : Option Appt) → appointment_of line ≡ o → (later : Input) → ((l : List ℕ) → later ≡ input Q l → LinesRead (next ∷ more) P Q l)
         → and_then_lines n o later ≡ input Q list → LinesRead (line ∷ next ∷ more) P Q list
-    go none h later rest q = input_malformed (malformed n) Q list n q refl
-    go (some x) h (malformed m) rest q = input_malformed (malformed m) Q list m q refl
-    go (some x) h (input R l) rest q =
+    go None h later rest q = cc
+    go (Some x) h (malformed m) rest q = cc
+    go (Some x) h (input R l) rest q =
         let same : R ≡ Q = cc in
         let longer : x.first ∷ x.second ∷ l ≡ list = cc in
         subst (λ (k : List ℕ). LinesRead (line ∷ next ∷ more) P Q k) longer
@@ -183,8 +177,8 @@ reads bytes P list e = go (parts line_feed bytes) (parts_spread line_feed bytes)
   where
     first : (o : Option ℕ) (line : List ℕ) (ps : List (List ℕ)) → number line ≡ o → length line + 1 + spread ps ≡ length bytes + 1 → length ps ≡ count line_feed bytes
         → with_parties o ps ≡ input P list → Read bytes P list
-    first none line ps h l k q = input_malformed (malformed 1) P list 1 q refl
-    first (some Q) line ps h l k q =
+    first None line ps h l k q = cc
+    first (Some Q) line ps h l k q =
         let r : LinesRead ps Q P list = lines_are Q 2 ps P list q in
         let n : Number line Q = number_is line Q h in
         record {
@@ -196,8 +190,8 @@ reads bytes P list e = go (parts line_feed bytes) (parts_spread line_feed bytes)
         }
 
     go : (ps : List (List ℕ)) → spread ps ≡ length bytes + 1 → length ps ≡ count line_feed bytes + 1 → read_first ps ≡ input P list → Read bytes P list
-    go [] l k q = input_malformed (malformed 1) P list 1 q refl
-    go (rest ∷ []) l k q = input_malformed (malformed 1) P list 1 q refl
+    go [] l k q = cc
+    go (rest ∷ []) l k q = cc
     go (line ∷ next ∷ more) l k q = first (number line) line (next ∷ more) refl l (omega arith) q
 
 -- ── a malformed line ──
@@ -208,14 +202,14 @@ lines_malformed P n [] m e = let same : n ≡ m = cc in omega arith
 lines_malformed P n (rest ∷ []) m e = go (eqb (length rest) 0) e
   where
     go : (t : Bool) → pick t (input P []) (malformed n) ≡ malformed m → m ≤ n + spread (rest ∷ [])
-    go true q = input_malformed (input P []) P [] m refl q
+    go true q = cc
     go false q = let same : n ≡ m = cc in omega arith
 lines_malformed P n (line ∷ next ∷ more) m e = go (appointment_of line) (read_lines P (n + 1) (next ∷ more)) (lines_malformed P (n + 1) (next ∷ more) m) e
   where
     go : (o : Option Appt) (later : Input) → (later ≡ malformed m → m ≤ n + 1 + spread (next ∷ more)) → and_then_lines n o later ≡ malformed m → m ≤ n + spread (line ∷ next ∷ more)
-    go none later rest q = let same : n ≡ m = cc in omega arith
-    go (some x) (malformed k) rest q = omega (arith, rest q)
-    go (some x) (input Q l) rest q = input_malformed (input Q (x.first ∷ x.second ∷ l)) Q (x.first ∷ x.second ∷ l) m refl q
+    go None later rest q = let same : n ≡ m = cc in omega arith
+    go (Some x) (malformed k) rest q = omega (arith, rest q)
+    go (Some x) (input Q l) rest q = cc
 
 -- The malformed line is at most the one after as many lines as there are bytes.
 pub malformed_place : (bytes : List ℕ) (m : ℕ) → read_text bytes ≡ malformed m → m ≤ length bytes + 1
@@ -223,8 +217,8 @@ unfolding read_text total
 malformed_place bytes m e = go (parts line_feed bytes) (parts_spread line_feed bytes) e
   where
     first : (o : Option ℕ) (line : List ℕ) (ps : List (List ℕ)) → number line ≡ o → length line + 1 + spread ps ≡ length bytes + 1 → with_parties o ps ≡ malformed m → m ≤ length bytes + 1
-    first none line ps h l q = let same : 1 ≡ m = cc in omega arith
-    first (some Q) line ps h l q = omega (arith, lines_malformed Q 2 ps m q, number_is line Q h)
+    first None line ps h l q = let same : 1 ≡ m = cc in omega arith
+    first (Some Q) line ps h l q = omega (arith, lines_malformed Q 2 ps m q, number_is line Q h)
 
     go : (ps : List (List ℕ)) → spread ps ≡ length bytes + 1 → read_first ps ≡ malformed m → m ≤ length bytes + 1
     go [] l q = let same : 1 ≡ m = cc in omega arith

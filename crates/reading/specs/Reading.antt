@@ -1,7 +1,6 @@
 -- What main reads: a line P, then lines `first,second`, each ended by a line feed; or the first line that is malformed.
 -- Assumes nothing.
-use Rattle.std.specs.Prelude.{ℕ, ◌+◌, ◌-◌, ◌*◌, Bool, true, false, ◌&&◌, ◌||◌, List, [], ◌∷◌, eqb, leb, ltb, length}
-use Rattle.std.proofs.Math.Option.{Option, none, some}
+use Rattle.std.specs.Prelude.{ℕ, ◌+◌, ◌-◌, ◌*◌, Bool, true, false, ◌&&◌, ◌||◌, List, [], ◌∷◌, Option, None, Some, eqb, leb, ltb, length}
 use Rattle.words.specs.Basics.{pick, count}
 use Rattle.appointments.specs.Appointments.{Appt, appt}
 use Rattle.appointments.specs.Checks.{blank}
@@ -26,41 +25,41 @@ is_digit b = leb 48 b && leb b 57
 
 -- the value of digits that follow those of v; none if a byte is no digit
 unfoldable pub digits_value : ℕ → List ℕ → Option ℕ
-digits_value v [] = some v
+digits_value v [] = Some v
 digits_value v (b ∷ bytes) =
     let value = digits_value (10 * v + (b - 48)) bytes in
-    pick (is_digit b) value none
+    pick (is_digit b) value None
 
 abbrev pub below_blank : Option ℕ → Option ℕ
-below_blank (some v) = pick (ltb v blank) (some v) none
-below_blank none = none
+below_blank (Some v) = pick (ltb v blank) (Some v) None
+below_blank None = None
 
 -- A number has 1 to 5 digits, of which the first ones may be zeros, and is below 65,535.
 unfoldable pub number : List ℕ → Option ℕ
 unfolding digits_value
 number bytes =
     let value = digits_value 0 bytes in
-    pick (eqb (length bytes) 0 || ltb 5 (length bytes)) none (below_blank value)
+    pick (eqb (length bytes) 0 || ltb 5 (length bytes)) None (below_blank value)
 
 -- ── a line of an appointment ──
 
 -- An end may be empty and is then blank.
 unfoldable pub end_of : List ℕ → Option ℕ
 unfolding number
-end_of [] = some blank
+end_of [] = Some blank
 end_of (b ∷ bytes) = number (b ∷ bytes)
 
 abbrev pub both : Option ℕ → Option ℕ → Option Appt
-both (some a) (some b) = some (appt a b)
-both (some a) none = none
-both none b = none
+both (Some a) (Some b) = Some (appt a b)
+both (Some a) None = None
+both None b = None
 
 -- two ends, parted by one comma
 abbrev pub two_ends : List (List ℕ) → Option Appt
-two_ends [] = none
-two_ends (a ∷ []) = none
+two_ends [] = None
+two_ends (a ∷ []) = None
 two_ends (a ∷ b ∷ []) = both (end_of a) (end_of b)
-two_ends (a ∷ b ∷ c ∷ more) = none
+two_ends (a ∷ b ∷ c ∷ more) = None
 
 unfoldable pub appointment_of : List ℕ → Option Appt
 unfolding parts end_of
@@ -78,8 +77,8 @@ with_ends x (input P list) = input P (x.first ∷ x.second ∷ list)
 with_ends x (malformed n) = malformed n
 
 abbrev pub and_then_lines : ℕ → Option Appt → Input → Input
-and_then_lines n (some x) later = with_ends x later
-and_then_lines n none later = malformed n
+and_then_lines n (Some x) later = with_ends x later
+and_then_lines n None later = malformed n
 
 -- The lines from line n on. A line feed ends each, so after the last one there is nothing.
 unfoldable pub read_lines : ℕ → ℕ → List (List ℕ) → Input
@@ -92,8 +91,8 @@ read_lines P n (line ∷ next ∷ more) =
 
 -- the lines from line 2 on, if the first one is a number
 abbrev pub with_parties : Option ℕ → List (List ℕ) → Input
-with_parties (some P) more = read_lines P 2 more
-with_parties none more = malformed 1
+with_parties (Some P) more = read_lines P 2 more
+with_parties None more = malformed 1
 
 -- The first line is P, which may not be empty. Without a line feed there is no line.
 abbrev pub read_first : List (List ℕ) → Input

@@ -1,17 +1,35 @@
 -- From the planning call's answer to what it tells. Assumes nothing.
-use Prim.Native.Nat.{ℕ, ◌/◌, ◌≤◌}
-use mathlib.Core.Path.{◌≡◌}
-use mathlib.Core.Bool.{Bool}
+use Prim.Native.Nat.{ℕ, ◌-◌, ◌/◌, ◌≤◌}
+use mathlib.Core.Path.{◌≡◌, refl, sym, ◌∙◌}
+use Rattle.std.specs.Prelude.{◌↔◌, IsTrue, nat_eq}
+use mathlib.Core.Bool.{Bool, true, false}
 use mathlib.Core.List.{List, [], ◌∷◌}
 use native.Mathlib.Omega.{arith}
-use lib.ListN.{length, take}
-use Rattle.appointments.specs.Answers.{accepted, refused}
+use lib.ListN.{length, get_or, take, drop}
+use lib.Pointwise.{pointwise}
+use lib.Seq.{take_all}
+use Rattle.std.specs.Cmp.Lexicographic.{same_text, other_text}
+use Rattle.appointments.specs.Answers.{accepted}
 use Rattle.appointments.specs.Lent.{Lent, lent_appts}
 use Rattle.appointments.proofs.ChecksLaws.{Passes, good_length}
 use Rattle.appointments.proofs.LentLaws.{lent_passes}
 use Rattle.planning.specs.Planning.{plan_answer, plan_slots}
 use Rattle.planning.proofs.Demand3.{demand_3}
-use Rattle.replay.specs.Stored.{Decides, answer_told}
+use Rattle.replay.specs.Stored.{answer_told}
+
+-- a plan is the same where 0 and D are, and then its slots
+pub plan_same :
+    (r : Bool) (stored : List ℕ) (d : ℕ) (plan : List ℕ) → 2 ≤ length stored → get_or stored 0 0 ≡ 0 → get_or stored 1 0 ≡ d →
+    r ≡ pointwise nat_eq (take (length stored - 2) (drop 2 stored)) plan → IsTrue r ↔ (stored ≡ 0 ∷ d ∷ plan)
+plan_same r [] d plan h first second e = absurd (omega arith)
+plan_same r (x ∷ []) d plan h first second e = absurd (omega arith)
+plan_same true (x ∷ y ∷ rest) d plan h first second e =
+    let behind : take (length (x ∷ y ∷ rest) - 2) rest ≡ rest = take_all (length (x ∷ y ∷ rest) - 2) rest (omega arith) in
+    let same : rest ≡ plan = sym behind ∙ same_text _ plan e in
+    ((λ t. rw (first, second, same)), (λ q. refl))
+plan_same false (x ∷ y ∷ rest) d plan h first second e =
+    let behind : take (length (x ∷ y ∷ rest) - 2) rest ≡ rest = take_all (length (x ∷ y ∷ rest) - 2) rest (omega arith) in
+    ((λ t. cc), (λ q. let same : rest ≡ plan = cc in absurd (other_text _ plan e (behind ∙ same))))
 
 module _ (l : Lent) where
   -- a plan: the list passed the checks, so there are A slots, and A is half the list's length
@@ -26,11 +44,6 @@ module _ (l : Lent) where
     slots_room = omega (arith, half, passes.slot_room)
 
     pub plan_told :
-        (r : Bool) (stored : List ℕ) → Decides r stored (0 ∷ D ∷ take (length l.list / 2) (plan_slots l)) →
-        Decides r stored (answer_told l)
+        (r : Bool) (stored : List ℕ) → (IsTrue r ↔ (stored ≡ 0 ∷ D ∷ take (length l.list / 2) (plan_slots l))) →
+        IsTrue r ↔ (stored ≡ answer_told l)
     plan_told r stored d = rw (e, ← half) d
-
-  pub refusal_told :
-      (n i : ℕ) (r : Bool) (stored : List ℕ) → plan_answer l ≡ refused n i → Decides r stored (n ∷ i ∷ []) →
-      Decides r stored (answer_told l)
-  refusal_told n i r stored e d = rw e d

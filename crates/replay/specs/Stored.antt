@@ -1,5 +1,5 @@
 -- What a stored line tells of an answer, as numbers, and what the definitions tell. Assumes nothing.
-use Rattle.std.specs.Prelude.{ℕ, ◌≡◌, Bool, true, List, [], ◌∷◌, length, take}
+use Rattle.std.specs.Prelude.{ℕ, List, [], ◌∷◌, length, take}
 use Rattle.appointments.specs.Answers.{Answer, accepted, refused}
 use Rattle.appointments.specs.Lent.{Lent, lent_appts}
 use Rattle.planning.specs.Planning.{plan_answer, plan_slots}
@@ -12,7 +12,3 @@ told (refused number place) plan = number ∷ place ∷ []
 -- the definitions' answer to a list, with the first A slot entries
 abbrev pub answer_told : Lent → List ℕ
 answer_told l = told (plan_answer l) (take (length (lent_appts l)) (plan_slots l))
-
--- true exactly where the two are the same
-abbrev pub Decides : Bool → List ℕ → List ℕ → Type 0
-Decides r a b = (r ≡ true → a ≡ b) × (a ≡ b → r ≡ true)

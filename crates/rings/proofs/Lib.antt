@@ -1,6 +1,4 @@
--- the model's cases, for the code's proofs
-pub mod ModelLaws
--- the rings in words: nodes, where they lie, and how they are filled
+-- The rings in words: nodes, where they lie, and how they are filled
 pub mod Chains
 pub mod Nodes
 pub mod Bases

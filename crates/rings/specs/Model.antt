@@ -1,15 +1,7 @@
 -- The functions of rings on the list of words, each with the same steps in the same order. Assumes nothing.
-use Rattle.std.specs.Prelude.{ℕ, zero, suc, ◌+◌, ◌*◌, ◌-◌, ◌%◌, ◌<◌, List}
-use Rattle.words.specs.Words.{word, put_word, word_limit}
+use Rattle.std.specs.Prelude.{ℕ, zero, suc, ◌+◌, ◌*◌, ◌-◌, ◌%◌, List}
+use Rattle.words.specs.Words.{word, put_word}
 use Rattle.rings.specs.declared.Rings.{Rings}
-
--- bases and sizes that leave room for sums of them
-pub record Fits (l : Rings) : Type 0 where
-  pub graph : l.g < word_limit
-  pub table : l.ends < word_limit
-  pub rings : l.b < word_limit
-  pub parties : l.top < 8589934592
-  pub columns : l.col < word_limit
 
 -- the words, and how many of what is being written stand there
 pub record Counted : Type 0 where

@@ -19,80 +19,84 @@ ghost use Rattle.slot_chains.specs.Steps.{pushed, matching_pushed, all_pushed};
 use multigraph::matching;
 use words::{EdgeIndex, get, put};
 
-// The first link of pair `e`.
-pub fn first_link(s: &[u32], links: usize, e: EdgeIndex) -> usize
-    requires { links < word_limit }
-    ensures { result ≡ word s.now (links + e.0) }
-{
-    let i = e.0 as usize;
-    get(s, links + i)
+// Where the matchings of a colouring lie, `d` of them, `n` numbers each, side by side at `out`; and from `links` on a word for each pair,
+// its first link.
+#[derive(Clone, Copy)]
+pub struct Chains {
+    pub n: usize,
+    pub d: usize,
+    pub out: usize,
+    pub links: usize,
+    pub ghost out_small: { out < word_limit },
+    pub ghost links_small: { links < word_limit },
+    pub ghost d_small: { d < word_limit },
+    pub ghost few: { n * d < word_limit },
 }
 
-// Makes `link` the first link of pair `e`.
-pub fn set_first_link(s: &mut [u32], links: usize, e: EdgeIndex, link: usize)
-    requires { links < word_limit }
-    ensures { s.new ≡ put_word s.old (links + e.0) link }
-{
-    let i = e.0 as usize;
-    put(s, links + i, link);
-}
-
-// Pair `j` of matching `slot`, read in the stretch of words that holds the matching.
-fn pair_in(s: &[u32], n: usize, out: usize, slot: usize, j: usize) -> EdgeIndex
-    requires n_in_bounds { out + n * slot + n ≤ length s.now }
-    requires j_lt_n { j < n }
-    ensures { result.0 ≡ word s.now (out + (n * slot + j)) }
-{
-    let m = matching(s, out, n, slot);
-    EdgeIndex(m[j])
-}
-
-// Pair `j` of matching `slot` has this slot, too: a new first link, which leads to the pair's lower slots. The word that held its
-// number holds the next link from now on.
-fn push_slot(s: &mut [u32], n: usize, out: usize, links: usize, slot: usize, j: usize)
-    requires out_lt_word_limit { out < word_limit }
-    requires links_lt_word_limit { links < word_limit }
-    requires slot_lt_word_limit { slot < word_limit }
-    requires n_bound { n * slot + n < word_limit }
-    requires n_in_bounds { out + n * slot + n ≤ length s.old }
-    requires j_lt_n { j < n }
-    ensures { s.new ≡ pushed out links slot (n * slot + j) s.old }
-{
-    let t = n * slot + j;
-    let e = pair_in(s, n, out, slot, j);
-    let next = first_link(s, links, e);
-    put(s, out + t, next);
-    set_first_link(s, links, e, slot * 16384 + t);
-}
-
-// This slot for each pair of its matching.
-fn push_matching(s: &mut [u32], n: usize, out: usize, links: usize, slot: usize)
-    requires out_lt_word_limit { out < word_limit }
-    requires links_lt_word_limit { links < word_limit }
-    requires slot_lt_word_limit { slot < word_limit }
-    requires n_bound { n * slot + n < word_limit }
-    requires n_in_bounds { out + n * slot + n ≤ length s.old }
-    ensures { s.new ≡ matching_pushed n out links slot n s.old }
-{
-    let mut j = 0;
-    while j < n {
-        push_slot(s, n, out, links, slot, j);
-        j += 1;
+impl Chains {
+    // The first link of pair `e`.
+    pub fn first_link(self, s: &[u32], e: EdgeIndex) -> usize
+        ensures { result ≡ word s.now (self.links + e.0) }
+    {
+        let i = e.0 as usize;
+        get(s, self.links + i)
     }
-}
 
-// The matchings from the lowest slot up, so that each pair's highest slot comes to stand first.
-pub fn push_all(s: &mut [u32], n: usize, d: usize, out: usize, links: usize)
-    requires out_lt_word_limit { out < word_limit }
-    requires links_lt_word_limit { links < word_limit }
-    requires d_lt_word_limit { d < word_limit }
-    requires d_bound { n * d < word_limit }
-    requires d_in_bounds { out + n * d ≤ length s.old }
-    ensures { s.new ≡ all_pushed n out links d s.old }
-{
-    let mut slot = 0;
-    while slot < d {
-        push_matching(s, n, out, links, slot);
-        slot += 1;
+    // Makes `link` the first link of pair `e`.
+    pub fn set_first_link(self, s: &mut [u32], e: EdgeIndex, link: usize)
+        ensures { s.new ≡ put_word s.old (self.links + e.0) link }
+    {
+        let i = e.0 as usize;
+        put(s, self.links + i, link);
+    }
+
+    // Pair `j` of matching `slot`, read in the stretch of words that holds the matching.
+    fn pair_in(self, s: &[u32], slot: usize, j: usize) -> EdgeIndex
+        requires slot_lt_d { slot < self.d }
+        requires d_in_bounds { self.out + self.n * self.d ≤ length s.now }
+        requires j_lt_n { j < self.n }
+        ensures { result.0 ≡ word s.now (self.out + (self.n * slot + j)) }
+    {
+        let m = matching(s, self.out, self.n, slot);
+        EdgeIndex(m[j])
+    }
+
+    // Pair `j` of matching `slot` has this slot, too: a new first link, which leads to the pair's lower slots. The word that held its
+    // number holds the next link from now on.
+    #[tactic(auto, using(crate::proofs::StepLaws::push_is))]
+    fn push_slot(self, s: &mut [u32], slot: usize, j: usize)
+        requires slot_lt_d { slot < self.d }
+        requires d_in_bounds { self.out + self.n * self.d ≤ length s.old }
+        requires j_lt_n { j < self.n }
+        ensures { s.new ≡ pushed self.out self.links slot (self.n * slot + j) s.old }
+    {
+        let t = self.n * slot + j;
+        let e = self.pair_in(s, slot, j);
+        let next = self.first_link(s, e);
+        put(s, self.out + t, next);
+        self.set_first_link(s, e, slot * 16384 + t);
+    }
+
+    // This slot for each pair of its matching.
+    #[tactic(auto, using(crate::proofs::StepLaws::matching_pushed_more), unfolding(crate::specs::Steps::matching_pushed))]
+    fn push_matching(self, s: &mut [u32], slot: usize)
+        requires slot_lt_d { slot < self.d }
+        requires d_in_bounds { self.out + self.n * self.d ≤ length s.old }
+        ensures { s.new ≡ matching_pushed self.n self.out self.links slot self.n s.old }
+    {
+        for j in 0..self.n {
+            self.push_slot(s, slot, j);
+        }
+    }
+
+    // The matchings from the lowest slot up, so that each pair's highest slot comes to stand first.
+    #[tactic(auto, using(crate::proofs::StepLaws::all_pushed_more), unfolding(crate::specs::Steps::all_pushed))]
+    pub fn push_all(self, s: &mut [u32])
+        requires { self.out + self.n * self.d ≤ length s.old }
+        ensures { s.new ≡ all_pushed self.n self.out self.links self.d s.old }
+    {
+        for slot in 0..self.d {
+            self.push_matching(s, slot);
+        }
     }
 }

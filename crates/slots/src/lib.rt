@@ -12,8 +12,8 @@ ghost use Rattle.words.specs.Words.{word, word_limit};
 ghost use Rattle.slots.specs.Stored.{GivesSlots};
 ghost use Rattle.slot_chains.specs.Steps.{taken_words, taken_slots, given_words, given_slots};
 
-use slot_chains::{first_link, push_all, set_first_link};
-use words::{EdgeIndex, get, put16};
+use slot_chains::Chains;
+use words::{EdgeIndex, get, put};
 
 // The number of the pair that stands at `at`.
 fn pair_at(s: &[u32], at: usize) -> EdgeIndex
@@ -24,60 +24,34 @@ fn pair_at(s: &[u32], at: usize) -> EdgeIndex
 }
 
 // The pair whose number stands at `at` gives its first link's slot to appointment `i`, and goes on to its next link.
-fn take_slot(s: &mut [u32], slots: &mut [u16], out: usize, links: usize, at: usize, i: usize)
-    requires out_lt_word_limit { out < word_limit }
-    requires links_lt_word_limit { links < word_limit }
-    ensures { (s.new ≡ taken_words out links at s.old) × (slots.new ≡ taken_slots links at i s.old slots.old) }
+#[tactic(auto, using(slot_chains::proofs::StepLaws::take_is, slot_chains::proofs::StepLaws::slot_is))]
+fn take_slot(s: &mut [u32], slots: &mut [u16], chains: Chains, at: usize, i: usize)
+    ensures { (s.new ≡ taken_words chains.out chains.links at s.old) × (slots.new ≡ taken_slots chains.links at i s.old slots.old) }
 {
     let e = pair_at(s, at);
-    let link = first_link(s, links, e);
-    put16(slots, i, link / 16384);
-    let next = get(s, out + link % 16384);
-    set_first_link(s, links, e, next);
+    let link = chains.first_link(s, e);
+    put(slots, i, link / 16384);
+    let next = get(s, chains.out + link % 16384);
+    chains.set_first_link(s, e, next);
 }
 
 // A slot for each of the `a` appointments, in list order.
-fn take_all(
-    s: &mut [u32],
-    slots: &mut [u16],
-    a: usize,
-    out: usize,
-    pair_numbers: usize,
-    links: usize,
-)
-    requires out_lt_word_limit { out < word_limit }
-    requires a_bound { pair_numbers + a < word_limit }
-    requires links_lt_word_limit { links < word_limit }
-    ensures { (s.new ≡ given_words out pair_numbers links 0 a s.old) × (slots.new ≡ given_slots out pair_numbers links 0 a s.old slots.old) }
+fn take_all(s: &mut [u32], slots: &mut [u16], chains: Chains, a: usize, pair_numbers: usize)
+    requires { pair_numbers + a < word_limit }
+    ensures { (s.new ≡ given_words chains.out pair_numbers chains.links 0 a s.old) × (slots.new ≡ given_slots chains.out pair_numbers chains.links 0 a s.old slots.old) }
 {
-    let mut i = 0;
-    while i < a {
-        take_slot(s, slots, out, links, pair_numbers + i, i);
-        i += 1;
+    for i in 0..a {
+        take_slot(s, slots, chains, pair_numbers + i, i);
     }
 }
 
 // Each of the `a` appointments, in list order, takes the highest slot its pair has left. The number of appointment i's pair
-// stands at `pair_numbers + i`; the `d` matchings lie at `out`, `n` numbers each, and are used up; from `links` on there is a
-// word for each pair, its first link.
-pub fn give_slots(
-    s: &mut [u32],
-    slots: &mut [u16],
-    a: usize,
-    n: usize,
-    d: usize,
-    out: usize,
-    pair_numbers: usize,
-    links: usize,
-)
-    requires d_lt_word_limit { d < word_limit }
-    requires d_bound { n * d < word_limit }
-    requires d_in_bounds { out + n * d ≤ length s.old }
-    requires out_lt_word_limit { out < word_limit }
+// stands at `pair_numbers + i`; the matchings are used up.
+pub fn give_slots(s: &mut [u32], slots: &mut [u16], chains: Chains, a: usize, pair_numbers: usize)
+    requires d_in_bounds { chains.out + chains.n * chains.d ≤ length s.old }
     requires a_bound { pair_numbers + a < word_limit }
-    requires links_lt_word_limit { links < word_limit }
-    ensures { GivesSlots a n d out pair_numbers links s.old slots.old s.new slots.new }
+    ensures { GivesSlots a chains.n chains.d chains.out pair_numbers chains.links s.old slots.old s.new slots.new }
 {
-    push_all(s, n, d, out, links);
-    take_all(s, slots, a, out, pair_numbers, links);
+    chains.push_all(s);
+    take_all(s, slots, chains, a, pair_numbers);
 }

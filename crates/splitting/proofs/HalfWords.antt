@@ -19,8 +19,7 @@ use Rattle.rings.specs.Model.{Counted, copies_m}
 use Rattle.splitting.specs.Model.{more_m, entry_m, entries_m, single_m, singles_m, half_m}
 use Rattle.euler.specs.Entries.{many_m, head_m}
 use Rattle.splitting.specs.Bounds.{HalfFits}
-use Rattle.splitting.proofs.ModelLaws.{entry_count}
-use Rattle.euler.proofs.EntryLaws.{many_none, many_one}
+use Rattle.euler.proofs.EntryLaws.{many_le, many_none, many_one}
 use Rattle.euler.proofs.Places.{keep, keep_append}
 use Rattle.euler.proofs.Puts.{away2}
 use Rattle.rings.proofs.Columns.{mark_of}
@@ -28,6 +27,11 @@ use Rattle.euler.proofs.StoredGraphs.{Only, only_put, SameEntry, entries_same}
 use Rattle.splitting.proofs.Pushes.{Ready, SoFar, nothing_yet, known, so_far_count, reads, put_next, passed, pushed}
 use Rattle.euler.proofs.HalfLaws.{ApartAt, big, bigs, big_yes, big_no, bigs_length, bigs_where, small, one, small_one, small_none, half_length}
 use Rattle.splitting.proofs.Parities.{dealt, dealt_all, dealt_count, more_dealt, picks, picks_dealt}
+
+-- the count grows by at most 1
+entry_count : (l : Rings) (h parity : ℕ) (t : Counted) (i : ℕ) → (entry_m l h parity t i).count ≤ t.count + 1
+unfolding entry_m
+entry_count l h parity t i = omega (arith, many_le (copies_m l t.words i))
 
 module _ {l : Rings} {m k u h n : ℕ} (pairs parity : ℕ) {s₀ s ws : List ℕ} (g : Ready l m k u h n s₀ s ws) (p2 : parity < 2) (apart : ApartAt (λ i. entry s₀ l.ends pairs l.g i) m) where
   -- the graph's entries

@@ -1,5 +1,3 @@
--- the model's cases, for the code's proofs
-pub mod ModelLaws
 -- both halves on words
 pub mod Parities
 pub mod Pushes

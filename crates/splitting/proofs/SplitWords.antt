@@ -1,6 +1,6 @@
 -- The words after a split hold the halves of the definition, pair for pair and copy for copy. Assumes nothing.
 use Prim.Native.Nat.{ℕ, ◌+◌, ◌*◌, ◌≤◌, ◌<◌}
-use mathlib.Core.Path.{◌≡◌, refl, sym, ◌∙◌, ap}
+use mathlib.Core.Path.{◌≡◌, refl, sym, ◌∙◌, ap, subst}
 use mathlib.Core.Bool.{Bool, true, false}
 use mathlib.Core.List.{List, [], map, reverse, append-nil}
 use native.Mathlib.Omega.{arith}
@@ -20,9 +20,10 @@ use Rattle.euler.specs.Split.{add_halves, rest, every_other, add_pairs, rbmg_spl
 use Rattle.euler.specs.Room.{Splits, HalvesStored}
 use Rattle.walking.specs.Bounds.{Walks}
 use Rattle.splitting.specs.Bounds.{SplitFits}
-use Rattle.rings.specs.Model.{Fits, fill_m}
+use Rattle.rings.specs.Model.{fill_m}
+use Rattle.std.proofs.Props.{props}
 use Rattle.walking.specs.Model.{Stage}
-use Rattle.splitting.specs.Model.{walked, half_m, laid, split_m}
+use Rattle.splitting.specs.Model.{walked, half_m, Fits, laid, split_m}
 use Rattle.euler.proofs.Taken.{ends}
 use Rattle.euler.proofs.Straight.{along, along_total, SameTour, same_tour, split_along}
 use Rattle.euler.proofs.Places.{keep}
@@ -37,6 +38,23 @@ use Rattle.splitting.proofs.Pushes.{Ready}
 use Rattle.splitting.proofs.HalfWords.{HalfDone, half_done, half_fits}
 use Rattle.euler.proofs.Grounds.{upto_entries, few_pairs, apart_at, ends_fit, rest_odd, rest_slant, rest_evens, places_once}
 
+-- bases and sizes leave room for sums of them, which is so in one way
+same_fits : (u k ends g m N : ℕ) (x y : Fits u k ends g m N) → x ≡ y
+same_fits u k ends g m N = hlevel props
+
+pub fits : {s : List ℕ} {u ends g n width : ℕ} → Splits s u ends g n width → Fits u (n * (width + 1)) ends g (word s (g + 1)) (2 * n)
+fits {n = n} {width = width} q =
+    let one : 1 * (width + 1) ≤ n * (width + 1) = mul-le-mul_right (width + 1) q.some in
+    record {
+      graph = omega (arith, q.graph, q.room, q.short);
+      entries = omega (arith, q.graph, q.room, q.short);
+      few = omega (arith, q.few);
+      table = omega (arith, q.base, q.room, q.short);
+      rings = omega (arith, q.room, q.short);
+      own_nodes = omega (arith, q.size);
+      columns = omega (arith, q.room, q.short);
+    }
+
 module _ {s : List ℕ} {u ends g n width : ℕ} (q : Splits s u ends g n width) (fit : (i : ℕ) → word s i < 4294967296) where
   abbrev N : ℕ
   N = 2 * n
@@ -48,7 +66,7 @@ module _ {s : List ℕ} {u ends g n width : ℕ} (q : Splits s u ends g n width)
   m = word s (g + 1)
 
   abbrev l : Rings
-  l = laid u k ends g
+  l = laid u k ends g m N (fits q)
 
   abbrev h₂ : ℕ
   h₂ = u + 2 * k
@@ -306,31 +324,24 @@ width_small s u ends g n width q =
 
 -- what `split_words` asks, and what its words hold
 pub split_asks :
-    {s : List ℕ} {u ends g n width m : ℕ} → Splits s u ends g n width → ((i : ℕ) → word s i < 4294967296) → m ≡ word s (g + 1) →
-    Fits (laid u (n * (width + 1)) ends g)
-    × (u < 4294967296)
-    × (u + 2 * (n * (width + 1)) < 4294967296)
-    × (m < 4294967296)
-    × (2 * n < 4294967296)
-    × SplitFits (laid u (n * (width + 1)) ends g) u (u + 2 * (n * (width + 1))) m (2 * n) s
-split_asks {g = g} {n = n} {width = width} q fit em =
-    let one : 1 * (width + 1) ≤ n * (width + 1) = mul-le-mul_right (width + 1) q.some in (
-      record {
-        graph = omega (arith, q.graph, q.room, q.short);
-        table = omega (arith, q.base, q.room, q.short);
-        rings = omega (arith, q.room, q.short);
-        parties = omega (arith, q.size);
-        columns = omega (arith, q.room, q.short);
-      },
-      omega (arith, q.room, q.short),
-      omega (arith, q.room, q.short),
-      omega (arith, em, fit (g + 1)),
-      omega (arith, q.few),
-      rw em (split_fits q fit),
-    )
+    {s : List ℕ} {u ends g n width m : ℕ} → Splits s u ends g n width → (f : Fits u (n * (width + 1)) ends g m (2 * n)) →
+    ((i : ℕ) → word s i < 4294967296) → m ≡ word s (g + 1) →
+    SplitFits (laid u (n * (width + 1)) ends g m (2 * n) f) u (u + 2 * (n * (width + 1))) m (2 * n) s
+split_asks {s = s} {u = u} {ends = ends} {g = g} {n = n} {width = width} q f words em =
+    let k = n * (width + 1) in
+    subst (λ (x : ℕ). (f : Fits u k ends g x (2 * n)) → SplitFits (laid u k ends g x (2 * n) f) u (u + 2 * k) x (2 * n) s) (sym em)
+    (λ f. rw (same_fits u k ends g (word s (g + 1)) (2 * n) f (fits q)) (split_fits q words))
+    f
 
 pub split_gives :
-    {s t : List ℕ} {u ends g n width m : ℕ} → Splits s u ends g n width → ((i : ℕ) → word s i < 4294967296) → m ≡ word s (g + 1) →
-    t ≡ split_m (laid u (n * (width + 1)) ends g) u (u + 2 * (n * (width + 1))) m (2 * n) s →
+    {s t : List ℕ} {u ends g n width m : ℕ} → Splits s u ends g n width → (f : Fits u (n * (width + 1)) ends g m (2 * n)) →
+    ((i : ℕ) → word s i < 4294967296) → m ≡ word s (g + 1) →
+    t ≡ split_m (laid u (n * (width + 1)) ends g m (2 * n) f) u (u + 2 * (n * (width + 1))) m (2 * n) s →
     HalvesStored s t u (u + 4 * (n * (width + 1))) ends g n width
-split_gives q fit em et = rw (et, em) (split_stored q fit)
+split_gives {s = s} {t = t} {u = u} {ends = ends} {g = g} {n = n} {width = width} q f words em et =
+    let k = n * (width + 1) in
+    subst
+    (λ (x : ℕ). (f : Fits u k ends g x (2 * n)) → t ≡ split_m (laid u k ends g x (2 * n) f) u (u + 2 * k) x (2 * n) s → HalvesStored s t u (u + 4 * k) ends g n width)
+    (sym em)
+    (λ f et. rw (et, same_fits u k ends g (word s (g + 1)) (2 * n) f (fits q)) (split_stored q words))
+    f et

@@ -1,7 +1,7 @@
 -- The functions of splitting on the list of words, each with the same steps in the same order. Assumes nothing.
-use Rattle.std.specs.Prelude.{ℕ, zero, suc, ◌+◌, ◌*◌, ◌-◌, ◌/◌, List, eqb}
+use Rattle.std.specs.Prelude.{ℕ, zero, suc, ◌+◌, ◌*◌, ◌-◌, ◌/◌, ◌<◌, List, eqb}
 use Rattle.words.specs.Basics.{pick}
-use Rattle.words.specs.Words.{word}
+use Rattle.words.specs.Words.{word, word_limit}
 use Rattle.euler.specs.Entries.{push_m, many_m, head_m}
 use Rattle.rings.specs.declared.Rings.{Rings}
 use Rattle.rings.specs.Model.{Counted, copies_m, fill_m}
@@ -52,10 +52,35 @@ half_m l h parity m written s =
 
 -- ── the split ──
 
--- where its words lie, for a mark u and k = n·(width + 1)
-abbrev pub laid : ℕ → ℕ → ℕ → ℕ → Rings
-laid u k ends g =
-    record { g = g; ends = ends; b = u + 2 * k + 2 * k; top = 4 * k; col = u + 2 * k + 2 * k + 10 * k }
+-- bases and sizes that leave room for sums of them, for a mark u, k = n·(width + 1), and a graph of m entries on N parties
+pub record Fits (u k ends g m N : ℕ) : Type 0 where
+  pub graph : g < word_limit
+  pub entries : m < word_limit
+  pub few : N < word_limit
+  pub table : ends < word_limit
+  pub rings : u + 2 * k + 2 * k < word_limit
+  pub own_nodes : 4 * k < 8589934592
+  pub columns : u + 2 * k + 2 * k + 10 * k < word_limit
+
+-- where its words lie
+abbrev pub laid : (u k ends g m N : ℕ) → Fits u k ends g m N → Rings
+laid u k ends g m N fits =
+    record {
+      g = g;
+      m = m;
+      parties = N;
+      ends = ends;
+      b = u + 2 * k + 2 * k;
+      top = 4 * k;
+      col = u + 2 * k + 2 * k + 10 * k;
+      graph = fits.graph;
+      entries = fits.entries;
+      few = fits.few;
+      table = fits.table;
+      rings = fits.rings;
+      own_nodes = fits.own_nodes;
+      columns = fits.columns;
+    }
 
 -- the words and the walk once it has ended
 abbrev pub walked : Rings → ℕ → ℕ → List ℕ → Stage

@@ -2,7 +2,6 @@
 // walk has marked them for this half, then those of one copy, as the walk has dealt them.
 ghost use Rattle.std.specs.Prelude.{◌≡◌, ℕ, ◌+◌, ◌*◌, ◌-◌, ◌/◌, ◌<◌, ◌≤◌};
 ghost use Rattle.words.specs.Words.{word_limit};
-ghost use Rattle.rings.specs.Model.{Fits};
 ghost use Rattle.splitting.specs.Model.{more_m, entry_m, entries_m, single_m, singles_m, half_m};
 ghost use Rattle.splitting.specs.Bounds.{EntryFits, EntriesFit, SingleFits, SinglesFit, HalfFits};
 
@@ -10,85 +9,95 @@ use euler::{head, many, push};
 use rings::Rings;
 use words::word_at;
 
-// One more copy where the entry is marked for this half.
-fn more(mark: usize, parity: usize) -> usize
-    requires { parity < 2 }
-    ensures { (result ≡ more_m mark parity) × (result ≤ 1) }
-{
-    if mark == 2 + parity { 1 } else { 0 }
+// Where a half is written, and which places of the walk are dealt to it: those of this parity, 0 the first half and 1 the second.
+// The parity is a number, since it is added to places and marks.
+#[derive(Clone, Copy)]
+pub(crate) struct Half {
+    pub(crate) h: usize,
+    pub(crate) parity: usize,
+    ghost h_small: { h < word_limit },
+    ghost one_of_two: { parity < 2 },
 }
 
-// Entry i is written with half its copies, and the place counts on only past an entry of 2 copies or more: the next writes over
-// what doesn't belong there, and nothing branches on the copies.
-fn half_entry(s: &mut [u32], l: Rings, h: usize, parity: usize, at: usize, i: usize) -> usize
-    requires { Fits l × (h < word_limit) × (parity < 2) × (at < 68719476736) × (i < word_limit) × EntryFits l h s.old at i }
-    ensures { record { words = s.new; count = result } ≡ entry_m l h parity (record { words = s.old; count = at }) i }
-{
-    let c = word_at(s, l.g + 3 + 2 * i);
-    let e = word_at(s, l.g + 2 + 2 * i);
-    let mark = word_at(s, l.b + 8 * i + 2);
-    let x = more(mark, parity);
-    push(s, h, at, e, c / 2 + x);
-    let n = many(c);
-    at + n
-}
-
-// The entries of 2 copies or more, in order: half of them.
-fn half_entries(s: &mut [u32], l: Rings, h: usize, parity: usize, m: usize) -> usize
-    requires { Fits l × (h < word_limit) × (parity < 2) × (m < word_limit) × EntriesFit l h m s.old }
-    ensures { (record { words = s.new; count = result } ≡ entries_m l h parity m s.old) × (result ≤ m) }
-{
-    let mut at = 0;
-    let mut i = 0;
-    while i < m {
-        at = half_entry(s, l, h, parity, at, i);
-        i += 1;
+impl Half {
+    // One more copy where the entry is marked for this half.
+    fn more(self, mark: usize) -> usize
+        ensures { (result ≡ more_m mark self.parity) × (result ≤ 1) }
+    {
+        usize::from(mark == 2 + self.parity)
     }
-    at
-}
 
-// The entry written down at the place j of the walk, if it has one copy; it goes as in `half_entry`.
-fn half_single(s: &mut [u32], l: Rings, h: usize, at: usize, j: usize) -> usize
-    requires { Fits l × (h < word_limit) × (at < 137438953472) × (j < 137438953472) × SingleFits l h s.old at j }
-    ensures { record { words = s.new; count = result } ≡ single_m l h (record { words = s.old; count = at }) j }
-{
-    let i = word_at(s, l.col + 2 * j + 1);
-    let c = word_at(s, l.g + 3 + 2 * i);
-    let e = word_at(s, l.g + 2 + 2 * i);
-    push(s, h, at, e, 1);
-    let n = many(c);
-    at + (1 - n)
-}
-
-// Then the written places of this parity whose entry has one copy, in the order of writing.
-fn half_singles(
-    s: &mut [u32],
-    l: Rings,
-    h: usize,
-    parity: usize,
-    from: usize,
-    written: usize,
-) -> usize
-    requires { Fits l × (h < word_limit) × (parity < 2) × (from < word_limit) × (written < 68719476736)
-        × SinglesFit l h parity ((written + 1 - parity) / 2) (record { words = s.old; count = from }) }
-    ensures { record { words = s.new; count = result } ≡ singles_m l h parity ((written + 1 - parity) / 2) (record { words = s.old; count = from }) }
-{
-    let count = (written + 1 - parity) / 2;
-    let mut at = from;
-    let mut k = 0;
-    while k < count {
-        at = half_single(s, l, h, at, parity + 2 * k);
-        k += 1;
+    // Entry i is written with half its copies, and the place counts on only past an entry of 2 copies or more: the next writes over
+    // what doesn't belong there, and nothing branches on the copies.
+    #[tactic(auto, unfolding(crate::specs::Model::entry_m))]
+    fn half_entry(self, s: &mut [u32], l: Rings, at: usize, i: usize) -> usize
+        requires at_bound { at < 68719476736 }
+        requires i_bound { i < word_limit }
+        requires entry_fits { EntryFits l self.h s.old at i }
+        ensures { record { words = s.new; count = result } ≡ entry_m l self.h self.parity (record { words = s.old; count = at }) i }
+    {
+        let c = word_at(s, l.g + 3 + 2 * i);
+        let e = word_at(s, l.g + 2 + 2 * i);
+        let mark = word_at(s, l.b + 8 * i + 2);
+        let x = self.more(mark);
+        push(s, self.h, at, e, c / 2 + x);
+        let n = many(c);
+        at + n
     }
-    at
-}
 
-// One half: its entries of 2 copies or more, its entries of one copy, and its head.
-pub(crate) fn half(s: &mut [u32], l: Rings, h: usize, parity: usize, m: usize, written: usize)
-    requires { Fits l × (h < word_limit) × (parity < 2) × (m < word_limit) × (written < 68719476736) × HalfFits l h parity m written s.old }
-    ensures { s.new ≡ half_m l h parity m written s.old }
-{
-    let from = half_entries(s, l, h, parity, m);
-    let at = half_singles(s, l, h, parity, from, written);
-    head(s, h, at);
+    // The entries of 2 copies or more, in order: half of them.
+    #[tactic(auto, unfolding(crate::specs::Model::entries_m, crate::specs::Model::entry_m))]
+    fn half_entries(self, s: &mut [u32], l: Rings) -> usize
+        requires { EntriesFit l self.h l.m s.old }
+        ensures { (record { words = s.new; count = result } ≡ entries_m l self.h self.parity l.m s.old) × (result ≤ l.m) }
+    {
+        let mut at = 0;
+        for i in 0..l.m {
+            at = self.half_entry(s, l, at, i);
+        }
+        at
+    }
+
+    // The entry written down at the place j of the walk, if it has one copy; it goes as in `half_entry`.
+    #[tactic(auto, unfolding(crate::specs::Model::single_m))]
+    fn half_single(self, s: &mut [u32], l: Rings, at: usize, j: usize) -> usize
+        requires at_bound { at < 137438953472 }
+        requires j_bound { j < 137438953472 }
+        requires single_fits { SingleFits l self.h s.old at j }
+        ensures { record { words = s.new; count = result } ≡ single_m l self.h (record { words = s.old; count = at }) j }
+    {
+        let i = word_at(s, l.col + 2 * j + 1);
+        let c = word_at(s, l.g + 3 + 2 * i);
+        let e = word_at(s, l.g + 2 + 2 * i);
+        push(s, self.h, at, e, 1);
+        let n = many(c);
+        at + (1 - n)
+    }
+
+    // Then the written places of this parity whose entry has one copy, in the order of writing.
+    #[tactic(auto, unfolding(crate::specs::Model::singles_m, crate::specs::Model::single_m))]
+    fn half_singles(self, s: &mut [u32], l: Rings, from: usize, written: usize) -> usize
+        requires from_bound { from < word_limit }
+        requires written_bound { written < 68719476736 }
+        requires singles_fit { SinglesFit l self.h self.parity ((written + 1 - self.parity) / 2) (record { words = s.old; count = from }) }
+        ensures { record { words = s.new; count = result } ≡ singles_m l self.h self.parity ((written + 1 - self.parity) / 2) (record { words = s.old; count = from }) }
+    {
+        let mut at = from;
+        for k in 0..(written + 1 - self.parity) / 2 {
+            at = self.half_single(s, l, at, self.parity + 2 * k);
+        }
+        at
+    }
+
+    // One half: its entries of 2 copies or more, its entries of one copy, and its head.
+    #[tactic(auto, unfolding(crate::specs::Model::half_m))]
+    pub(crate) fn write(self, s: &mut [u32], l: Rings, written: usize)
+        requires written_bound { written < 68719476736 }
+        requires half_fits { HalfFits l self.h self.parity l.m written s.old }
+        ensures { s.new ≡ half_m l self.h self.parity l.m written s.old }
+    {
+        let from = self.half_entries(s, l);
+        let at = self.half_singles(s, l, from, written);
+        head(s, self.h, at);
+    }
 }

@@ -6,28 +6,38 @@
 
 ghost use Rattle.std.specs.Prelude.{◌≡◌, ℕ, ◌+◌, ◌*◌, ◌<◌, ◌≤◌};
 ghost use Rattle.words.specs.Words.{word_limit};
-ghost use Rattle.rings.specs.Model.{Fits};
 ghost use Rattle.splitting.specs.Model.{split_m};
 ghost use Rattle.splitting.specs.Bounds.{SplitFits};
 ghost use Rattle.euler.specs.Room.{Splits, HalvesStored};
 ghost use Rattle.mark.specs.Taking.{taken_more};
 
 use circuits::Two;
+use halves::Half;
 use mark::Mark;
 use rings::Rings;
 
 mod halves; // halves.rt: what the walk gives to each half
 
 // The rings, the walk along them, and both halves from what it has written.
-fn split_words(s: &mut [u32], l: Rings, first: usize, second: usize, m: usize, parties: usize)
-    requires { Fits l × (first < word_limit) × (second < word_limit) × (m < word_limit) × (parties < word_limit)
-        × SplitFits l first second m parties s.old }
-    ensures { s.new ≡ split_m l first second m parties s.old }
+#[tactic(auto, unfolding(crate::specs::Model::split_m))]
+fn split_words(s: &mut [u32], l: Rings, first: usize, second: usize)
+    requires first_bound { first < word_limit }
+    requires second_bound { second < word_limit }
+    requires split_fits { SplitFits l first second l.m l.parties s.old }
+    ensures { s.new ≡ split_m l first second l.m l.parties s.old }
 {
-    rings::fill_rings(s, l, m, parties);
-    let written = walking::euler_cycles(s, l, m, parties);
-    halves::half(s, l, first, 0, m, written);
-    halves::half(s, l, second, 1, m, written);
+    l.fill_rings(s);
+    let written = walking::euler_cycles(s, l);
+    let first_half = Half {
+        h: first,
+        parity: 0,
+    };
+    let second_half = Half {
+        h: second,
+        parity: 1,
+    };
+    first_half.write(s, l, written);
+    second_half.write(s, l, written);
 }
 
 // Both halves of the graph at g: the first at u, the second 2·n·(width + 1) words above it. Everything below u stays.
@@ -37,27 +47,31 @@ fn split_at(s: &mut [u32], u: usize, ends: usize, g: usize, n: usize, width: usi
 {
     let k = n * (width + 1);
     let m = words::get(s, g + 1);
-    if circuits::copies_sum(s, g, m, 2 * n) == 2 * n {
+    if circuits::copies_sum(s, g, m, 2 * n) == Some(2 * n) {
         let l = Two {
-            g: g,
-            ends: ends,
+            g,
+            m,
+            parties: 2 * n,
+            ends,
             first: u,
             second: u + 2 * k,
             b: u + 4 * k,
             notes: u + 8 * k,
         };
-        circuits::split_two(s, l, m, 2 * n);
+        l.split_two(s);
         return;
     }
     let b = u + 2 * k + 2 * k;
     let l = Rings {
-        g: g,
-        ends: ends,
-        b: b,
+        g,
+        m,
+        parties: 2 * n,
+        ends,
+        b,
         top: 4 * k,
         col: b + 10 * k,
     };
-    split_words(s, l, u, u + 2 * k, m, 2 * n);
+    split_words(s, l, u, u + 2 * k);
 }
 
 // `rbmg_split_into_two`: takes the words that it needs, and gives back all but the two halves, which stand at the old mark.
@@ -73,7 +87,7 @@ pub fn rbmg_split_into_two(
     ensures { HalvesStored s.old s.new m.old.taken m.new.taken ends g n width × (m.new ≡ taken_more (4 * (n * (width + 1))) m.old) }
 {
     let k = n * (width + 1);
-    let u = mark::take(m, 16 * k);
+    let u = m.take(16 * k);
     split_at(s, u, ends, g, n, width);
-    mark::give_back(m, u + 4 * k);
+    m.give_back(u + 4 * k);
 }

@@ -3,14 +3,7 @@ use Rattle.std.specs.Prelude.{ℕ, ◌-◌, ◌≡◌, List, length}
 use Rattle.words.specs.Words.{region}
 use Rattle.appointments.specs.Appointments.{appts}
 use Rattle.appointments.specs.Checks.{Check, passed, refused, checks}
-use Rattle.appointments.specs.declared.Answered.{Answered}
-use Rattle.appointments.specs.declared.Answered.TheVariants.{Accepted, Refused}
 use Rattle.bipartition.specs.TwoColor.{Sides, sides, not_bipartite, unfinished, two_color}
-
--- the number of a refusal by the checks, as the code has it
-abbrev pub refusal_number : Answered → ℕ
-refusal_number (Accepted d) = 0
-refusal_number (Refused number place) = number
 
 -- Document 01's number: that of the check that refuses; else 0 with sides, and 9 without. (A law rules out that the definition
 -- comes to neither.)

@@ -1,14 +1,12 @@
 // Single steps of the planner, exported so that the host can hold them beside the Rust's. No part of the product.
 #![tactic(auto)]
 
-ghost use Rattle.std.specs.Prelude.{◌≡◌, ◌%◌, ◌+◌, ◌*◌};
-ghost use Rattle.words.specs.Words.{word_limit};
-ghost use Rattle.steps_c.specs.Compared.{TwoColored, refusal_number};
+ghost use Rattle.std.specs.Prelude.{◌≡◌, ◌+◌, ◌*◌};
+ghost use Rattle.steps_c.specs.Compared.{TwoColored};
 ghost use Rattle.euler.specs.Room.{Splits, HalvesStored};
 
-use appointments::Answered;
+use appointments::Refusal;
 use mark::Mark;
-use two_color::TwoColoring;
 
 // Number 0 and how many parties stand on the left, or the number of a refusal.
 #[repr(C)]
@@ -18,19 +16,6 @@ pub struct TwoColorAnswer {
     pub left: u32,
 }
 
-// The answer to a list that a check refuses: its number.
-fn refused(checked: Answered) -> TwoColorAnswer
-    ensures { (result.left ≡ 0) × (result.number ≡ refusal_number checked % word_limit) }
-{
-    match checked {
-        Answered::Accepted(_) => TwoColorAnswer { number: 0, left: 0 },
-        Answered::Refused(number, _) => TwoColorAnswer {
-            number: (number % 4294967296) as u32,
-            left: 0,
-        },
-    }
-}
-
 // Checks 1 to 8 (a slot buffer is not needed), then `two_color`: the left parties stand in the first words of scratch, the right
 // ones from word P on.
 #[unsafe(no_mangle)]
@@ -38,17 +23,24 @@ pub extern "C" fn bimtsure_two_color(p: u16, list: &[u16], scratch: &mut [u32]) 
     ensures { TwoColored p list.now scratch.old scratch.new result.number result.left }
 {
     let parties = p as usize;
-    let checked = checking::check_all(parties, list, list.len(), scratch.len());
-    let Answered::Accepted(d) = checked else {
-        return refused(checked);
+    let d = match checking::check_all(parties, list, list.len(), scratch.len()) {
+        Ok(d) => d,
+        Err(refusal) => {
+            return TwoColorAnswer {
+                number: refusal.number(),
+                left: 0,
+            };
+        }
     };
-    let colored = two_color::two_sides(scratch, parties, d, list);
-    match colored {
-        TwoColoring::Sides(left) => TwoColorAnswer {
+    match two_color::two_sides(scratch, parties, d, list) {
+        Some(left) => TwoColorAnswer {
             number: 0,
             left: left as u32,
         },
-        TwoColoring::NotBipartite => TwoColorAnswer { number: 9, left: 0 },
+        None => TwoColorAnswer {
+            number: Refusal::OddRound.number(),
+            left: 0,
+        },
     }
 }
 

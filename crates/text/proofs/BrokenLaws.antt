@@ -3,7 +3,6 @@ use Prim.Native.Nat.{ℕ, ◌≤◌, ◌<◌}
 use mathlib.Core.Path.{◌≡◌, refl, ap}
 use mathlib.Core.Bool.{Bool, true, false}
 use mathlib.Core.List.{List}
-use native.Mathlib.Omega.{arith}
 use borrow.Author.Tests.{lt-ltb, le-ltb}
 use lib.Dec.{ltb}
 use lib.ListN.{length}
@@ -28,8 +27,8 @@ module _ (bytes : List ℕ) where
   report_refused P list D slots = go (ltb 4096 (length bytes)) (read_input true bytes) refl
     where
       go : (t : Bool) (i : Input) → read_input true bytes ≡ i → pick t (refused 11 0) (input_report i) ≡ plan P list D slots → ⊥
-      go true i r e = let z : ◌≡◌ {A = ℕ} 0 1 = cc in omega arith
-      go false (malformed n) r e = let z : ◌≡◌ {A = ℕ} 0 1 = cc in omega arith
+      go true i r e = cc
+      go false (malformed n) r e = cc
       go false (input Q l) r e = (reads_broken bytes).no_list Q l r
 
 -- A broken input is refused, as specs/Broken.antt says.

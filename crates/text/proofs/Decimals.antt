@@ -4,7 +4,7 @@ use Prim.Native.Nat.{ℕ, zero, suc, ◌+◌, ◌%◌, ◌/◌, ◌≤◌, ◌<�
 use mathlib.Core.Path.{◌≡◌, refl, ◌∙◌, ap}
 use mathlib.Core.Bool.{Bool, true, false}
 use mathlib.Core.List.{List, [], ◌∷◌, ◌++◌}
-use mathlib.Core.Option.{some}
+use Rattle.std.specs.Prelude.{Some}
 use native.Mathlib.Omega.{arith}
 use borrow.Author.Tests.{lt-ltb, le-ltb, ltb-true, ltb-false, ne_eqb}
 use lib.Dec.{ltb}
@@ -51,22 +51,22 @@ decimal_some n =
 
 -- ── their value ──
 
-decimal_by_value : (fuel n : ℕ) → n < fuel → digits_value 0 (decimal_by fuel n) ≡ some n
+decimal_by_value : (fuel n : ℕ) → n < fuel → digits_value 0 (decimal_by fuel n) ≡ Some n
 decimal_by_value zero n h = absurd (omega arith)
 decimal_by_value (suc fuel) n h =
-    by_cases fuel n (λ (l : List ℕ). digits_value 0 l ≡ some n)
-    (λ k. value_last 0 n k ∙ ap some (omega arith))
+    by_cases fuel n (λ (l : List ℕ). digits_value 0 l ≡ Some n)
+    (λ k. value_last 0 n k ∙ ap Some (omega arith))
     (λ k.
     value_append 0 (n / 10) (decimal_by fuel (n / 10)) ((48 + n % 10) ∷ []) (decimal_by_digits fuel (n / 10)) (decimal_by_value fuel (n / 10) (omega arith))
     ∙ value_last (n / 10) (n % 10) (omega arith)
-    ∙ ap some (omega arith))
+    ∙ ap Some (omega arith))
 
-pub decimal_value : (n : ℕ) → digits_value 0 (decimal n) ≡ some n
+pub decimal_value : (n : ℕ) → digits_value 0 (decimal n) ≡ Some n
 unfolding decimal
 decimal_value n = decimal_by_value (suc n) n (omega arith)
 
 -- A printed number below 65,535 is read as that number.
-pub number_decimal : (n : ℕ) → n < 65535 → number (decimal n) ≡ some n
+pub number_decimal : (n : ℕ) → n < 65535 → number (decimal n) ≡ Some n
 unfolding number
 number_decimal n h =
     rw (ne_eqb (length (decimal n)) 0 (omega (arith, decimal_some n)), le-ltb 5 (length (decimal n)) (five_digits n (omega arith)), decimal_value n, lt-ltb n blank h)

@@ -1,86 +1,68 @@
 -- Main, case by case: what its report is when the input is too long, malformed or read, and when the planning call has planned
 -- or refused; and that 1,801 bytes have room for each. Assumes nothing.
 use Prim.Native.Nat.{ℕ, ◌≤◌, ◌<◌}
-use mathlib.Core.Path.{◌≡◌, sym, ◌∙◌, ap, subst}
+use mathlib.Core.Path.{◌≡◌, sym, ◌∙◌, ap}
 use mathlib.Core.Bool.{Bool}
-use mathlib.Core.List.{List}
+use mathlib.Core.List.{List, [], ◌++◌}
 use native.Mathlib.Omega.{arith}
 use borrow.Author.Tests.{lt-ltb, le-ltb}
-use lib.ListN.{length, take, drop, length-append}
-use lib.Seq.{length-take-le}
-use Rattle.appointments.specs.Answers.{accepted, over}
-use Rattle.appointments.specs.Answers as Answers
+use lib.ListN.{length, take}
+use Rattle.std.specs.Prelude.{Result, Ok, Err}
+use Rattle.appointments.specs.Refusals.{refusal_number, refusal_place, told}
+use Rattle.appointments.specs.declared.Refusal.{Refusal}
 use Rattle.planning.specs.Planning.{plan_answer, plan_slots}
-use Rattle.planning.specs.Told.{answer_of}
-use Rattle.planning.specs.declared.Answer.{Answer}
-use Rattle.reading.specs.Reading.{Input, input, read_input}
-use Rattle.printing.specs.Printing.{printed, plan_lines, refusal_line}
+use Rattle.reading.specs.Reading.{read_input}
+use Rattle.reading.specs.Told.{ReadAs}
+use Rattle.reading.specs.declared.ReadInput.{ReadInput}
+use Rattle.reading.proofs.LinesSteps.{was_read, was_malformed}
+use Rattle.printing.specs.Printing.{Report, plan, refused, printed}
+use Rattle.printing.specs.Placed.{Room, Placed}
 use Rattle.text.specs.Text.{main_lent, planned_report, input_report, report, text_output}
-use Rattle.printing.specs.Placed.{Room, Printed}
-use Rattle.text.proofs.TextLaws.{answer_fits, output_fits}
+use Rattle.text.proofs.TextLaws.{output_fits}
 
--- bytes that 1,801 hold have room
-room : (bytes out : List ℕ) → length bytes ≤ 1801 → 1801 ≤ length out → Room out 0 bytes
-room bytes out h k = record { fits = omega (arith, h, k) }
+module _ (broken : Bool) (bytes : List ℕ) where
+  -- above 4,096 bytes it is 11, whatever they are
+  pub report_long : 4096 < length bytes → report broken bytes ≡ refused 11 0
+  unfolding report
+  report_long h = rw (lt-ltb 4096 (length bytes) h)
 
--- ── once the planning call has answered ──
+  -- what is printed of its report has room, and is main's output
+  module _ (r : Report) (e : report broken bytes ≡ r) where
+    output_is : text_output broken bytes ≡ printed r
+    unfolding text_output
+    output_is = ap printed e
 
-module _ (P : ℕ) (list : List ℕ) where
-  abbrev pub Answered : Answers.Answer ℕ → Type 0
-  Answered a = plan_answer (main_lent P list) ≡ a
+    pub output_room : (text : List ℕ) → text ≡ [] → Room 1801 text (printed r)
+    output_room text h = rw h (record { fits = omega (arith, output_fits broken bytes, ap length output_is) })
 
-  abbrev main_slots : List ℕ
-  main_slots = plan_slots (main_lent P list)
+    pub output_placed : (text after : List ℕ) → text ≡ [] → Placed text (printed r) after → after ≡ text_output broken bytes
+    output_placed text after h p = p.stored ∙ ap (λ (l : List ℕ). l ++ printed r) h ∙ sym output_is
 
-  -- what main prints of an answer
-  abbrev bytes_of : Answers.Answer ℕ → List ℕ
-  bytes_of a = printed (planned_report P list a main_slots)
+  -- up to there it goes by what was read
+  module _ (h : length bytes ≤ 4096) where
+    report_read : report broken bytes ≡ input_report (read_input broken bytes)
+    unfolding report
+    report_read = rw (le-ltb 4096 (length bytes) h)
 
-  bytes_fit : (a : Answers.Answer ℕ) → Answered a → length (bytes_of a) ≤ 1801
-  bytes_fit a e = subst (λ b. length (bytes_of b) ≤ 1801) e (answer_fits P list)
+    pub report_malformed : (e : Refusal) (before after : List ℕ) → ReadAs (read_input broken bytes) (Err e) before after → report broken bytes ≡ refused (refusal_number e) (refusal_place e)
+    report_malformed e before after t =
+        let m = was_malformed (read_input broken bytes) e before after t in
+        let number : refusal_number e ≡ 10 = ap refusal_number m.2 in
+        let place : refusal_place e ≡ m.0 = ap refusal_place m.2 in
+        simp (number, place) (report_read ∙ ap input_report m.1)
 
-  pub bytes_printed :
-      (a : Answers.Answer ℕ) → Answered a → (n : ℕ) (out after : List ℕ) → Printed (bytes_of a) n out after →
-      Printed (printed (input_report (input P list))) n out after
-  bytes_printed a e n out after p = subst (λ b. Printed (bytes_of b) n out after) (sym e) p
+    -- and by what the planning call then tells
+    module _ (r : ReadInput) (before after : List ℕ) (t : ReadAs (read_input broken bytes) (Ok r) before after) where
+      abbrev list : List ℕ
+      list = take r.count after
 
-  -- planned with D
-  pub plan_needs :
-      (D : ℕ) (slots out : List ℕ) → Answered (accepted D) → slots ≡ main_slots → 1801 ≤ length out →
-      Room out 0 (plan_lines P list D slots)
-  plan_needs D slots out e s h = rw s (room (bytes_of (accepted D)) out (bytes_fit (accepted D) e) h)
+      report_told : (a : Result ℕ Refusal) → told a ≡ plan_answer (main_lent r.parties list)
+          → report broken bytes ≡ planned_report r.parties list (told a) (plan_slots (main_lent r.parties list))
+      report_told a e = rw (report_read, (was_read (read_input broken bytes) r before after t).is, e)
 
-  -- refused
-  pub refusal_needs :
-      (number place : ℕ) (out : List ℕ) → Answered (Answers.Answer.refused number place) → 1801 ≤ length out →
-      Room out 0 (refusal_line number place)
-  refusal_needs number place out e h = room (bytes_of (Answers.Answer.refused number place)) out (bytes_fit (Answers.Answer.refused number place) e) h
+      pub report_refused : (e : Refusal) → told (Err e) ≡ plan_answer (main_lent r.parties list) → report broken bytes ≡ refused (refusal_number e) (refusal_place e)
+      report_refused e h = report_told (Err e) h
 
--- the answer that was told
-pub told_answer : (r s : Answer) (a : Answers.Answer ℕ) → r ≡ s → answer_of r ≡ a → a ≡ answer_of s
-told_answer r s a e t = sym t ∙ ap answer_of e
-
--- ── the whole ──
-
--- above 4,096 bytes it is 11, whatever they are
-pub output_long : (broken : Bool) (bytes : List ℕ) → 4096 < length bytes → text_output broken bytes ≡ refusal_line 11 0
-unfolding text_output report
-output_long broken bytes h = rw (lt-ltb 4096 (length bytes) h)
-
--- up to there it goes by what was read
-pub output_read : (broken : Bool) (bytes : List ℕ) (i : Input) → length bytes ≤ 4096 → read_input broken bytes ≡ i → text_output broken bytes ≡ printed (input_report i)
-unfolding text_output report
-output_read broken bytes i h e = rw (le-ltb 4096 (length bytes) h, e)
-
--- Main's bytes have room in 1,801,
-pub output_room : (broken : Bool) (bytes line out : List ℕ) → text_output broken bytes ≡ line → 1801 ≤ length out → Room out 0 line
-output_room broken bytes line out e h = rw (← e) (room (text_output broken bytes) out (output_fits broken bytes) h)
-
--- and what is printed is what main prints; it stands in the output.
-pub output_printed :
-    (broken : Bool) (bytes line : List ℕ) (n : ℕ) (out after : List ℕ) → text_output broken bytes ≡ line → Printed line n out after →
-    (n ≡ length (text_output broken bytes)) × ((after ≡ over (text_output broken bytes) out) × ((n ≤ length after) × (n ≡ length (take n after))))
-output_printed broken bytes line n out after e p =
-    let inside : n ≤ length after =
-    rw (p.stored, length-append line (drop (length line) out)) (omega (arith, p.counted)) in
-    rw e (p.counted, (p.stored, (inside, sym (length-take-le n after inside))))
+      pub report_planned : (d : ℕ) (slots : List ℕ) → told (Ok d) ≡ plan_answer (main_lent r.parties list) → slots ≡ plan_slots (main_lent r.parties list)
+          → report broken bytes ≡ plan r.parties list d slots
+      report_planned d slots h s = rw s (report_told (Ok d) h)

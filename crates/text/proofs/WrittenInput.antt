@@ -4,7 +4,7 @@ use Prim.Native.Nat.{ℕ, ◌+◌, ◌%◌, ◌<◌}
 use mathlib.Core.Path.{◌≡◌, refl, sym, ◌∙◌, ap}
 use mathlib.Core.Bool.{Bool, true, false}
 use mathlib.Core.List.{List, [], ◌∷◌, ◌++◌}
-use mathlib.Core.Option.{Option, some}
+use Rattle.std.specs.Prelude.{Option, Some}
 use native.Mathlib.Omega.{arith}
 use borrow.Author.Tests.{eqb-true, eqb-false}
 use lib.Dec.{eqb}
@@ -53,12 +53,12 @@ end_free separator e h = go (eqb e blank)
     go true = tt
     go false = decimal_free separator e h
 
-end_back : (e : ℕ) → e < 65536 → end_of (end_text e) ≡ some e
+end_back : (e : ℕ) → e < 65536 → end_of (end_text e) ≡ Some e
 unfolding end_text end_of
 end_back e h = go (eqb e blank) refl
   where
-    go : (t : Bool) → eqb e blank ≡ t → end_of (pick t [] (decimal e)) ≡ some e
-    go true q = ap some (sym (eqb-true e blank q))
+    go : (t : Bool) → eqb e blank ≡ t → end_of (pick t [] (decimal e)) ≡ Some e
+    go true q = ap Some (sym (eqb-true e blank q))
     go false q =
         let other : e ≡ blank → ⊥ = eqb-false e blank q in
         end_number (decimal e) (decimal_some e) ∙ number_decimal e (omega arith)
@@ -66,7 +66,7 @@ end_back e h = go (eqb e blank) refl
 abbrev line_text : ℕ → ℕ → List ℕ
 line_text a b = end_text a ++ (comma ∷ end_text b)
 
-line_back : (a b : ℕ) → a < 65536 → b < 65536 → appointment_of (line_text a b) ≡ some (appt a b)
+line_back : (a b : ℕ) → a < 65536 → b < 65536 → appointment_of (line_text a b) ≡ Some (appt a b)
 unfolding appointment_of
 line_back a b h k =
     rw (parts_first comma (end_text a) (end_text b) (end_free comma a (omega arith)), parts_last comma (end_text b) (end_free comma b (omega arith)))

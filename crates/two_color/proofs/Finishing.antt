@@ -5,6 +5,7 @@ use mathlib.Core.List.{List, [], ◌∷◌}
 use native.Mathlib.Omega.{arith}
 use native.Mathlib.Nat.{le_refl}
 use lib.ListN.{length}
+use Rattle.std.specs.Prelude.{Some, None}
 use Rattle.words.specs.Basics.{All, iterate}
 use Rattle.words.specs.Words.{word, region}
 use Rattle.words.specs.Frames.{Keeps}
@@ -15,7 +16,6 @@ use Rattle.bipartition.specs.TwoColor.{Colouring, neighbours, Search, going, ref
 use Rattle.two_color.specs.Contract.{CanColor, Colored}
 use Rattle.two_color_steps.specs.Model.{Small, right_place, refused_place, left_count, prepare_m, steps_m}
 use Rattle.two_color_steps.specs.Bounds.{CanStepAll}
-use Rattle.two_color.specs.declared.TwoColoring.TheVariants.{Sides, NotBipartite}
 use Rattle.bipartition.proofs.Colouring.{sides_length, coloured_all}
 use Rattle.bipartition.proofs.Search.{neighbours_below}
 use Rattle.bipartition.proofs.Starts.{Ended, search_ends}
@@ -29,7 +29,7 @@ nobody : (u : ℕ) (list s : List ℕ) → two_color 0 (appts list) ≡ sides (r
 unfolding two_color search_below region side
 nobody u list s = refl
 
-pub none_colored : (u : ℕ) (list s : List ℕ) (p m : ℕ) → p ≡ 0 → m ≡ u + 2 * p → Colored p list u s m s (Sides 0)
+pub none_colored : (u : ℕ) (list s : List ℕ) (p m : ℕ) → p ≡ 0 → m ≡ u + 2 * p → Colored p list u s m s (Some 0)
 none_colored u list s p m e h = record { answers = (omega arith, rw e (nobody u list s)); mark = h; keeps = keeps_refl u s }
 
 -- the words before the first step, and after the last
@@ -98,12 +98,12 @@ module _ (u p d : ℕ) (list s : List ℕ) (can : CanColor p d u list s) (some :
       (so_far, refl, own, omega arith, omega arith)
 
   -- It refused.
-  pub refused_colored : (m : ℕ) → m ≡ u + 2 * p → (word (last_words u p d list s) (refused_place u p) ≡ 0 → ⊥) → Colored p list u s m (last_words u p d list s) NotBipartite
+  pub refused_colored : (m : ℕ) → m ≡ u + 2 * p → (word (last_words u p d list s) (refused_place u p) ≡ 0 → ⊥) → Colored p list u s m (last_words u p d list s) None
   unfolding two_color xs
   refused_colored m h n = record { answers = rw (refuses (search_below p xs p) ended whole n); mark = h; keeps = keeps }
 
   -- It found sides.
-  pub found_colored : (m l : ℕ) → m ≡ u + 2 * p → word (last_words u p d list s) (refused_place u p) ≡ 0 → l ≡ word (last_words u p d list s) (left_count u p) → Colored p list u s m (last_words u p d list s) (Sides l)
+  pub found_colored : (m l : ℕ) → m ≡ u + 2 * p → word (last_words u p d list s) (refused_place u p) ≡ 0 → l ≡ word (last_words u p d list s) (left_count u p) → Colored p list u s m (last_words u p d list s) (Some l)
   unfolding two_color xs
   found_colored m l h z q =
       let f = finds (search_below p xs p) ended whole z l q in

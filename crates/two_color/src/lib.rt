@@ -11,50 +11,44 @@ ghost use Rattle.mark.specs.Taking.{taken_more};
 ghost use Rattle.two_color.specs.Contract.{CanColor, Colored};
 
 use mark::Mark;
-use two_color_steps::{all_steps, prepare};
+use two_color_steps::Layout;
 
-// The sides, with the number of parties on the left; or some closed round of appointments has odd length.
-#[derive(Clone, Copy)]
-pub enum TwoColoring {
-    Sides(usize),
-    NotBipartite,
-}
-
-// `two_color` by numbers, without the mark: the left side is at `u` and the right side p words above it. Everything below `u`
-// stays.
-fn color_at(s: &mut [u32], u: usize, p: usize, d: usize, list: &[u16]) -> TwoColoring
+// `two_color` by numbers, without the mark: how many parties are on the left, or none where some closed round of appointments has odd
+// length. The left side is at `u` and the right side p words above it. Everything below `u` stays.
+fn color_at(s: &mut [u32], u: usize, p: usize, d: usize, list: &[u16]) -> Option<usize>
     requires { CanColor p d u list.now s.old }
     ensures { Colored p list.now u s.old (u + 2 * p) s.new result }
 {
     if p == 0 {
-        return TwoColoring::Sides(0);
+        return Some(0);
     }
-    prepare(s, u, p, d, list);
-    all_steps(s, u, p);
-    let refused = words::get(s, u + 4 * p);
+    let at = Layout { u, p };
+    at.prepare(s, d, list);
+    at.all_steps(s);
+    let refused = words::get(s, at.refused_place());
     if refused != 0 {
-        return TwoColoring::NotBipartite;
+        return None;
     }
-    let left = words::get(s, u + 4 * p + 3);
-    TwoColoring::Sides(left)
+    let left = words::get(s, at.left_count());
+    Some(left)
 }
 
 // Takes the words that it needs (the five words of state count as 5·p), and gives back all but the two sides, also where it
 // refuses: the left side is at the old mark and the right side p words above it. Everything below the old mark stays.
-pub fn two_color(s: &mut [u32], m: &mut Mark, p: usize, d: usize, list: &[u16]) -> TwoColoring
+pub fn two_color(s: &mut [u32], m: &mut Mark, p: usize, d: usize, list: &[u16]) -> Option<usize>
     requires { CanColor p d m.old.taken list.now s.old × (m.old.taken + (11 * p + d * p) ≤ m.old.there) }
     ensures { Colored p list.now m.old.taken s.old m.new.taken s.new result × (m.new ≡ taken_more (2 * p) m.old) }
 {
     let n = 11 * p + d * p;
-    let u = mark::take(m, n);
+    let u = m.take(n);
     let r = color_at(s, u, p, d, list);
     let top = u + 2 * p;
-    mark::give_back(m, top);
+    m.give_back(top);
     r
 }
 
 // `two_color` on a scratch of which nothing is taken: the left side is at word 0 and the right side at word p.
-pub fn two_sides(s: &mut [u32], p: usize, d: usize, list: &[u16]) -> TwoColoring
+pub fn two_sides(s: &mut [u32], p: usize, d: usize, list: &[u16]) -> Option<usize>
     requires { CanColor p d 0 list.now s.old }
     ensures { Colored p list.now 0 s.old (2 * p) s.new result }
 {

@@ -17,12 +17,26 @@
 
 ghost use Rattle.std.specs.Prelude.{◌≡◌, ◌+◌, ◌*◌, ◌/◌, ◌<◌, ◌≤◌, length};
 ghost use Rattle.words.specs.Words.{word, word_limit};
-ghost use Rattle.two_color_steps.specs.Model.{Small, append_m, clear_state_m, start_party_m, start_parties_m, push_end_m, fill_rows_m, color_party_m, touch_m, look_m, touch_all_m, take_off_m, next_party_m, step_m, steps_m, prepare_m};
+ghost use Rattle.two_color_steps.specs.Model.{right_place, stack_place, colour_place, refused_place, next_place, stack_count, left_count, right_count, row_count, row_start, row_place};
+ghost use Rattle.two_color_steps.specs.Model.{append_m, clear_state_m, start_party_m, start_parties_m, push_end_m, fill_rows_m, color_party_m, touch_m, look_m, touch_all_m, take_off_m, next_party_m, step_m, steps_m, prepare_m};
 ghost use Rattle.two_color_steps.specs.Bounds.{CanAppend, CanPush, CanFill, CanPrepare, CanColorParty, CanTouch, CanLook, CanLookAll, CanTakeOff, CanGoOn, CanStep, CanStepAll};
 
-use words::{NodeIndex, set_word, word_at, word16_at};
+use words::{NodeIndex, set_word, word_at};
+
+// What stands in a colour's place while the party has none.
+const NO_COLOUR: usize = 2;
+
+// Where the words of a search start, and how many parties it colours. Both are small, so that sums of addresses are numbers.
+#[derive(Clone, Copy)]
+pub struct Layout {
+    pub u: usize,
+    pub p: usize,
+    pub ghost low: { u < 2147483648 },
+    pub ghost few: { p ≤ 1024 },
+}
 
 // Puts `w` at the end of the list whose length stands at `k` and whose words start at `a`. Rows, stack and sides are such lists.
+#[tactic(auto, unfolding(crate::specs::Model::append_m))]
 fn append(s: &mut [u32], k: usize, a: usize, w: usize)
     requires a_bound { a < 1099511627776 }
     requires can_append { CanAppend k a s.old }
@@ -33,211 +47,278 @@ fn append(s: &mut [u32], k: usize, a: usize, w: usize)
     set_word(s, k, n + 1);
 }
 
-// Nothing is refused, party 0 is next, and the stack and both sides are empty.
-fn clear_state(s: &mut [u32], u: usize, p: usize)
-    requires { Small u p }
-    ensures { s.new ≡ clear_state_m u p s.old }
-{
-    let at = u + 4 * p;
-    words::put(s, at, 0);
-    words::put(s, at + 1, 0);
-    words::put(s, at + 2, 0);
-    words::put(s, at + 3, 0);
-    words::put(s, at + 4, 0);
-}
-
-// A party without a colour and with an empty row.
-fn start_party(s: &mut [u32], u: usize, p: usize, d: usize, w: NodeIndex)
-    requires small { Small u p }
-    requires w_bound { d * w.0 < word_limit }
-    ensures { s.new ≡ start_party_m u p d w.0 s.old }
-{
-    let v = w.0 as usize;
-    words::put(s, u + 3 * p + v, 2);
-    words::put(s, u + 4 * p + 5 + 2 * v, 0);
-    words::put(s, u + 4 * p + 6 + 2 * v, u + 6 * p + 5 + d * v);
-}
-
-// All parties so.
-fn start_parties(s: &mut [u32], u: usize, p: usize, d: usize)
-    requires small { Small u p }
-    requires p_bound { d * p ≤ 8192 }
-    ensures { s.new ≡ start_parties_m u p d p s.old }
-{
-    let mut v = 0;
-    while v < p {
-        start_party(s, u, p, d, NodeIndex(v as u32));
-        v += 1;
+impl Layout {
+    // The right side.
+    fn right_place(self) -> usize
+        ensures { result ≡ right_place self.u self.p }
+    {
+        self.u + self.p
     }
-}
 
-// The number at `j` goes into the row of the party at `i`.
-fn push_end(s: &mut [u32], u: usize, p: usize, list: &[u16], i: usize, j: usize)
-    requires small { Small u p }
-    requires i_in_bounds { (i < length list.now) × (j < length list.now) }
-    requires can_push { CanPush u p (word list.now i) s.old }
-    ensures { s.new ≡ push_end_m u p list.now i j s.old }
-{
-    let v = word16_at(list, i);
-    let w = word16_at(list, j);
-    let row = word_at(s, u + 4 * p + 6 + 2 * v);
-    append(s, u + 4 * p + 5 + 2 * v, row, w);
-}
+    fn stack_place(self) -> usize
+        ensures { result ≡ stack_place self.u self.p }
+    {
+        self.u + 2 * self.p
+    }
 
-// Each appointment, from the newest down: its end `far` goes into the row of its end `near` (0 the first end, 1 the second).
-fn fill_rows(s: &mut [u32], u: usize, p: usize, list: &[u16], near: usize, far: usize)
-    requires small { Small u p }
-    requires list_len_bound { length list.now ≤ 8192 }
-    requires near_bound { (near ≤ 1) × (far ≤ 1) }
-    requires can_fill { CanFill u p list.now near far (length list.now / 2) s.old }
-    ensures { s.new ≡ fill_rows_m u p list.now near far (length list.now / 2) s.old }
-{
-    let mut i = list.len() / 2;
-    while i > 0 {
-        i -= 1;
-        push_end(s, u, p, list, 2 * i + near, 2 * i + far);
+    // The colour of a party, if it has one.
+    fn colour_place(self, w: NodeIndex) -> usize
+        ensures { result ≡ colour_place self.u self.p w.0 }
+    {
+        let v = w.0 as usize;
+        self.u + 3 * self.p + v
     }
-}
 
-// A party gets its colour, goes on the stack and to the end of its side.
-fn color_party(s: &mut [u32], u: usize, p: usize, w: NodeIndex, color: usize)
-    requires small { Small u p }
-    requires can_color_party { CanColorParty u p w.0 color s.old }
-    ensures { s.new ≡ color_party_m u p w.0 color s.old }
-{
-    let v = w.0 as usize;
-    set_word(s, u + 3 * p + v, color);
-    append(s, u + 4 * p + 2, u + 2 * p, v);
-    if color == 0 {
-        append(s, u + 4 * p + 3, u, v);
-        return;
+    // Is it refused?
+    pub fn refused_place(self) -> usize
+        ensures { result ≡ refused_place self.u self.p }
+    {
+        self.u + 4 * self.p
     }
-    append(s, u + 4 * p + 4, u + p, v);
-}
 
-// A neighbour that is to have the colour `other`: nothing happens if it has, it gets it if it has none, and else it refuses.
-// Once it is refused nobody gets a colour.
-fn touch(s: &mut [u32], u: usize, p: usize, other: usize, w: NodeIndex)
-    requires small { Small u p }
-    requires can_touch { CanTouch u p other w.0 s.old }
-    ensures { s.new ≡ touch_m u p other w.0 s.old }
-{
-    let v = w.0 as usize;
-    let have = word_at(s, u + 3 * p + v);
-    if have == other {
-        return;
+    // The next party to start from.
+    fn next_place(self) -> usize
+        ensures { result ≡ next_place self.u self.p }
+    {
+        self.refused_place() + 1
     }
-    if have != 2 {
-        words::put(s, u + 4 * p, 1);
-        return;
-    }
-    let refused = words::get(s, u + 4 * p);
-    if refused == 0 {
-        color_party(s, u, p, w, other);
-    }
-}
 
-// The neighbour whose number stands at `at`.
-fn look(s: &mut [u32], u: usize, p: usize, other: usize, at: usize)
-    requires small { Small u p }
-    requires can_look { CanLook u p other at s.old }
-    ensures { s.new ≡ look_m u p other at s.old }
-{
-    let w = word_at(s, at);
-    touch(s, u, p, other, NodeIndex(w as u32));
-}
-
-// All neighbours of a party, in the order of its row.
-fn touch_all(s: &mut [u32], u: usize, p: usize, w: NodeIndex)
-    requires small { Small u p }
-    requires can_look_all { CanLookAll u p w.0 s.old }
-    ensures { s.new ≡ touch_all_m u p w.0 s.old }
-{
-    let v = w.0 as usize;
-    let color = words::get(s, u + 3 * p + v);
-    let n = words::get(s, u + 4 * p + 5 + 2 * v);
-    let row = words::get(s, u + 4 * p + 6 + 2 * v);
-    let other = 1 - color % 2;
-    let mut t = 0;
-    while t < n {
-        look(s, u, p, other, row + t);
-        t += 1;
+    fn stack_count(self) -> usize
+        ensures { result ≡ stack_count self.u self.p }
+    {
+        self.refused_place() + 2
     }
-}
 
-// The last party on a stack of `h` comes off.
-fn take_off(s: &mut [u32], u: usize, p: usize, h: usize)
-    requires small { Small u p }
-    requires h_nonzero { (0 < h) × (h < word_limit) }
-    requires can_take_off { CanTakeOff u p h s.old }
-    ensures { s.new ≡ take_off_m u p h s.old }
-{
-    let v = words::get(s, u + 2 * p + (h - 1));
-    words::put(s, u + 4 * p + 2, h - 1);
-    touch_all(s, u, p, NodeIndex(v as u32));
-}
+    pub fn left_count(self) -> usize
+        ensures { result ≡ left_count self.u self.p }
+    {
+        self.refused_place() + 3
+    }
 
-// On to the next party, which gets 1 if it has no colour. After the last there is none, and nothing happens.
-fn next_party(s: &mut [u32], u: usize, p: usize)
-    requires small { Small u p }
-    requires can_go_on { CanGoOn u p s.old }
-    ensures { s.new ≡ next_party_m u p s.old }
-{
-    let v = words::get(s, u + 4 * p + 1);
-    if v >= p {
-        return;
+    fn right_count(self) -> usize
+        ensures { result ≡ right_count self.u self.p }
+    {
+        self.refused_place() + 4
     }
-    let have = words::get(s, u + 3 * p + v);
-    words::put(s, u + 4 * p + 1, v + 1);
-    if have == 2 {
-        color_party(s, u, p, NodeIndex(v as u32), 1);
-    }
-}
 
-// One step of the search: the last party comes off the stack, or with an empty stack it goes on to the next party. Once it is
-// refused nothing happens.
-fn step(s: &mut [u32], u: usize, p: usize)
-    requires small { Small u p }
-    requires can_step { CanStep u p s.old }
-    ensures { s.new ≡ step_m u p s.old }
-{
-    let refused = words::get(s, u + 4 * p);
-    if refused != 0 {
-        return;
+    // The length of a party's row.
+    fn row_count(self, w: NodeIndex) -> usize
+        ensures { result ≡ row_count self.u self.p w.0 }
+    {
+        let v = w.0 as usize;
+        self.refused_place() + 5 + 2 * v
     }
-    let h = words::get(s, u + 4 * p + 2);
-    if h == 0 {
-        next_party(s, u, p);
-        return;
-    }
-    take_off(s, u, p, h);
-}
 
-// Each party is passed once and comes off once: 2·p steps suffice, and one after the end does nothing.
-pub fn all_steps(s: &mut [u32], u: usize, p: usize)
-    requires small { Small u p }
-    requires can_step_all { CanStepAll u p (2 * p) s.old }
-    ensures { s.new ≡ steps_m u p (2 * p) s.old }
-{
-    let n = 2 * p;
-    let mut k = 0;
-    while k < n {
-        step(s, u, p);
-        k += 1;
+    // The word that says where a party's row lies.
+    fn row_start(self, w: NodeIndex) -> usize
+        ensures { result ≡ row_start self.u self.p w.0 }
+    {
+        self.row_count(w) + 1
     }
-}
 
-// The words before the first step. In its row a party's appointments where it is first end come before those where it is
-// second end, each newest first: document 01's order of neighbours.
-pub fn prepare(s: &mut [u32], u: usize, p: usize, d: usize, list: &[u16])
-    requires small { Small u p }
-    requires list_len_bound { length list.now ≤ 8192 }
-    requires p_bound { d * p ≤ 8192 }
-    requires can_prepare { CanPrepare u p d list.now s.old }
-    ensures { s.new ≡ prepare_m u p d list.now s.old }
-{
-    clear_state(s, u, p);
-    start_parties(s, u, p, d);
-    fill_rows(s, u, p, list, 0, 1);
-    fill_rows(s, u, p, list, 1, 0);
+    // A party's row, of `d` words.
+    fn row_place(self, d: usize, w: NodeIndex) -> usize
+        requires { d * w.0 < word_limit }
+        ensures { result ≡ row_place self.u self.p d w.0 }
+    {
+        let v = w.0 as usize;
+        self.u + 6 * self.p + 5 + d * v
+    }
+
+    // Nothing is refused, party 0 is next, and the stack and both sides are empty.
+    #[tactic(auto, unfolding(crate::specs::Model::clear_state_m))]
+    fn clear_state(self, s: &mut [u32])
+        ensures { s.new ≡ clear_state_m self.u self.p s.old }
+    {
+        words::put(s, self.refused_place(), 0);
+        words::put(s, self.next_place(), 0);
+        words::put(s, self.stack_count(), 0);
+        words::put(s, self.left_count(), 0);
+        words::put(s, self.right_count(), 0);
+    }
+
+    // A party without a colour and with an empty row.
+    #[tactic(auto, unfolding(crate::specs::Model::start_party_m))]
+    fn start_party(self, s: &mut [u32], d: usize, w: NodeIndex)
+        requires { d * w.0 < word_limit }
+        ensures { s.new ≡ start_party_m self.u self.p d w.0 s.old }
+    {
+        words::put(s, self.colour_place(w), NO_COLOUR);
+        words::put(s, self.row_count(w), 0);
+        words::put(s, self.row_start(w), self.row_place(d, w));
+    }
+
+    // All parties so.
+    #[tactic(auto, unfolding(crate::specs::Model::start_parties_m))]
+    fn start_parties(self, s: &mut [u32], d: usize)
+        requires { d * self.p ≤ 8192 }
+        ensures { s.new ≡ start_parties_m self.u self.p d self.p s.old }
+    {
+        for v in 0..self.p {
+            self.start_party(s, d, NodeIndex(v as u32));
+        }
+    }
+
+    // The number at `j` goes into the row of the party at `i`.
+    #[tactic(auto, unfolding(crate::specs::Model::push_end_m))]
+    fn push_end(self, s: &mut [u32], list: &[u16], i: usize, j: usize)
+        requires i_in_bounds { (i < length list.now) × (j < length list.now) }
+        requires can_push { CanPush self.u self.p (word list.now i) s.old }
+        ensures { s.new ≡ push_end_m self.u self.p list.now i j s.old }
+    {
+        let v = NodeIndex(word_at(list, i) as u32);
+        let w = word_at(list, j);
+        let row = word_at(s, self.row_start(v));
+        append(s, self.row_count(v), row, w);
+    }
+
+    // Each appointment, from the newest down: its end `far` goes into the row of its end `near` (0 the first end, 1 the second).
+    #[tactic(auto, unfolding(crate::specs::Model::fill_rows_m))]
+    fn fill_rows(self, s: &mut [u32], list: &[u16], near: usize, far: usize)
+        requires list_len_bound { length list.now ≤ 8192 }
+        requires near_bound { (near ≤ 1) × (far ≤ 1) }
+        requires can_fill { CanFill self.u self.p list.now near far (length list.now / 2) s.old }
+        ensures { s.new ≡ fill_rows_m self.u self.p list.now near far (length list.now / 2) s.old }
+    {
+        for i in (0..list.len() / 2).rev() {
+            self.push_end(s, list, 2 * i + near, 2 * i + far);
+        }
+    }
+
+    // A party gets its colour, goes on the stack and to the end of its side.
+    #[tactic(auto, unfolding(crate::specs::Model::color_party_m))]
+    fn color_party(self, s: &mut [u32], w: NodeIndex, color: usize)
+        requires { CanColorParty self.u self.p w.0 color s.old }
+        ensures { s.new ≡ color_party_m self.u self.p w.0 color s.old }
+    {
+        let v = w.0 as usize;
+        set_word(s, self.colour_place(w), color);
+        append(s, self.stack_count(), self.stack_place(), v);
+        if color == 0 {
+            append(s, self.left_count(), self.u, v);
+            return;
+        }
+        append(s, self.right_count(), self.right_place(), v);
+    }
+
+    // A neighbour that is to have the colour `other`: nothing happens if it has, it gets it if it has none, and else it refuses.
+    // Once it is refused nobody gets a colour.
+    #[tactic(auto, unfolding(crate::specs::Model::touch_m))]
+    fn touch(self, s: &mut [u32], other: usize, w: NodeIndex)
+        requires { CanTouch self.u self.p other w.0 s.old }
+        ensures { s.new ≡ touch_m self.u self.p other w.0 s.old }
+    {
+        let have = word_at(s, self.colour_place(w));
+        if have == other {
+            return;
+        }
+        if have != NO_COLOUR {
+            words::put(s, self.refused_place(), 1);
+            return;
+        }
+        let refused = words::get(s, self.refused_place());
+        if refused == 0 {
+            self.color_party(s, w, other);
+        }
+    }
+
+    // The neighbour whose number stands at `at`.
+    #[tactic(auto, unfolding(crate::specs::Model::look_m))]
+    fn look(self, s: &mut [u32], other: usize, at: usize)
+        requires { CanLook self.u self.p other at s.old }
+        ensures { s.new ≡ look_m self.u self.p other at s.old }
+    {
+        let w = word_at(s, at);
+        self.touch(s, other, NodeIndex(w as u32));
+    }
+
+    // All neighbours of a party, in the order of its row.
+    #[tactic(auto, unfolding(crate::specs::Model::touch_all_m, crate::specs::Model::looks_m))]
+    fn touch_all(self, s: &mut [u32], w: NodeIndex)
+        requires { CanLookAll self.u self.p w.0 s.old }
+        ensures { s.new ≡ touch_all_m self.u self.p w.0 s.old }
+    {
+        let color = words::get(s, self.colour_place(w));
+        let n = words::get(s, self.row_count(w));
+        let row = words::get(s, self.row_start(w));
+        let other = 1 - color % 2;
+        for t in 0..n {
+            self.look(s, other, row + t);
+        }
+    }
+
+    // The last party on a stack of `h` comes off.
+    #[tactic(auto, unfolding(crate::specs::Model::take_off_m))]
+    fn take_off(self, s: &mut [u32], h: usize)
+        requires h_nonzero { (0 < h) × (h < word_limit) }
+        requires can_take_off { CanTakeOff self.u self.p h s.old }
+        ensures { s.new ≡ take_off_m self.u self.p h s.old }
+    {
+        let v = words::get(s, self.stack_place() + (h - 1));
+        words::put(s, self.stack_count(), h - 1);
+        self.touch_all(s, NodeIndex(v as u32));
+    }
+
+    // On to the next party, which gets 1 if it has no colour. After the last there is none, and nothing happens.
+    #[tactic(auto, unfolding(crate::specs::Model::next_party_m))]
+    fn next_party(self, s: &mut [u32])
+        requires { CanGoOn self.u self.p s.old }
+        ensures { s.new ≡ next_party_m self.u self.p s.old }
+    {
+        let v = words::get(s, self.next_place());
+        if v >= self.p {
+            return;
+        }
+        let w = NodeIndex(v as u32);
+        let have = words::get(s, self.colour_place(w));
+        words::put(s, self.next_place(), v + 1);
+        if have == NO_COLOUR {
+            self.color_party(s, w, 1);
+        }
+    }
+
+    // One step of the search: the last party comes off the stack, or with an empty stack it goes on to the next party. Once it is
+    // refused nothing happens.
+    #[tactic(auto, unfolding(crate::specs::Model::step_m))]
+    fn step(self, s: &mut [u32])
+        requires { CanStep self.u self.p s.old }
+        ensures { s.new ≡ step_m self.u self.p s.old }
+    {
+        let refused = words::get(s, self.refused_place());
+        if refused != 0 {
+            return;
+        }
+        let h = words::get(s, self.stack_count());
+        if h == 0 {
+            self.next_party(s);
+            return;
+        }
+        self.take_off(s, h);
+    }
+
+    // Each party is passed once and comes off once: 2·p steps suffice, and one after the end does nothing.
+    #[tactic(auto, unfolding(crate::specs::Model::steps_m))]
+    pub fn all_steps(self, s: &mut [u32])
+        requires { CanStepAll self.u self.p (2 * self.p) s.old }
+        ensures { s.new ≡ steps_m self.u self.p (2 * self.p) s.old }
+    {
+        for _ in 0..2 * self.p {
+            self.step(s);
+        }
+    }
+
+    // The words before the first step. In its row a party's appointments where it is first end come before those where it is
+    // second end, each newest first: document 01's order of neighbours.
+    #[tactic(auto, unfolding(crate::specs::Model::prepare_m))]
+    pub fn prepare(self, s: &mut [u32], d: usize, list: &[u16])
+        requires list_len_bound { length list.now ≤ 8192 }
+        requires p_bound { d * self.p ≤ 8192 }
+        requires can_prepare { CanPrepare self.u self.p d list.now s.old }
+        ensures { s.new ≡ prepare_m self.u self.p d list.now s.old }
+    {
+        self.clear_state(s);
+        self.start_parties(s, d);
+        self.fill_rows(s, list, 0, 1);
+        self.fill_rows(s, list, 1, 0);
+    }
 }

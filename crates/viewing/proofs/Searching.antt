@@ -1,18 +1,17 @@
--- The viewer's search by position: what a turn of it finds at a position of the flat list, and what a step then tells.
+-- The viewer's search by position: what a turn of it finds at a position of the flat list, and what a step then shows.
 -- Assumes nothing.
 use Prim.Native.Nat.{ℕ, ◌+◌, ◌/◌, ◌≤◌, ◌<◌}
-use mathlib.Core.Path.{◌≡◌, refl, ◌∙◌, ap}
+use mathlib.Core.Path.{◌≡◌, ◌∙◌, ap}
 use mathlib.Core.Bool.{true, false}
 use mathlib.Core.List.{List}
 use native.Mathlib.Omega.{arith}
+use Rattle.std.specs.Prelude.{Some, None}
 use lib.ListN.{length, get_or}
 use Rattle.appointments.specs.Appointments.{appt, appts, named, named_at}
 use Rattle.appointments.specs.Checks.{First, at, nowhere}
 use Rattle.appointments.proofs.FirstFrom.{seek, seek_here, seek_on, seek_past}
 use Rattle.appointments.proofs.Flat.{appts_count, appt_at}
-use Rattle.viewing.specs.Viewer.{Step, found, end, view_step, view_next}
-use Rattle.viewing.specs.Told.{shown_of, stands_of}
-use Rattle.viewing.specs.declared.Shown.TheVariants as shown
+use Rattle.viewing.specs.Viewer.{seen, view_step, view_next}
 use Rattle.viewing.proofs.ViewerSteps.{step_found, step_end}
 
 -- ── one turn of the search ──
@@ -38,17 +37,12 @@ module _ (party : ℕ) (list : List ℕ) (i : ℕ) where
   pub named_past : length list / 2 ≤ i → seek_named party list i ≡ nowhere
   named_past h = seek_past (named party) (appts list) i (omega (arith, appts_count list))
 
-module _ (party : ℕ) (list slots : List ℕ) where
-  -- what the step tells of it
-  pub told_found : (from i : ℕ) → seek_named party list from ≡ at i → shown.Found i (get_or slots i 0) (i + 1) ≡ shown_of (view_step party list slots from) (view_next party list slots from)
+-- What the step shows of it, and where the viewer then stands.
+module _ (party : ℕ) (list slots : List ℕ) (from : ℕ) where
+  pub shows_found : (i : ℕ) → seek_named party list from ≡ at i → (Some (seen slots i) ≡ view_step party list slots from) × (i + 1 ≡ view_next party list slots from)
   unfolding view_next
-  told_found from i e = rw (step_found party list slots from i e)
+  shows_found i e = (rw (step_found party list slots from i e), rw (step_found party list slots from i e))
 
-  pub told_end : (from : ℕ) → seek_named party list from ≡ nowhere → shown.End (length list / 2) ≡ shown_of (view_step party list slots from) (view_next party list slots from)
+  pub shows_end : seek_named party list from ≡ nowhere → (None ≡ view_step party list slots from) × (length list / 2 ≡ view_next party list slots from)
   unfolding view_next
-  told_end from e = rw (step_end party list slots from e, appts_count list)
-
--- where a step leaves the viewer is what it tells
-pub stands_shown : (seen : Step) (next : ℕ) → stands_of (shown_of seen next) ≡ next
-stands_shown (found s) next = refl
-stands_shown end next = refl
+  shows_end e = (rw (step_end party list slots from e), rw (step_end party list slots from e, appts_count list))

@@ -10,7 +10,8 @@ use lib.ListN.{length, get_or}
 use Rattle.words.specs.Basics.{pick, is, total, All}
 use Rattle.words.proofs.Sums.{is_eq, is_ne, all_map, total_all_zero}
 use Rattle.appointments.specs.Appointments.{Appt, appts, names, named}
-use Rattle.viewing.specs.Viewer.{Seen, seen, view_from, view, Shows, Ascending, shown_at, Sequence}
+use Rattle.viewing.specs.Viewer.{seen, view_from, view, Shows, Ascending, shown_at, Sequence}
+use Rattle.viewing.specs.declared.Seen.{Seen}
 
 module _ (party : ℕ) (slots : List ℕ) where
   -- one appointment more: it is shown if it names the party

@@ -5,12 +5,13 @@ use mathlib.Core.Path.{◌≡◌, refl, sym, ◌∙◌, ap}
 use mathlib.Core.Bool.{Bool, true, false}
 use mathlib.Core.List.{List, [], ◌∷◌}
 use native.Mathlib.Omega.{arith}
+use Rattle.std.specs.Prelude.{Some, None}
 use lib.ListN.{length, drop, length-drop, drop_of_length-le}
 use lib.Seq.{drop-drop}
 use Rattle.appointments.specs.Appointments.{Appt, appts, named}
 use Rattle.appointments.specs.Checks.{First, at, nowhere, first_from}
 use Rattle.appointments.proofs.FirstFrom.{at_nowhere}
-use Rattle.viewing.specs.Viewer.{seen, found, end, view_step, view_next, view_steps, view_from, view, Stays}
+use Rattle.viewing.specs.Viewer.{seen, view_step, view_next, view_steps, view_from, view, Stays}
 use Rattle.viewing.proofs.ViewerLaws.{from_named, from_other}
 
 module _ (party : ℕ) (slots : List ℕ) where
@@ -61,15 +62,15 @@ module _ (party : ℕ) (slots : List ℕ) where
 
 module _ (party : ℕ) (list slots : List ℕ) where
   -- one step, by the first position found, and where the viewer then stands
-  pub step_found : (from i : ℕ) → first_from from (named party) (drop from (appts list)) ≡ at i → view_step party list slots from ≡ found (seen slots i)
+  pub step_found : (from i : ℕ) → first_from from (named party) (drop from (appts list)) ≡ at i → view_step party list slots from ≡ Some (seen slots i)
   unfolding view_step
   step_found from i e = rw e
 
-  pub step_end : (from : ℕ) → first_from from (named party) (drop from (appts list)) ≡ nowhere → view_step party list slots from ≡ end
+  pub step_end : (from : ℕ) → first_from from (named party) (drop from (appts list)) ≡ nowhere → view_step party list slots from ≡ None
   unfolding view_step
   step_end from e = rw e
 
-  pub next_end : (from : ℕ) → view_step party list slots from ≡ end → view_next party list slots from ≡ length (appts list)
+  pub next_end : (from : ℕ) → view_step party list slots from ≡ None → view_next party list slots from ≡ length (appts list)
   unfolding view_next
   next_end from e = rw e
 
@@ -77,7 +78,7 @@ module _ (party : ℕ) (list slots : List ℕ) where
   nothing_left : (from : ℕ) → length (appts list) ≤ from → drop from (appts list) ≡ []
   nothing_left from h = drop_of_length-le (appts list) h
 
-  pub step_past : (from : ℕ) → length (appts list) ≤ from → view_step party list slots from ≡ end
+  pub step_past : (from : ℕ) → length (appts list) ≤ from → view_step party list slots from ≡ None
   unfolding view_step first_from
   step_past from h = rw (nothing_left from h)
 
@@ -89,7 +90,7 @@ module _ (party : ℕ) (list slots : List ℕ) where
   unfolding view_steps
   turn_found n from i e rest h =
       let f : FoundFirst party slots from (drop from (appts list)) i = first_found party slots from (drop from (appts list)) i e in
-      let shown : view_step party list slots from ≡ found (seen slots i) = step_found from i e in
+      let shown : view_step party list slots from ≡ Some (seen slots i) = step_found from i e in
       let behind : from + suc f.place ≡ i + 1 = omega (arith, f.position) in
       let left : drop (suc f.place) (drop from (appts list)) ≡ drop (i + 1) (appts list) =
       drop-drop (suc f.place) from (appts list) ∙ ap (λ (k : ℕ). drop k (appts list)) behind in
@@ -100,7 +101,7 @@ module _ (party : ℕ) (list slots : List ℕ) where
   turn_end : (n from : ℕ) → first_from from (named party) (drop from (appts list)) ≡ nowhere → ((m : ℕ) → Enough n m) → Enough (suc n) from
   unfolding view_steps view_from
   turn_end n from e rest h =
-      let shown : view_step party list slots from ≡ end = step_end from e in
+      let shown : view_step party list slots from ≡ None = step_end from e in
       let none : drop (length (appts list)) (appts list) ≡ [] = nothing_left (length (appts list)) (omega arith) in
       let stays : view_steps n party list slots (length (appts list)) ≡ [] =
       rest (length (appts list)) (rw none (omega arith)) ∙ (rw none) in
@@ -121,8 +122,8 @@ module _ (party : ℕ) (list slots : List ℕ) where
   steps_show_all n h = steps_from n 0 h
 
   -- At the end the viewer stays.
-  pub end_stays : (from : ℕ) → view_step party list slots from ≡ end → Stays party list slots from
+  pub end_stays : (from : ℕ) → view_step party list slots from ≡ None → Stays party list slots from
   end_stays from e =
       let stands : view_next party list slots from ≡ length (appts list) = next_end from e in
-      let ended : view_step party list slots (view_next party list slots from) ≡ end = step_past (view_next party list slots from) (omega arith) in
+      let ended : view_step party list slots (view_next party list slots from) ≡ None = step_past (view_next party list slots from) (omega arith) in
       record { stands = stands; ended = ended; still = next_end (view_next party list slots from) ended ∙ sym stands }

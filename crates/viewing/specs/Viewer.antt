@@ -1,10 +1,11 @@
 -- Document 01's viewer over a list and its slots: opening it, one step of it, all that it shows, and what that is to be: each
 -- of the party's positions, ascending, and then the end, where it stays. Assumes nothing.
-use Rattle.std.specs.Prelude.{ℕ, zero, suc, ◌+◌, ◌<◌, ◌≡◌, List, [], ◌∷◌, length, get_or, drop}
+use Rattle.std.specs.Prelude.{Option, Some, None, ℕ, zero, suc, ◌+◌, ◌<◌, ◌≡◌, List, [], ◌∷◌, length, get_or, drop}
 use Rattle.words.specs.Basics.{pick, is, total, All}
 use Rattle.appointments.specs.Appointments.{Appt, appts, names, named}
 use Rattle.appointments.specs.Checks.{First, at, nowhere, first_from, Check, passed, check_even, check_slots}
 use Rattle.appointments.specs.Answers.{Answer, answer}
+use Rattle.viewing.specs.declared.Seen.{Seen}
 
 -- Opening refuses 2, then 7.
 unfoldable pub viewer_checks : List ℕ → List ℕ → Check
@@ -17,41 +18,33 @@ unfoldable pub viewer_answer : List ℕ → List ℕ → Answer Unit
 unfolding viewer_checks
 viewer_answer list slots = answer (viewer_checks list slots) tt
 
--- one appointment as the viewer shows it
-pub record Seen : Type 0 where
-  pub position : ℕ
-  pub slot : ℕ
-
+-- an appointment as the viewer shows it: its position, and the slot there
 abbrev pub seen : List ℕ → ℕ → Seen
 seen slots i = record { position = i; slot = get_or slots i 0 }
 
 -- What one step shows: an appointment, or the end.
-pub data Step : Type 0 where
-  found : Seen → Step
-  end : Step
-
-abbrev pub step_of : List ℕ → First → Step
-step_of slots (at i) = found (seen slots i)
-step_of slots nowhere = end
+abbrev pub step_of : List ℕ → First → Option Seen
+step_of slots (at i) = Some (seen slots i)
+step_of slots nowhere = None
 
 -- A step from a position, which may lie past the end: the first appointment from there on that names the party. Any number may be
 -- looked for.
-unfoldable pub view_step : ℕ → List ℕ → List ℕ → ℕ → Step
+unfoldable pub view_step : ℕ → List ℕ → List ℕ → ℕ → Option Seen
 view_step party list slots from = step_of slots (first_from from (named party) (drop from (appts list)))
 
 -- Where the viewer stands after a step: behind what it showed, and at the end it stands at A.
-abbrev pub next_of : ℕ → Step → ℕ
-next_of A (found s) = s.position + 1
-next_of A end = A
+abbrev pub next_of : ℕ → Option Seen → ℕ
+next_of A (Some s) = s.position + 1
+next_of A None = A
 
 unfoldable pub view_next : ℕ → List ℕ → List ℕ → ℕ → ℕ
 unfolding view_step
 view_next party list slots from = next_of (length (appts list)) (view_step party list slots from)
 
 -- what a step showed, and then what later ones show
-abbrev pub and_on : Step → List Seen → List Seen
-and_on (found s) later = s ∷ later
-and_on end later = later
+abbrev pub and_on : Option Seen → List Seen → List Seen
+and_on (Some s) later = s ∷ later
+and_on None later = later
 
 -- What n steps show, one after the other, the first from a position.
 unfoldable pub view_steps : ℕ → ℕ → List ℕ → List ℕ → ℕ → List Seen
@@ -98,5 +91,5 @@ pub record Sequence (party : ℕ) (list slots : List ℕ) (sequence : List Seen)
 -- At the end the viewer stays: it stands at A, and says end again.
 pub record Stays (party : ℕ) (list slots : List ℕ) (from : ℕ) : Type 0 where
   pub stands : view_next party list slots from ≡ length (appts list)
-  pub ended : view_step party list slots (view_next party list slots from) ≡ end
+  pub ended : view_step party list slots (view_next party list slots from) ≡ None
   pub still : view_next party list slots (view_next party list slots from) ≡ view_next party list slots from

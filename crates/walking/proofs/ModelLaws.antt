@@ -1,5 +1,5 @@
 -- The cases of the functions of walking on words, for the code's proofs. Assumes nothing.
-use Prim.Native.Nat.{ℕ, ◌+◌, ◌*◌, ◌-◌, ◌/◌, ◌%◌, ◌<◌, ◌≤◌}
+use Prim.Native.Nat.{ℕ, ◌+◌, ◌*◌, ◌-◌, ◌<◌, ◌≤◌}
 use mathlib.Core.Path.{◌≡◌, sym, ◌∙◌, ap}
 use mathlib.Core.Bool.{Bool, true, false}
 use mathlib.Core.List.{List}
@@ -8,44 +8,11 @@ use native.Mathlib.Numerals.{add-one}
 use borrow.Author.Tests.{eq-eqb, ne_eqb, lt-ltb, le-ltb, le-leb, lt-leb}
 use lib.Dec.{eqb, ltb, leb}
 use Rattle.words.specs.Basics.{pick, iterate}
-use Rattle.words.specs.Words.{word, put_word}
+use Rattle.words.specs.Words.{word}
 use Rattle.words.proofs.Runs.{iterate_suc_out, iterate_rest, iterate_add}
 use Rattle.rings.specs.declared.Rings.{Rings}
 use Rattle.walking.specs.declared.Walk.{Walk}
-use Rattle.walking.specs.Model.{Stage, party, Small, pop_m, unlink_m, mate_m, take_m, back_m, stuck_m, step_m, walk_m}
-
--- a node taken out of its ring, as the first and wherever it stands, from what the calls give
-pub pop_so :
-    (l : Rings) (s : List ℕ) (z x : ℕ) {q : ℕ} {t u : List ℕ} → q ≡ word s (l.b + 2 * x) → t ≡ put_word s (l.b + 2 * z) q →
-    u ≡ put_word t (l.b + 2 * q + 1) z → u ≡ pop_m l s z x
-unfolding pop_m
-pop_so l s z x eq et eu = rw (eu, et, eq)
-
-pub unlink_so :
-    (l : Rings) (s : List ℕ) (x : ℕ) {q p : ℕ} {t u : List ℕ} → q ≡ word s (l.b + 2 * x) → p ≡ word s (l.b + 2 * x + 1) →
-    t ≡ put_word s (l.b + 2 * p) q → u ≡ put_word t (l.b + 2 * q + 1) p → u ≡ unlink_m l s x
-unfolding unlink_m
-unlink_so l s x eq ep et eu = rw (eu, et, ep, eq)
-
--- a step back, from what the calls give
-pub back_so :
-    (l : Rings) (s : List ℕ) (w : Walk) {x : ℕ} {t u : List ℕ} → x ≡ word s (l.col + 2 * (w.height - 1)) →
-    t ≡ put_word s (l.b + 8 * (x / 2048) + 2) (2 + w.written % 2) → u ≡ put_word t (l.col + 2 * w.written + 1) (x / 2048) →
-    ◌≡◌ {A = Stage}
-    (record { words = u; walk = record { next = w.next; at = party (x % 2048); height = w.height - 1; written = w.written + 1 } })
-    (back_m l s w)
-unfolding back_m
-back_so l s w ex et eu = rw (eu, et, ex)
-
--- a half-edge taken, from what the calls give
-pub taken_so :
-    (l : Rings) (s : List ℕ) (w : Walk) (x : ℕ) {to : ℕ} {t u v : List ℕ} → to ≡ word s (l.b + 2 * x + 3) →
-    t ≡ pop_m l s (l.top + w.at.0) x → u ≡ unlink_m l t (mate_m x) → v ≡ put_word u (l.col + 2 * w.height) (x / 4 * 2048 + w.at.0) →
-    ◌≡◌ {A = Stage}
-    (record { words = v; walk = record { next = w.next; at = party to; height = w.height + 1; written = w.written } })
-    (take_m l s w x)
-unfolding take_m
-taken_so l s w x eo et eu ev = rw (ev, eu, et, eo)
+use Rattle.walking.specs.Model.{Stage, party, Small, take_m, back_m, stuck_m, step_m, walk_m}
 
 -- stuck with something on the stack, or with nothing
 pub stuck_backs : (l : Rings) (s : List ℕ) (w : Walk) → 0 < w.height → stuck_m l s w ≡ back_m l s w

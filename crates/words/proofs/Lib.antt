@@ -9,3 +9,4 @@ pub mod PowersOfTwo
 pub mod Regions
 pub mod Puts
 pub mod Filling
+pub mod Extremes

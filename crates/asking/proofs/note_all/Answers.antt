@@ -11,12 +11,12 @@ use Rattle.asking.proofs.note_all.Goals as goal
 pub loop-i-init : goal.loop-i-init
 loop-i-init c =
     let a = c.args in
-    (omega arith, rw (slots_none a.party (appts a.list.now) a.slots.now, c.requires) noted_none)
+    rw (slots_none a.party (appts a.list.now) a.slots.now, c.requires) noted_none
 
 pub returns : goal.returns
 returns c =
     let a = c.args in
     let xs = appts a.list.now in
     let past : min (length xs) (length a.slots.now) ≤ c.loop-i.i =
-    omega (arith, c.with_slots-count.ensures, appts_count a.list.now) in
-    rw (slots_all a.party xs a.slots.now c.loop-i.i past) at c.loop-i.invariant.1
+    omega (arith, c.with_slots-i-end.ensures, appts_count a.list.now) in
+    rw (slots_all a.party xs a.slots.now c.loop-i.i past) at c.loop-i.invariant

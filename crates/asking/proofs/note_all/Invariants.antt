@@ -1,5 +1,4 @@
 -- `note_all` meets its contract: with each turn what was noted are the party's slots of one appointment more. Assumes nothing.
-use Prim.Native.Nat.{◌-◌, ◌≤◌}
 use lib.ListN.{take}
 use Rattle.appointments.specs.Appointments.{appts}
 use Rattle.asking.specs.PartySlots.{slots_of}
@@ -7,7 +6,4 @@ use Rattle.asking.specs.Noted.{Noted}
 use Rattle.asking.proofs.note_all.Given as goal
 
 abbrev pub invariant-loop-i : goal.invariant-loop-i
-invariant-loop-i l = (l.i ≤ l.count) × Noted (slots_of l.party (take l.i (appts l.list)) l.slots) l.flags l.kept.lowest l.kept.highest l.kept.different
-
-abbrev pub decreases-loop-i : goal.decreases-loop-i
-decreases-loop-i l = l.count - l.i
+invariant-loop-i l = Noted (slots_of l.party (take l.i (appts l.list)) l.slots) l.flags l.kept.lowest l.kept.highest l.kept.different

@@ -1,26 +1,21 @@
 -- `waiting` meets its contract: what the checks of the list and its slots said stays, then the party is checked, and its waiting is
 -- found. Assumes nothing.
-use mathlib.Core.Path.{◌≡◌, sym, ◌∙◌}
-use lib.ListN.{length}
-use Rattle.appointments.specs.Checks.{passed, checks_with_slots}
-use Rattle.appointments.specs.declared.Checked.TheVariants as Checked
-use Rattle.checking.specs.Checked.{checked}
+use Rattle.appointments.proofs.AnswerLaws.{handed_on}
 use Rattle.asking.proofs.WaitingSteps.{asked_refused, asked_5, asked_waits}
 use Rattle.asking.proofs.waiting.Goals as goal
 
-pub returns-in-Refused : goal.returns-in-Refused
-returns-in-Refused c =
+pub returns-in_err-check_with_slots-clause-answer : goal.returns-in_err-check_with_slots-clause-answer
+returns-in_err-check_with_slots-clause-answer c =
     let a = c.args in
-    record { answer = asked_refused a.p a.list.now a.slots.now a.party _ _ (sym c.check_with_slots-listed.ensures ∙ c.in-Refused.is); fits = tt }
+    handed_on c.from_residual.result _ _ c.from_residual.ensures.1
+    (asked_refused a.p a.list.now a.slots.now a.party _ _ c.in_err-check_with_slots.ensures)
 
-pub returns-then-p-party : goal.returns-then-p-party
-returns-then-p-party c =
-    let listed : let a = c.args in checked (checks_with_slots a.p a.list.now (length a.slots.now) passed) ≡ Checked.Passed = sym c.check_with_slots-listed.ensures ∙ c.in_default.is in
+pub returns-then-p-party-clause-answer : goal.returns-then-p-party-clause-answer
+returns-then-p-party-clause-answer c =
     let a = c.args in
-    record { answer = asked_5 a.p a.list.now a.slots.now a.party listed c.if-p-party.true; fits = tt }
+    asked_5 a.p a.list.now a.slots.now a.party c.in_ok-check_with_slots.ensures c.if-p-party.true
 
-pub returns : goal.returns
-returns c =
-    let listed : let a = c.args in checked (checks_with_slots a.p a.list.now (length a.slots.now) passed) ≡ Checked.Passed = sym c.check_with_slots-listed.ensures ∙ c.in_default.is in
+pub returns-clause-answer : goal.returns-clause-answer
+returns-clause-answer c =
     let a = c.args in
-    record { answer = asked_waits a.p a.list.now a.slots.now a.party listed _ c.if-p-party.false c.waiting_of.ensures.waiting; fits = c.waiting_of.ensures.most }
+    asked_waits a.p a.list.now a.slots.now a.party c.in_ok-check_with_slots.ensures _ c.if-p-party.false c.waiting_of.ensures.waiting

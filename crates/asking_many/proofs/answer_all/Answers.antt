@@ -10,16 +10,14 @@ pub loop-j-preserved : goal.loop-j-preserved
 loop-j-preserved c =
     let a = c.args in
     let j = c.loop-j.j in (
-      omega arith,
-      (
-        search rules,
-        c.answer_query.ensures
-            ∙ answered_more (appts a.list.now) a.slots.now a.queries.now a.output.now c.requires.queries_in_bounds j _ _ _ _ (omega arith) (c.requires.by_index j (omega arith)) c.enter_all.ensures c.loop-j.invariant.1.1,
-      ),
+      search rules,
+      c.answer_query.ensures
+          ∙ answered_more (appts a.list.now) a.slots.now a.queries.now a.output.now c.requires.queries_in_bounds j _ _ c.loop-j-test.true
+          (rw c.from.ensures (c.enter_all-rows.ensures.entry _ (c.requires.by_index j c.loop-j-test.true))) c.loop-j.invariant.1,
     )
 
 pub returns : goal.returns
 returns c =
     let a = c.args in
-    c.loop-j.invariant.1.1
+    c.loop-j.invariant.1
     ∙ answered_all (appts a.list.now) a.slots.now a.queries.now a.output.now c.requires.queries_in_bounds c.loop-j.j (omega arith)

@@ -1,5 +1,5 @@
 -- `answer_all` meets its contract: the output holds the answers to the first queries, one more with each turn. Assumes nothing.
-use Prim.Native.Nat.{◌*◌, ◌-◌, ◌≤◌}
+use Prim.Native.Nat.{◌*◌}
 use mathlib.Core.Path.{◌≡◌}
 use lib.ListN.{length}
 use Rattle.words.specs.Words.{filled}
@@ -8,7 +8,4 @@ use Rattle.asking_many.specs.Many.{asked_of_all}
 use Rattle.asking_many.proofs.answer_all.Given as goal
 
 abbrev pub invariant-loop-j : goal.invariant-loop-j
-invariant-loop-j l = (l.j ≤ length l.queries) × ((length l.output ≡ length l.initial.output) × (l.output ≡ filled (asked_of_all (appts l.list) l.slots l.queries) (3 * l.j) l.initial.output))
-
-abbrev pub decreases-loop-j : goal.decreases-loop-j
-decreases-loop-j l = length l.queries - l.j
+invariant-loop-j l = (length l.output ≡ length l.initial.output) × (l.output ≡ filled (asked_of_all (appts l.list) l.slots l.queries) (3 * l.j) l.initial.output)

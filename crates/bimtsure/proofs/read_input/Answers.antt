@@ -3,7 +3,7 @@ use borrow.Author.Rules.{rules}
 use Rattle.bimtsure.proofs.Coming.{more_came}
 use Rattle.bimtsure.proofs.read_input.Goals as goal
 
-pub loop-count-preserved : goal.loop-count-preserved
-loop-count-preserved g c =
-    let read = c.read_piece-piece.ensures in
+pub loop-count-preserved-in-Some : goal.loop-count-preserved-in-Some
+loop-count-preserved-in-Some g c =
+    let read = c.in-Some.ensures in
     (search rules, search rules, more_came _ _ _ _ _ _ _ read.front c.loop-count.invariant.2 read.bytes)

@@ -1,20 +1,24 @@
 -- `slot` meets its contract: 24 for a late day and for a time that has no number, else the number counted on from the day's first
 -- slot. Assumes nothing.
 use native.Mathlib.Omega.{arith}
+use mathlib.Core.Path.{◌≡◌, ◌∙◌, ap}
+use Rattle.calendar.specs.Calendar.{in_bytes, number_in, times}
 use Rattle.calendar.proofs.Telling.{slot_no_day, slot_no_time, slot_number}
 use Rattle.calendar.proofs.slot.Goals as goal
 
 pub returns-then-day-gt255 : goal.returns-then-day-gt255
 returns-then-day-gt255 c =
     let a = c.args in
-    slot_no_day a.day a.hours a.minutes c.if-day-gt255.true
+    slot_no_day a.day a.hours a.minutes (omega arith)
 
-pub returns-then-k-ge16 : goal.returns-then-k-ge16
-returns-then-k-ge16 c =
+pub returns-in_default : goal.returns-in_default
+returns-in_default c =
     let a = c.args in
-    slot_no_time a.day a.hours a.minutes c.number_of-k.result (omega arith) c.number_of-k.ensures c.if-k-ge16.true
+    let whole : c.from_be_bytes.result ≡ in_bytes a.hours a.minutes = omega arith in
+    slot_no_time a.day a.hours a.minutes _ (omega arith) (ap (number_in times) whole) c.in_default.ensures
 
 pub returns : goal.returns
 returns c =
     let a = c.args in
-    slot_number a.day a.hours a.minutes c.number_of-k.result (omega arith) c.number_of-k.ensures c.if-k-ge16.false
+    let whole : c.from_be_bytes.result ≡ in_bytes a.hours a.minutes = omega arith in
+    slot_number a.day a.hours a.minutes c.in-Some.k (omega arith) (c.in-Some.ensures.0 ∙ ap (number_in times) whole) c.in-Some.ensures.1

@@ -1,6 +1,6 @@
 -- `set_aside` meets its contract: for an even degree the graph itself, and else the graph less the matching that was found, in words taken for it. Assumes
 -- nothing.
-use mathlib.Core.Path.{refl, ap}
+use Rattle.std.proofs.Common.{refl, ap}
 use Rattle.mark.specs.declared.Mark.{Mark}
 use Rattle.edge_color.proofs.AsideWords.{aside_none, aside_one}
 use Rattle.edge_color.proofs.set_aside.Goals as goal
@@ -13,10 +13,9 @@ returns-then-d-eq0 c =
 pub returns : goal.returns
 returns c =
     let a = c.args in
-    let found = c.rbmg_find_perfect_matching.ensures in
-    let n1 = c.rbmg_find_perfect_matching.new.m in
-    let removed = rw c.take-u.ensures.0 at c.take_out.ensures in
+    let found = c.rbmg_find_perfect_matching in
+    let removed = rw c.take-u.ensures.0 at c.remove_matching.ensures in
     rw (c.take-u.ensures.1, c.take-u.ensures.0) (
-      aside_one a.t a.s.now a.m.now.taken a.g a.n a.d a.out c.requires.0 c.requires.1 c.if-d-eq0.false c.rbmg_find_perfect_matching.new.s n1.taken found.0 c.take_out.new.s removed,
-      ap (λ (x : Mark). x.there) found.1,
+      aside_one a.t a.s.now a.m.now.taken a.g a.n a.d a.out c.requires.0 c.requires.1 c.if-d-eq0.false found.new.s found.new.m.taken found.ensures.0 c.remove_matching.new.s removed,
+      ap (λ (x : Mark). x.there) found.ensures.1,
     )

@@ -6,27 +6,32 @@ use Rattle.filing.proofs.file_plan.Goals as goal
 pub returns-then-p-gt1024 : goal.returns-then-p-gt1024
 returns-then-p-gt1024 c =
     let a = c.args in
-    let told = barred_1 a.p a.list.now a.slots.now a.output.now c.if-p-gt1024.true in record { answer = told.0; bytes = told.1 }
+    let barred = barred_1 a.p a.list.now a.slots.now a.output.now c.if-p-gt1024.true in
+    record { answer = barred.0; bytes = barred.1 }
 
 pub returns-then-list-eq1 : goal.returns-then-list-eq1
 returns-then-list-eq1 c =
     let a = c.args in
-    let told = barred_2 a.p a.list.now a.slots.now a.output.now c.if-p-gt1024.false c.if-list-eq1.true in record { answer = told.0; bytes = told.1 }
+    let barred = barred_2 a.p a.list.now a.slots.now a.output.now c.if-p-gt1024.false c.if-list-eq1.true in
+    record { answer = barred.0; bytes = barred.1 }
 
 pub returns-then-count-gt4096 : goal.returns-then-count-gt4096
 returns-then-count-gt4096 c =
     let a = c.args in
-    let told = barred_3 a.p a.list.now a.slots.now a.output.now c.if-p-gt1024.false c.if-list-eq1.false c.if-count-gt4096.true in record { answer = told.0; bytes = told.1 }
+    let barred = barred_3 a.p a.list.now a.slots.now a.output.now c.if-p-gt1024.false c.if-list-eq1.false c.if-count-gt4096.true in
+    record { answer = barred.0; bytes = barred.1 }
 
 pub returns-then-slots-count : goal.returns-then-slots-count
 returns-then-slots-count c =
     let a = c.args in
-    let told = barred_7 a.p a.list.now a.slots.now a.output.now c.if-p-gt1024.false c.if-list-eq1.false c.if-count-gt4096.false c.if-slots-count.true in record { answer = told.0; bytes = told.1 }
+    let barred = barred_7 a.p a.list.now a.slots.now a.output.now c.if-p-gt1024.false c.if-list-eq1.false c.if-count-gt4096.false c.if-slots-count.true in
+    record { answer = barred.0; bytes = barred.1 }
 
 pub returns-then-output-length : goal.returns-then-output-length
 returns-then-output-length c =
     let a = c.args in
-    let told = barred_13 a.p a.list.now a.slots.now a.output.now c.if-p-gt1024.false c.if-list-eq1.false c.if-count-gt4096.false c.if-slots-count.false c.if-output-length.true in record { answer = told.0; bytes = told.1 }
+    let barred = barred_13 a.p a.list.now a.slots.now a.output.now c.if-p-gt1024.false c.if-list-eq1.false c.if-count-gt4096.false c.if-slots-count.false c.if-output-length.true in
+    record { answer = barred.0; bytes = barred.1 }
 
 pub returns : goal.returns
 returns c =

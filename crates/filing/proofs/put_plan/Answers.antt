@@ -16,24 +16,15 @@ loop-i-init c =
     let a = c.args in
     header_put a.p a.list.now a.slots.now a.output.now _ _ (omega arith) (omega arith)
     c.put_bytes.ensures c.put_bytes-2.ensures in
-    let a = c.args in (
-      omega arith,
-      (
-        refl,
-        header_left
-            ∙ sym (from_header a.p a.list.now a.slots.now 4 a.output.now _ (omega arith) (omega arith) header_left),
-      ),
-    )
+    let a = c.args in
+    (refl, header_left ∙ sym (from_header a.p a.list.now a.slots.now 4 a.output.now _ (omega arith) (omega arith) header_left))
 
 pub loop-i-preserved : goal.loop-i-preserved
 loop-i-preserved c =
     let a = c.args in
     let i = c.loop-i.i in (
       search rules,
-      (
-        search rules,
-        c.put_appointment.ensures
-            ∙ ap (λ (l : List ℕ). put_row a.list.now a.slots.now i l) c.loop-i.invariant.1.1
-            ∙ row_put a.p a.list.now a.slots.now i c.put_bytes-2.new.output (omega arith) (omega arith) (omega arith),
-      ),
+      c.put_appointment.ensures
+          ∙ ap (λ (l : List ℕ). put_row a.list.now a.slots.now i l) c.loop-i.invariant.1
+          ∙ row_put a.p a.list.now a.slots.now i c.put_bytes-2.new.output (omega arith) (omega arith) (omega arith),
     )

@@ -3,11 +3,8 @@ use Rattle.words.specs.Words.{filled}
 use Rattle.filing.specs.Filed.{filed_bytes}
 use lib.ListN.{length}
 use mathlib.Core.Path.{◌≡◌}
-use Prim.Native.Nat.{◌+◌, ◌*◌, ◌-◌, ◌≤◌}
+use Prim.Native.Nat.{◌+◌, ◌*◌}
 use Rattle.filing.proofs.put_plan.Given as goal
 
 abbrev pub invariant-loop-i : goal.invariant-loop-i
-invariant-loop-i l = (l.i ≤ l.count) × ((length l.output ≡ length l.initial.output) × (l.output ≡ filled (filed_bytes l.p l.list l.slots) (6 * l.i + 4) l.initial.output))
-
-abbrev pub decreases-loop-i : goal.decreases-loop-i
-decreases-loop-i l = l.count - l.i
+invariant-loop-i l = (length l.output ≡ length l.initial.output) × (l.output ≡ filled (filed_bytes l.p l.list l.slots) (6 * l.i + 4) l.initial.output)

@@ -5,20 +5,16 @@ use Rattle.filing.specs.Buffers.{take_row, take_slot}
 use mathlib.Core.Path.{◌∙◌, ap}
 use Prim.Native.Nat.{ℕ}
 use native.Mathlib.Omega.{arith}
-use borrow.Author.Rules.{rules}
 use Rattle.filing.proofs.take_plan.Goals as goal
 
 pub loop-i-preserved : goal.loop-i-preserved
 loop-i-preserved c =
     let a = c.args in
     let i = c.loop-i.i in (
-      search rules,
-      (
-        c.take_appointment.ensures.list
-            ∙ ap (λ (l : List ℕ). take_row a.bytes.now i l) c.loop-i.invariant.1.0
-            ∙ row_taken a.bytes.now a.count c.requires.1.0 i (omega arith) a.list.now (omega arith),
-        c.take_appointment.ensures.slots
-            ∙ ap (λ (l : List ℕ). take_slot a.bytes.now i l) c.loop-i.invariant.1.1
-            ∙ slot_taken a.bytes.now a.count c.requires.1.0 i (omega arith) a.slots.now (omega arith),
-      ),
+      c.take_appointment.ensures.list
+          ∙ ap (λ (l : List ℕ). take_row a.bytes.now i l) c.loop-i.invariant.0
+          ∙ row_taken a.bytes.now a.count c.requires.whole i c.loop-i-test.true a.list.now (omega arith),
+      c.take_appointment.ensures.slots
+          ∙ ap (λ (l : List ℕ). take_slot a.bytes.now i l) c.loop-i.invariant.1
+          ∙ slot_taken a.bytes.now a.count c.requires.whole i c.loop-i-test.true a.slots.now (omega arith),
     )

@@ -2,11 +2,8 @@
 use Rattle.words.specs.Words.{filled}
 use Rattle.filing.specs.Filed.{filed_rows, rows_list, rows_slots}
 use mathlib.Core.Path.{◌≡◌}
-use Prim.Native.Nat.{◌*◌, ◌-◌, ◌≤◌}
+use Prim.Native.Nat.{◌*◌}
 use Rattle.filing.proofs.take_plan.Given as goal
 
 abbrev pub invariant-loop-i : goal.invariant-loop-i
-invariant-loop-i l = (l.i ≤ l.count) × ((l.list ≡ filled (rows_list (filed_rows l.bytes)) (2 * l.i) l.initial.list) × (l.slots ≡ filled (rows_slots (filed_rows l.bytes)) l.i l.initial.slots))
-
-abbrev pub decreases-loop-i : goal.decreases-loop-i
-decreases-loop-i l = l.count - l.i
+invariant-loop-i l = (l.list ≡ filled (rows_list (filed_rows l.bytes)) (2 * l.i) l.initial.list) × (l.slots ≡ filled (rows_slots (filed_rows l.bytes)) l.i l.initial.slots)

@@ -1,13 +1,20 @@
 -- `given_partition::bipartite_edge_color_given_partition` meets its contract: what `prepare` leaves can be coloured, and the matchings
 -- are what the slots are given from. Assumes nothing.
-use native.Mathlib.Omega.{arith}
-use Rattle.given_partition.proofs.Giving.{small, slots_planned}
+use Rattle.std.proofs.Common.{arith}
+use Rattle.given_partition.proofs.Giving.{few, inside, appointed, slots_planned}
 use Rattle.given_partition.proofs.bipartite_edge_color_given_partition.Goals as goal
+
+pub invariant_of-chains : goal.invariant_of-chains
+invariant_of-chains c =
+    let small = few c.requires.sided c.prepare-n.ensures.0 _ (omega arith) in
+    record { out_small = small.out; links_small = small.links; d_small = small.matchings; few = small.numbers }
 
 pub give_slots-requires : goal.give_slots-requires
 give_slots-requires c =
-    let colored = c.color in
-    let told = small c.requires.sided c.prepare-n.ensures.0 _ _ (omega arith) (omega arith) colored.new.s colored.ensures.spares.len in record { d_lt_word_limit = told.0; d_bound = told.1.0; d_in_bounds = told.1.1.0; out_lt_word_limit = told.1.1.1.0; a_bound = told.1.1.1.1.0; links_lt_word_limit = told.1.1.1.1.1 }
+    let prepared = c.prepare-n.ensures.0 in record {
+      d_in_bounds = inside c.requires.sided prepared _ (omega arith) c.color.new.s c.color.ensures.spares.len;
+      a_bound = appointed c.requires.sided prepared _ (omega arith);
+    }
 
 pub returns : goal.returns
 returns c =

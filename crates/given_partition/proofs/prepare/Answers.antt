@@ -1,12 +1,14 @@
 -- `prepare` meets its contract: each step finds what the one before left, with the mark where it stood. Assumes nothing.
-use mathlib.Core.Path.{ap, ◌∙◌}
-use native.Mathlib.Omega.{arith}
+use Rattle.std.proofs.Common.{ap, ◌∙◌, arith}
 use Rattle.mark.specs.declared.Mark.{Mark}
-use Rattle.given_partition.proofs.Preparing.{can_pad, can_pair, can_even, can_diagonal, prepared, prepared_length}
+use Rattle.given_partition.proofs.Preparing.{graph_low, can_pad, can_pair, can_even, can_diagonal, prepared, prepared_length}
 use Rattle.given_partition.proofs.prepare.Goals as goal
 
 pub pad_sides-n-requires : goal.pad_sides-n-requires
 pad_sides-n-requires c = can_pad c.requires
+
+pub invariant_of-at : goal.invariant_of-at
+invariant_of-at c = record { ends_small = omega (arith, graph_low c.requires); g_small = graph_low c.requires }
 
 pub pairs_from_list-requires : goal.pairs_from_list-requires
 pairs_from_list-requires c =

@@ -11,5 +11,5 @@ copy_times-requires c =
       arith,
       fits.1,
       c.chosen-from.ensures.1,
-      chosen_inside a.first a.room a.pairs a.h a.by_copies a.s.now c.chosen-from.result fits.2 c.chosen-from.ensures.0,
+      chosen_inside a.first a.room a.pairs a.h a.count a.s.now c.chosen-from.result fits.2 c.chosen-from.ensures.0,
     )

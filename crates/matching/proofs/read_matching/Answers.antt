@@ -1,9 +1,6 @@
--- `matching::read_matching` meets its contract. Invariant: the first i numbers are written; the measure is what is left of them. Assumes nothing.
-use mathlib.Core.Path.{◌≡◌, ◌∙◌}
-use Prim.Native.Nat.{◌+◌, ◌*◌}
-use native.Mathlib.Omega.{arith}
+-- `matching::read_matching` meets its contract. Invariant: the first i numbers are written. Assumes nothing.
+use Rattle.std.proofs.Common.{◌≡◌, ◌+◌, ◌*◌, arith}
 use Rattle.words.specs.Words.{word, put_word}
-use borrow.Author.Rules.{rules}
 use Rattle.matching.proofs.Reading.{reading_more, reading_done}
 use Rattle.matching.proofs.read_matching.Goals as goal
 
@@ -12,11 +9,11 @@ loop-i-preserved c =
     let a = c.args in
     let lp = c.loop-i in
     let words : c.put.new.s ≡ put_word lp.s (a.out + lp.i) (word lp.s (a.h + 2 + 2 * lp.i)) = rw c.get-e.ensures.0 at c.put.ensures in
-    (search rules, c.put.auto.s ∙ lp.invariant.1, λ ends rows can. reading_more ends rows a.h a.n a.out lp.i a.s.now lp.s c.put.new.s can c.loop-i-test.true (lp.invariant.2 ends rows can) words)
+    λ ends rows can. reading_more ends rows a.h a.n a.out lp.i a.s.now lp.s c.put.new.s can c.loop-i-test.true (lp.invariant ends rows can) words
 
 pub returns : goal.returns
 returns c =
     let a = c.args in
     let lp = c.loop-i in
     let e : lp.i ≡ a.n = omega arith in
-    λ ends pairs rows can. reading_done ends pairs rows a.h a.n a.out a.s.now lp.s can (rw e at (lp.invariant.2 ends rows can))
+    λ ends pairs rows can. reading_done ends pairs rows a.h a.n a.out a.s.now lp.s can (rw e at (lp.invariant ends rows can))

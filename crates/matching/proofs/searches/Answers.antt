@@ -1,8 +1,5 @@
 -- `searches` meets its contract: the second search begins where the first did, with the mark where it stood. Assumes nothing.
-use mathlib.Core.Path.{sym, ◌∙◌, subst}
-use Prim.Native.Nat.{◌+◌, ◌*◌, ◌≤◌}
-use Rattle.mark.specs.declared.Mark.{Mark}
-use Rattle.matching.specs.Searched.{CanSearch}
+use Rattle.std.proofs.Common.{◌∙◌}
 use Rattle.matching.proofs.FindWords.{one_search, can_search_again, two_searches}
 use Rattle.matching.proofs.searches.Goals as goal
 
@@ -16,9 +13,7 @@ pub search-requires : goal.search-requires
 search-requires c =
     let a = c.args in
     let first = c.search-flagged.ensures in
-    let words = c.search-flagged.new.s in
-    subst (λ (x : Mark). CanSearch a.t a.g a.n a.k x.taken words × (x.taken + 18 * (a.n * (a.k + 2)) ≤ x.there)) (sym first.1)
-    (can_search_again a.t a.g a.n a.k a.m.now.taken a.s.now words c.requires.0 first.0.stays, c.requires.1)
+    rw first.1 (can_search_again a.t a.g a.n a.k a.m.now.taken a.s.now c.search-flagged.new.s c.requires.0 first.0.stays, c.requires.1)
 
 pub returns : goal.returns
 returns c =

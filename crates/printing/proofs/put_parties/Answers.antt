@@ -1,22 +1,23 @@
 -- `put_parties` meets its contract: a line more with each turn. Assumes nothing.
 use native.Mathlib.Omega.{arith}
+use borrow.Author.Rules.{rules}
 use Rattle.appointments.specs.Appointments.{appts}
 use Rattle.printing.proofs.PlacingSteps.{underway_room, underway_more, underway_all, party_next, party_last}
 use Rattle.printing.proofs.put_parties.Goals as goal
 
-pub put_party-at-requires : goal.put_party-at-requires
-put_party-at-requires c =
+pub put_party-requires : goal.put_party-requires
+put_party-requires g c =
     let a = c.args in
-    let next = party_next a.p (appts a.list.now) a.slots.now c.loop-v.v (omega arith) in
-    underway_room c.loop-v.invariant.1 _ _ next c.requires
+    let next = party_next a.p (appts a.list.now) a.slots.now c.loop-party.party (omega arith) in
+    (search rules, underway_room c.loop-party.invariant _ _ next c.requires)
 
-pub loop-v-preserved : goal.loop-v-preserved
-loop-v-preserved c =
+pub loop-party-preserved : goal.loop-party-preserved
+loop-party-preserved g c =
     let a = c.args in
-    let next = party_next a.p (appts a.list.now) a.slots.now c.loop-v.v (omega arith) in
-    (omega arith, underway_more c.loop-v.invariant.1 _ _ next c.put_party-at.ensures)
+    let next = party_next a.p (appts a.list.now) a.slots.now c.loop-party.party (omega arith) in
+    underway_more c.loop-party.invariant _ _ next c.put_party.ensures
 
 pub returns : goal.returns
-returns c =
+returns g c =
     let a = c.args in
-    underway_all c.loop-v.invariant.1 (party_last a.p (appts a.list.now) a.slots.now c.loop-v.v (omega arith))
+    underway_all c.loop-party.invariant (party_last a.p (appts a.list.now) a.slots.now c.loop-party.party (omega arith))

@@ -1,22 +1,20 @@
 -- `read_input` meets its contract: a list that was read of a broken input makes the line behind its lines malformed. Assumes nothing.
-use mathlib.Core.Path.{refl}
+use Rattle.std.proofs.lemmas.Result.{err_from_is_err_and}
 use Rattle.reading.proofs.LinesSteps.{input_malformed, input_broken, input_whole}
 use Rattle.reading.proofs.read_input.Goals as goal
 
-pub returns-in_default : goal.returns-in_default
-returns-in_default c =
+pub returns-in_err-input : goal.returns-in_err-input
+returns-in_err-input c =
     let a = c.args in
-    let read = c.read_text-read in
-    input_malformed a.bytes.now read.result a.list.now read.new.list read.ensures a.broken _ c.in_default.is
+    let p = err_from_is_err_and c.from_residual.result c.from_residual.ensures.1 in
+    rw (p.1, p.2) (input_malformed a.bytes.now a.list.now c.read_text.new.list a.broken _ c.in_err-input.ensures)
 
 pub returns-then-broken : goal.returns-then-broken
 returns-then-broken c =
     let a = c.args in
-    let read = c.read_text-read in
-    rw c.if-broken.true (input_broken a.bytes.now read.result a.list.now read.new.list read.ensures c.in-Input.p c.in-Input.count _ c.in-Input.is refl)
+    rw c.if-broken.true (input_broken a.bytes.now a.list.now c.read_text.new.list _ c.in_ok-input.ensures)
 
 pub returns : goal.returns
 returns c =
     let a = c.args in
-    let read = c.read_text-read in
-    rw c.if-broken.false (input_whole a.bytes.now read.result a.list.now read.new.list read.ensures c.in-Input.p c.in-Input.count c.in-Input.is)
+    rw c.if-broken.false (input_whole a.bytes.now a.list.now c.read_text.new.list _ c.in_ok-input.ensures)

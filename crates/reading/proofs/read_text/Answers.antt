@@ -1,31 +1,34 @@
 -- `read_text` meets its contract: a number in the first line, then the other lines. Assumes nothing.
 use Prim.Native.Nat.{◌+◌}
-use mathlib.Core.Path.{sym, ◌∙◌}
+use mathlib.Core.Path.{◌≡◌}
 use native.Mathlib.Omega.{arith}
-use lib.ListN.{take}
-use Rattle.reading.specs.Reading.{number}
+use Rattle.std.specs.Prelude.{Some, None}
+use Rattle.std.proofs.lemmas.Option.{MatchOption-at_some, MatchOption-at_none}
+use Rattle.std.proofs.lemmas.Result.{err_from_is_err_and}
+use Rattle.appointments.specs.declared.Refusal.TheVariants.{MalformedLine}
 use Rattle.reading.proofs.Parting.{to_the_end}
-use Rattle.reading.proofs.ReadingLaws.{number_is}
-use Rattle.reading.proofs.ParsingSteps.{is_some}
 use Rattle.reading.proofs.LinesSteps.{text_unended, text_no_number, text_lines}
 use Rattle.reading.proofs.read_text.Goals as goal
 
-pub returns-then-end-input : goal.returns-then-end-input
-returns-then-end-input c = text_unended c.args.input.now c.find-end.result c.find-end.ensures c.if-end-input.true _ _
+pub returns-in_err-end : goal.returns-in_err-end
+returns-in_err-end c =
+    let gone : c.find.result ≡ None = grind arith in
+    let first : c.in_err-end.field-0.0 ≡ MalformedLine 1 = grind arith in
+    let p = err_from_is_err_and c.from_residual.result c.from_residual.ensures.1 in
+    rw (p.1, p.2, first, text_unended c.args.input.now (MatchOption-at_none _ _ gone c.find.ensures))
 
-pub returns-in_default : goal.returns-in_default
-returns-in_default c = text_no_number c.args.input.now c.find-end.result c.find-end.ensures (omega (arith, c.find-end.ensures.inside)) (sym c.in_default.is ∙ c.number_in-parties.ensures) _ _
-
-pub overflow_cast-p : goal.overflow_cast-p
-overflow_cast-p c =
-    let bytes = take c.find-end.result c.args.input.now in
-    let Some-number = is_some c.in-Is.p (number bytes) (sym c.in-Is.is ∙ c.number_in-parties.ensures) in
-    omega (arith, number_is bytes c.in-Is.p Some-number)
+pub returns-in_err-parties : goal.returns-in_err-parties
+returns-in_err-parties c =
+    let found : c.find.result ≡ Some c.in_ok-end.end = grind arith in
+    let gone : None ≡ c.number_in.result = grind arith in
+    let first : c.in_err-parties.field-0.0 ≡ MalformedLine 1 = grind arith in
+    let p = err_from_is_err_and c.from_residual-in_err-parties.result c.from_residual-in_err-parties.ensures.1 in
+    rw (p.1, p.2, first, text_no_number c.args.input.now _ (MatchOption-at_some _ _ _ found c.find.ensures) (cc))
 
 pub returns : goal.returns
 returns c =
     let input = c.args.input.now in
-    let i = c.find-end.result in
-    let p = c.in-Is.p in
-    let lines = text_lines input i c.find-end.ensures (omega (arith, c.find-end.ensures.inside)) p (sym c.in-Is.is ∙ c.number_in-parties.ensures) in
-    rw (lines, ← to_the_end input (i + 1)) c.read_lines.ensures
+    let i = c.in_ok-end.end in
+    let found : c.find.result ≡ Some i = grind arith in
+    let number : Some c.in_ok-parties.parties ≡ c.number_in.result = grind arith in
+    rw (text_lines input i (MatchOption-at_some _ _ _ found c.find.ensures) c.in_ok-parties.parties (cc), ← to_the_end input (i + 1)) c.read_lines.ensures

@@ -10,13 +10,12 @@ use Rattle.replay.proofs.agrees.Goals as goal
 pub slice_bounds-same_plan-end : goal.slice_bounds-same_plan-end
 slice_bounds-same_plan-end c =
     let l = lent c.args.p c.args.list.now c.args.slots.now c.args.scratch.now in
-    let called = c.bipartite_edge_color-answer in
-    omega (arith, slots_room l _ (sym c.in-Planned.ensures.answer), called.auto.slots)
+    omega (arith, slots_room l _ (sym c.in-Ok.ensures.answer), c.bipartite_edge_color.auto.slots)
 
-pub slice_bounds-same_plan-end-in-Planned : goal.slice_bounds-same_plan-end-in-Planned
-slice_bounds-same_plan-end-in-Planned c = sym (length-take-le _ _ (slice_bounds-same_plan-end c))
+pub slice_bounds-same_plan-end-in-Ok : goal.slice_bounds-same_plan-end-in-Ok
+slice_bounds-same_plan-end-in-Ok c = sym (length-take-le _ _ (slice_bounds-same_plan-end c))
 
-pub returns-in-Planned : goal.returns-in-Planned
-returns-in-Planned c =
+pub returns-in-Ok : goal.returns-in-Ok
+returns-in-Ok c =
     let l = lent c.args.p c.args.list.now c.args.slots.now c.args.scratch.now in
-    plan_told l _ (sym c.in-Planned.ensures.answer) _ _ (rw (← c.bipartite_edge_color-answer.ensures.slots) c.same_plan.ensures)
+    plan_told l _ (sym c.in-Ok.ensures.answer) _ _ (rw (← c.bipartite_edge_color.ensures.slots) c.same_plan.ensures)

@@ -7,6 +7,5 @@ returns c =
     let a = c.args in
     λ ends pairs xs plan e fit.
     let x = c.take_all.ensures in
-    let y = c.push_all.ensures in
-    rw (x.0, x.1, y, ← e)
-    (slots_stored ends pairs a.n a.d a.out a.pair_numbers a.links xs plan a.s.now a.slots.now fit)
+    rw (x.0, x.1, c.push_all.ensures, ← e)
+    (slots_stored ends pairs a.chains.n a.chains.d a.chains.out a.pair_numbers a.chains.links xs plan a.s.now a.slots.now fit)

@@ -1,18 +1,28 @@
--- `plan_output` meets its contract: by the answer of the planning call. Assumes nothing.
-use Rattle.appointments.specs.Answers.{Answer, accepted}
-use Rattle.planning.specs.declared.Answer.TheVariants as answer
-use Rattle.text.proofs.Main.{Answered, told_answer, plan_needs, refusal_needs}
+-- `plan_output` meets its contract: too long, malformed, or by the planning call. Assumes nothing.
 use borrow.Author.Rules.{rules}
+use Rattle.std.proofs.lemmas.Result.{err_from_is_err_and}
+use Rattle.text.proofs.Main.{report_long, report_malformed, report_refused, report_planned, output_room, output_placed}
 use Rattle.text.proofs.plan_output.Goals as goal
+
+pub returns-then-input-gt4096 : goal.returns-then-input-gt4096
+returns-then-input-gt4096 c = report_long c.args.broken c.args.input.now c.if-input-gt4096.true
+
+pub returns-in_err-read : goal.returns-in_err-read
+returns-in_err-read c =
+    let p = err_from_is_err_and c.from_residual.result c.from_residual.ensures.1 in
+    rw (p.1, p.2) (report_malformed c.args.broken c.args.input.now c.if-input-gt4096.false _ _ _ c.in_err-read.ensures)
+
+pub returns-in_err-d : goal.returns-in_err-d
+returns-in_err-d c =
+    let p = err_from_is_err_and c.from_residual-in_err-d.result c.from_residual-in_err-d.ensures.1 in
+    rw (p.1, p.2) (report_refused c.args.broken c.args.input.now c.if-input-gt4096.false _ _ _ c.in_ok-read.ensures _ c.in_err-d.ensures.answer)
 
 pub put_plan-requires : goal.put_plan-requires
 put_plan-requires c =
-    let has_planned : Answered c.args.p c.args.list.now (accepted c.in-Planned.d) = told_answer c.bipartite_edge_color-answer.result (answer.Planned c.in-Planned.d) _ c.in-Planned.is c.bipartite_edge_color-answer.ensures.answer in
-    let a = c.args in
-    plan_needs a.p a.list.now c.in-Planned.d _ a.output.now has_planned c.bipartite_edge_color-answer.ensures.slots (search rules)
+    let report = report_planned c.args.broken c.args.input.now c.if-input-gt4096.false _ _ _ c.in_ok-read.ensures _ _ c.in_ok-d.ensures.answer c.in_ok-d.ensures.slots in
+    (search rules, output_room _ _ _ report _ c.new-lines.ensures)
 
-pub put_refusal-requires : goal.put_refusal-requires
-put_refusal-requires c =
-    let has_refused : Answered c.args.p c.args.list.now (Answer.refused c.in-Refused.number c.in-Refused.place) = told_answer c.bipartite_edge_color-answer.result (answer.Refused c.in-Refused.number c.in-Refused.place) _ c.in-Refused.is c.bipartite_edge_color-answer.ensures.answer in
-    let a = c.args in
-    refusal_needs a.p a.list.now c.in-Refused.number c.in-Refused.place a.output.now has_refused (search rules)
+pub returns : goal.returns
+returns c =
+    let report = report_planned c.args.broken c.args.input.now c.if-input-gt4096.false _ _ _ c.in_ok-read.ensures _ _ c.in_ok-d.ensures.answer c.in_ok-d.ensures.slots in
+    output_placed _ _ _ report _ _ c.new-lines.ensures c.put_plan.ensures

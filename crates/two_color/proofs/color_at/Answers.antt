@@ -1,6 +1,6 @@
 -- `two_color::color_at` meets its contract: the words' sides are the definition's. Assumes nothing.
 use Prim.Native.Nat.{◌+◌, ◌*◌, ◌<◌}
-use mathlib.Core.Path.{◌≡◌, refl, ◌∙◌}
+use mathlib.Core.Path.{◌≡◌, refl, sym, ◌∙◌}
 use native.Mathlib.Omega.{arith}
 use Rattle.words.specs.Words.{word}
 use Rattle.two_color.proofs.Beginning.{prepared_fits}
@@ -17,7 +17,7 @@ prepare-requires c =
     let a = c.args in
     let can = c.requires in
     let some : 0 < a.p = omega (arith, c.if-p-eq0.false) in
-    record { small = record { low = can.low; few = can.few }; list_len_bound = can.short; p_bound = can.narrow; can_prepare = prepared_fits a.u a.p a.d a.list.now a.s.now can some }
+    record { list_len_bound = can.short; p_bound = can.narrow; can_prepare = prepared_fits a.u a.p a.d a.list.now a.s.now can some }
 
 pub all_steps-requires : goal.all_steps-requires
 all_steps-requires c =
@@ -25,7 +25,7 @@ all_steps-requires c =
     let can = c.requires in
     let some : 0 < a.p = omega (arith, c.if-p-eq0.false) in
     let t = c.prepare in
-    record { small = record { low = can.low; few = can.few }; can_step_all = all_fit a.u a.p a.d a.list.now a.s.now can some t.new.s t.ensures }
+    all_fit a.u a.p a.d a.list.now a.s.now can some t.new.s t.ensures
 
 pub returns-then-refused-ne0 : goal.returns-then-refused-ne0
 returns-then-refused-ne0 c =
@@ -33,18 +33,15 @@ returns-then-refused-ne0 c =
     let some : 0 < a.p = omega (arith, c.if-p-eq0.false) in
     let e : c.all_steps.new.s ≡ last_words a.u a.p a.d a.list.now a.s.now =
     last_is a.u a.p a.d a.list.now a.s.now c.prepare.new.s c.all_steps.new.s c.prepare.ensures c.all_steps.ensures in
-    let n : word c.all_steps.new.s (a.u + 4 * a.p) ≡ 0 → ⊥ = λ z. c.if-refused-ne0.true (c.get-refused.ensures.0 ∙ z) in
-    let n' : word (last_words a.u a.p a.d a.list.now a.s.now) (a.u + 4 * a.p) ≡ 0 → ⊥ = rw e at n in
-    rw e (refused_colored a.u a.p a.d a.list.now a.s.now c.requires some (a.u + 2 * a.p) refl n')
+    let told = rw (c.refused_place.ensures, e) at c.get-refused.ensures.0 in
+    rw e (refused_colored a.u a.p a.d a.list.now a.s.now c.requires some (a.u + 2 * a.p) refl (λ z. c.if-refused-ne0.true (told ∙ z)))
 
 pub returns : goal.returns
 returns c =
     let a = c.args in
     let some : 0 < a.p = omega (arith, c.if-p-eq0.false) in
-    let t = last_words a.u a.p a.d a.list.now a.s.now in
-    let e : c.all_steps.new.s ≡ t =
+    let e : c.all_steps.new.s ≡ last_words a.u a.p a.d a.list.now a.s.now =
     last_is a.u a.p a.d a.list.now a.s.now c.prepare.new.s c.all_steps.new.s c.prepare.ensures c.all_steps.ensures in
-    let z : word c.all_steps.new.s (a.u + 4 * a.p) ≡ 0 = omega (arith, c.get-refused.ensures.0, c.if-refused-ne0.false) in
-    let z' : word t (a.u + 4 * a.p) ≡ 0 = rw e at z in
-    let l : c.get-left.result ≡ word t (a.u + 4 * a.p + 3) = rw e at c.get-left.ensures.0 in
-    rw e (found_colored a.u a.p a.d a.list.now a.s.now c.requires some (a.u + 2 * a.p) c.get-left.result refl z' l)
+    let told = rw (c.refused_place.ensures, e) at c.get-refused.ensures.0 in
+    let left = rw (c.left_count.ensures, e) at c.get-left.ensures.0 in
+    rw e (found_colored a.u a.p a.d a.list.now a.s.now c.requires some (a.u + 2 * a.p) c.get-left.result refl (sym told ∙ omega (arith, c.if-refused-ne0.false)) left)

@@ -1,11 +1,7 @@
--- `evening::even_at` meets its contract: the rows' words are cleared, the rows filled, and k steps are taken; the measure is what is left of the
--- bound. Assumes nothing.
-use mathlib.Core.Path.{◌≡◌, refl}
-use Prim.Native.Nat.{◌+◌, ◌*◌}
-use native.Mathlib.Omega.{arith}
+-- `evening::even_at` meets its contract: the rows' words are cleared, the rows filled, and so many steps are taken. Assumes nothing.
+use Rattle.std.proofs.Common.{◌≡◌, ◌+◌, ◌*◌, arith}
 use Rattle.list_pairs.proofs.RowsLaws.{fit_cleared, filled_cleared}
-use Rattle.evening.proofs.EveningWords.{rows_fit_even, fill_small, at_none, at_place, at_more, evened_out}
-use borrow.Author.Rules.{rules}
+use Rattle.evening.proofs.EveningWords.{rows_fit_even, at_none, at_place, at_more, evened_out}
 use Rattle.evening.proofs.filling.even_at.Goals as goal
 
 pub fill_rows-requires : goal.fill_rows-requires
@@ -13,29 +9,30 @@ fill_rows-requires c =
     let a = c.args in
     fit_cleared c.clear_words.ensures (rows_fit_even a.list.now a.d a.n a.at a.u a.s.now c.requires)
 
-pub loop-k-init : goal.loop-k-init
-loop-k-init c =
+pub loop-init : goal.loop-init
+loop-init c =
     let a = c.args in
-    (omega arith, refl, λ first h x. at_none a.list.now a.d a.n a.at a.u first h c.fill_rows.new.s x)
+    λ h x. at_none a.list.now a.d a.n a.at a.u a.s.now h c.fill_rows.new.s x
 
 pub even_step-passed-requires : goal.even_step-passed-requires
 even_step-passed-requires c =
     let a = c.args in
     let h = c.requires in
-    let lp = c.loop-k in
-    let x = filled_cleared (omega arith) c.clear_words.ensures c.fill_rows.ensures in record { fill_small = (fill_small a.list.now a.d a.n a.at a.u a.s.now h, omega (arith, h.low)); has_place = λ below. at_place a.list.now a.d a.n a.at a.u a.s.now h c.fill_rows.new.s x lp.k lp.passed.l lp.passed.r lp.s (lp.invariant.2 a.s.now h x) (omega arith) }
+    let lp = c.loop in
+    let x = filled_cleared (omega arith) c.clear_words.ensures c.fill_rows.ensures in
+    λ below. at_place a.list.now a.d a.n a.at a.u a.s.now h c.fill_rows.new.s x lp.counter lp.passed.l lp.passed.r lp.s (lp.invariant h x) (omega arith)
 
-pub loop-k-preserved : goal.loop-k-preserved
-loop-k-preserved c =
+pub loop-preserved : goal.loop-preserved
+loop-preserved c =
     let a = c.args in
-    let lp = c.loop-k in
-    (search rules, search rules, λ first h x. at_more a.list.now a.d a.n a.at a.u first h c.fill_rows.new.s x lp.k lp.passed.l lp.passed.r c.even_step-passed.result.l c.even_step-passed.result.r lp.s c.even_step-passed.new.s (lp.invariant.2 first h x) c.even_step-passed.ensures)
+    let lp = c.loop in
+    λ h x. at_more a.list.now a.d a.n a.at a.u a.s.now h c.fill_rows.new.s x lp.counter lp.passed.l lp.passed.r c.even_step-passed.result.l c.even_step-passed.result.r lp.s c.even_step-passed.new.s (lp.invariant h x) c.even_step-passed.ensures
 
 pub returns : goal.returns
 returns c =
     let a = c.args in
     let h = c.requires in
-    let lp = c.loop-k in
+    let lp = c.loop in
     let x = filled_cleared (omega arith) c.clear_words.ensures c.fill_rows.ensures in
-    let e : lp.k ≡ 2 * (a.n + a.n) = omega arith in
-    evened_out a.list.now a.d a.n a.at a.u a.s.now h c.fill_rows.new.s x lp.passed.l lp.passed.r lp.s (rw e at (lp.invariant.2 a.s.now h x))
+    let e : lp.counter ≡ 2 * (a.n + a.n) = omega arith in
+    evened_out a.list.now a.d a.n a.at a.u a.s.now h c.fill_rows.new.s x lp.passed.l lp.passed.r lp.s (rw e at (lp.invariant h x))

@@ -1,8 +1,0 @@
--- `matching::search_graph` meets its contract: the copy, then the diagonal. Assumes nothing.
-use Rattle.matching.proofs.GraphWords.{builds_graph}
-use Rattle.matching.proofs.search_graph.Goals as goal
-
-pub returns : goal.returns
-returns c =
-    let a = c.args in
-    builds_graph a.t a.g a.h a.n a.alpha a.beta a.s.now c.copy_times.new.s c.add_diagonal.new.s c.copy_times.ensures c.add_diagonal.ensures

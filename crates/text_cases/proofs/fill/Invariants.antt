@@ -1,9 +1,0 @@
--- `fill` is safe and ends: the buffer keeps its length. Assumes nothing.
-use Rattle.std.proofs.Common.{length, ◌-◌, ◌≡◌}
-use Rattle.text_cases.proofs.fill.Given as goal
-
-abbrev pub invariant-loop-i : goal.invariant-loop-i
-invariant-loop-i l = length l.buffer ≡ length l.initial.buffer
-
-abbrev pub decreases-loop-i : goal.decreases-loop-i
-decreases-loop-i l = length l.initial.buffer - l.i
