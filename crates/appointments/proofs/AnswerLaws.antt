@@ -1,6 +1,6 @@
--- What an answer tells of its checks, what a lent buffer holds after acceptance, and an answer of one figure or none from the enum by
--- which code tells it to its numbers. Assumes nothing.
-use Prim.Native.Nat.{ℕ}
+-- What an answer tells of its checks, what a lent buffer holds after acceptance, and an answer from the `Result` by which code tells it
+-- to its numbers. Assumes nothing.
+use Prim.Native.Nat.{ℕ, ◌<◌}
 use mathlib.Core.Path.{◌≡◌, refl, sym, ◌∙◌, ap}
 use mathlib.Core.List.{List, ◌++◌}
 use native.Mathlib.Omega.{arith}
@@ -10,7 +10,7 @@ use Rattle.std.proofs.lemmas.Result.{err_from_is_err_and}
 use Rattle.appointments.specs.Checks.{Check}
 use Rattle.appointments.specs.Refusals.{refusal_number, refusal_place, told}
 use Rattle.appointments.specs.declared.Refusal.{Refusal}
-use Rattle.appointments.specs.Answers.{Answer, accepted, refused, answer, number_of, place_of, figure_of, after}
+use Rattle.appointments.specs.Answers.{Answer, accepted, refused, answer, number_of, place_of, figures_of, figure, figure_of, after}
 
 module _ {F : Type 0} where
   -- no answer accepts and refuses; figures, number and place are those of the answer
@@ -52,6 +52,20 @@ module _ {F : Type 0} where
   pub barred_says : (a : Answer F) (n i : ℕ) → a ≡ refused n i → (n ≡ number_of a) × (i ≡ place_of a)
   barred_says a n i e = rw e (refl, refl)
 
+  -- a bound of its place or of a figure
+  pub place_below : (a : Answer F) (m : ℕ) → 0 < m → ((n i : ℕ) → a ≡ refused n i → i < m) → place_of a < m
+  place_below (accepted f) m some h = some
+  place_below (refused n i) m some h = h n i refl
+
+  pub figure_below : (which : F → ℕ) (a : Answer F) (m : ℕ) → 0 < m → ((f : F) → a ≡ accepted f → which f < m) → figure which a < m
+  figure_below which (accepted f) m some h = h f refl
+  figure_below which (refused n i) m some h = some
+
+  -- a figure of the figures, where a refusal has figures of 0
+  pub figures_say : (which : F → ℕ) (none : F) (a : Answer F) → which none ≡ 0 → which (figures_of none a) ≡ figure which a
+  figures_say which none (accepted f) e = refl
+  figures_say which none (refused n i) e = e
+
 -- ── an answer of one figure ──
 
 pub accepted_says : (a : Answer ℕ) (n : ℕ) → a ≡ accepted n → (0 ≡ number_of a) × ((0 ≡ place_of a) × (n ≡ figure_of a))
@@ -67,6 +81,20 @@ figures_told r a f e k = sym e ∙ ap told k
 
 pub refusal_told : {F : Type 0} (r : Result F Refusal) (a : Answer F) (d : Refusal) → told r ≡ a → r ≡ Err d → a ≡ refused (refusal_number d) (refusal_place d)
 refusal_told r a d e k = sym e ∙ ap told k
+
+-- of one figure
+pub one_figure : (r : Result ℕ Refusal) (a : Answer ℕ) (n : ℕ) → told r ≡ a → r ≡ Ok n → a ≡ accepted n
+one_figure = figures_told
+
+pub one_refusal : (r : Result ℕ Refusal) (a : Answer ℕ) (d : Refusal) → told r ≡ a → r ≡ Err d → a ≡ refused (refusal_number d) (refusal_place d)
+one_refusal = refusal_told
+
+-- and without a figure
+pub no_figure : (r : Result Unit Refusal) (a : Answer Unit) → told r ≡ a → r ≡ Ok tt → a ≡ accepted tt
+no_figure r a e k = figures_told r a tt e k
+
+pub no_figure_refusal : (r : Result Unit Refusal) (a : Answer Unit) (d : Refusal) → told r ≡ a → r ≡ Err d → a ≡ refused (refusal_number d) (refusal_place d)
+no_figure_refusal = refusal_told
 
 -- ── an answer that a `?` hands on ──
 

@@ -8,5 +8,6 @@ pub mod BadEnds
 pub mod Causes
 pub mod Enough
 pub mod Flat
+pub mod Chunks
 pub mod AnswerLaws
 pub mod LentLaws

@@ -23,6 +23,11 @@ abbrev pub place_of : {F : Type 0} → Answer F → ℕ
 place_of (accepted figures) = 0
 place_of (refused number place) = place
 
+-- the figures of an answer, these for a refusal
+abbrev pub figures_of : {F : Type 0} → F → Answer F → F
+figures_of none (accepted figures) = figures
+figures_of none (refused number place) = none
+
 -- a figure of an answer, 0 for a refusal
 abbrev pub figure : {F : Type 0} → (F → ℕ) → Answer F → ℕ
 figure which (accepted figures) = which figures

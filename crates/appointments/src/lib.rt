@@ -3,7 +3,11 @@
 #![tactic(auto)]
 
 ghost use Rattle.std.specs.Prelude.{◌≡◌};
-ghost use Rattle.appointments.specs.Refusals.{refusal_number, refusal_place};
+ghost use Rattle.appointments.specs.Answers.{number_of, place_of, figures_of};
+ghost use Rattle.appointments.specs.Refusals.{refusal_number, refusal_place, told};
+
+// The mark of a blank end (the law `blank_mark`).
+pub const BLANK: u16 = 65535;
 
 // Why a call refuses, in the order of the papers' numbers. A refusal that has a place carries it.
 #[derive(Clone, Copy, Debug, PartialEq, Eq)]
@@ -68,8 +72,38 @@ impl Refusal {
 }
 
 // How much scratch a list needs: D, and W in words.
-#[derive(Clone, Copy, Debug, PartialEq, Eq)]
+#[derive(Clone, Copy, Debug, Default, PartialEq, Eq)]
 pub struct Needs {
     pub d: usize,
     pub words: usize,
+}
+
+// A call's answer as numbers, as C has them: the papers' number and place, 0 and 0 for acceptance, and the figures.
+#[derive(Clone, Copy, Debug, PartialEq, Eq)]
+pub struct Numbers<T> {
+    pub number: u32,
+    pub place: usize,
+    pub figures: T,
+}
+
+impl<T: Copy> Numbers<T> {
+    // A refusal has the figures of `none`.
+    pub fn of(answer: Result<T, Refusal>, none: T) -> Numbers<T>
+        ensures number { result.number ≡ number_of (told answer) }
+        ensures place { result.place ≡ place_of (told answer) }
+        ensures figures { result.figures ≡ figures_of none (told answer) }
+    {
+        match answer {
+            Ok(figures) => Numbers {
+                number: 0,
+                place: 0,
+                figures,
+            },
+            Err(refusal) => Numbers {
+                number: refusal.number(),
+                place: refusal.place(),
+                figures: none,
+            },
+        }
+    }
 }

@@ -77,24 +77,28 @@ module _ (xs : List Appt) (slots : List ℕ) (party : ℕ) {flags : List Bool} {
   mine = slots_of party xs slots
 
   -- nothing
-  pub waits_none : h < l → 0 ≡ waiting xs slots party
-  unfolding waiting
-  waits_none k = omega (arith, m.low, m.high, free_le (lowest mine) (highest mine) mine)
-
-  some : l ≤ h → 0 < length mine
-  unfolding lowest highest
-  some k = go mine (omega (arith, m.low, m.high))
+  pub waits_none : n ≡ 0 → 0 ≡ waiting xs slots party
+  unfolding waiting lowest highest
+  waits_none k = go mine (omega (arith, m.different_slots))
     where
-      go : (found : List ℕ) → lowest found ≤ highest found → 0 < length found
-      go [] q = absurd (omega arith)
-      go (s ∷ more) q = omega arith
+      go : (found : List ℕ) → different found ≡ 0 → 0 ≡ free_between (lowest found) (highest found) found
+      go [] q = omega (arith, free_le 65535 0 [])
+      go (s ∷ more) q =
+          absurd (omega (arith, between_whole (s ∷ more) (omega arith), free_le (lowest (s ∷ more)) (highest (s ∷ more)) (s ∷ more)))
 
   -- something: the numbers from the lowest to the highest less the different slots
-  pub waits_some : l ≤ h → (n ≤ h - l + 1) × (h - l + 1 - n ≡ waiting xs slots party)
-  unfolding waiting
+  pub waits_some : 0 < n → (l ≤ h) × (n ≤ h - l + 1) × (h - l + 1 - n ≡ waiting xs slots party)
+  unfolding waiting lowest highest
   waits_some k =
-      let whole : free_between (lowest mine) (highest mine) mine + different mine ≡ highest mine - lowest mine + 1 = between_whole mine (some k) in
-      omega (arith, m.low, m.high, m.different_slots)
+      let some : 0 < length mine = omega (arith, m.different_slots, different_length mine) in
+      let whole : free_between (lowest mine) (highest mine) mine + different mine ≡ highest mine - lowest mine + 1 = between_whole mine some in
+      let order : lowest mine ≤ highest mine = rises mine some in
+      (omega (arith, m.low, m.high), omega (arith, m.low, m.high, m.different_slots), omega (arith, m.low, m.high, m.different_slots))
+    where
+      rises : (found : List ℕ) → 0 < length found → lowest found ≤ highest found
+      rises [] q = absurd (omega arith)
+      rises (s ∷ []) q = omega arith
+      rises (s ∷ t ∷ more) q = omega arith
 
   pub waits_most : h < 65536 → waiting xs slots party ≤ 65534
   unfolding waiting

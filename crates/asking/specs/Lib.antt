@@ -1,5 +1,6 @@
 pub mod PartySlots
 pub mod Waiting
 pub mod Noted
+pub mod Spans
 pub mod Computing
 pub mod Examples

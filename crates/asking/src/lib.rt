@@ -9,79 +9,73 @@ ghost use Rattle.appointments.specs.Refusals.{told};
 ghost use Rattle.asking.specs.PartySlots.{slots_of};
 ghost use Rattle.asking.specs.Waiting.{waiting, waiting_answer, WaitingFits};
 ghost use Rattle.asking.specs.Noted.{Noted, unflagged};
+ghost use Rattle.asking.specs.Spans.{no_span, included};
 
 use appointments::Refusal;
 
-// Of a party's slots so far the lowest, the highest, and how many different ones there are.
+// The lowest and the highest of some slots. Of none the lowest is 65,535, which no slot is above, and the highest 0.
+#[derive(Clone, Copy)]
+pub struct Span {
+    pub lowest: u16,
+    pub highest: u16,
+}
+
+impl Span {
+    // Of no slots.
+    pub fn none() -> Span
+        ensures { result ≡ no_span }
+    {
+        Span {
+            lowest: 65535,
+            highest: 0,
+        }
+    }
+
+    // Takes a slot in.
+    pub fn include(&mut self, slot: u16)
+        ensures { self.new ≡ included slot self.old }
+    {
+        self.lowest = self.lowest.min(slot);
+        self.highest = self.highest.max(slot);
+    }
+}
+
+// What is kept of a party's slots so far: the lowest, the highest, and how many different ones there are.
 #[derive(Drop)]
 struct OwnSlots {
-    lowest: u16,
-    highest: u16,
+    span: Span,
     different: usize,
 }
 
-// Notes a slot of the party: flags it, and takes it into what is kept of its slots.
-fn note(kept: OwnSlots, slot: u16, flags: &mut [bool; 65536]) -> OwnSlots
-    requires { kept.different < 2 ^ 63 }
-    ensures lowest { result.lowest ≡ min kept.lowest slot }
-    ensures highest { result.highest ≡ max kept.highest slot }
-    ensures different { result.different ≡ kept.different + unflagged flags.old slot }
-    ensures flags { flags.new ≡ set flags.old slot true }
-{
-    let at = usize::from(slot);
-    let was_flagged = flags[at];
-    flags[at] = true;
-    OwnSlots {
-        lowest: kept.lowest.min(slot),
-        highest: kept.highest.max(slot),
-        different: if was_flagged {
-            kept.different
-        } else {
-            kept.different + 1
-        },
+impl OwnSlots {
+    // Notes a slot of the party: flags it, and takes it into what is kept.
+    fn note(&mut self, slot: u16, flags: &mut [bool; 65536])
+        requires { self.old.different < 2 ^ 63 }
+        ensures span { self.new.span ≡ included slot self.old.span }
+        ensures different { self.new.different ≡ self.old.different + unflagged flags.old slot }
+        ensures flags { flags.new ≡ set flags.old slot true }
+    {
+        let at = usize::from(slot);
+        let was_flagged = flags[at];
+        flags[at] = true;
+        self.span.include(slot);
+        self.different += usize::from(!was_flagged);
     }
 }
 
-// Notes the slot of the appointment at a position, if that names the party.
-fn note_at(
-    list: &[u16],
-    slots: &[u16],
-    i: usize,
-    party: u16,
-    kept: OwnSlots,
-    flags: &mut [bool; 65536],
-) -> OwnSlots
-    requires i_in_bounds { (2 * i + 1 < length list.now) × (i < length slots.now) }
-    requires noted { Noted (slots_of party (take i (appts list.now)) slots.now) flags.old kept.lowest kept.highest kept.different }
-    ensures { Noted (slots_of party (take (i + 1) (appts list.now)) slots.now) flags.new result.lowest result.highest result.different }
-{
-    let first = list[2 * i];
-    let second = list[2 * i + 1];
-    if naming::named(first, second, party) {
-        return note(kept, slots[i], flags);
-    }
-    kept
-}
-
-// How many appointments there are that have a slot.
-fn with_slots(list: &[u16], slots: &[u16]) -> usize
-    ensures { result ≡ min (length list.now / 2) (length slots.now) }
-{
-    slots.len().min(list.len() / 2)
-}
-
-// The walk: notes all slots of the party, over flags that are 0.
+// The walk: notes all slots of the party, over flags that are false. It ends with the list or with the slots.
 fn note_all(list: &[u16], slots: &[u16], party: u16, flags: &mut [bool; 65536]) -> OwnSlots
     requires { flags.old ≡ replicate 65536 false }
-    ensures { Noted (slots_of party (appts list.now) slots.now) flags.new result.lowest result.highest result.different }
+    ensures { Noted (slots_of party (appts list.now) slots.now) flags.new result.span.lowest result.span.highest result.different }
 {
     let mut kept = OwnSlots {
-        lowest: 65535,
-        highest: 0,
+        span: Span::none(),
         different: 0,
     };
-    for i in 0..with_slots(list, slots) {
-        kept = note_at(list, slots, i, party, kept, flags);
+    for (&[first, second], &slot) in list.as_chunks::<2>().0.iter().zip(slots) {
+        if naming::named(first, second, party) {
+            kept.note(slot, flags);
+        }
     }
     kept
 }
@@ -94,11 +88,11 @@ pub fn waiting_of(list: &[u16], slots: &[u16], party: u16) -> usize
 {
     let mut flags = [false; 65536];
     let own = note_all(list, slots, party, &mut flags);
-    let lowest = own.lowest as usize;
-    let highest = own.highest as usize;
-    if highest < lowest {
-        return 0; // it has no slot
+    if own.different == 0 {
+        return 0;
     }
+    let lowest = usize::from(own.span.lowest);
+    let highest = usize::from(own.span.highest);
     highest - lowest + 1 - own.different
 }
 
@@ -107,7 +101,7 @@ pub fn waiting(p: u16, list: &[u16], slots: &[u16], party: u16) -> Result<usize,
     ensures answer { told result ≡ waiting_answer p list.now slots.now party }
     ensures fits { WaitingFits result }
 {
-    checking::check_with_slots(p as usize, list, slots.len())?;
+    checking::check_with_slots(usize::from(p), list, slots.len())?;
     if p <= party {
         return Err(Refusal::UnlistedEnd(0));
     }

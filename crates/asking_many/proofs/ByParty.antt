@@ -17,7 +17,7 @@ use Rattle.appointments.proofs.Flat.{appts_count, appt_at}
 use Rattle.appointments.proofs.Loads.{load_append, load_most}
 use Rattle.asking.specs.PartySlots.{slots_of, lowest, highest}
 use Rattle.asking.proofs.PartySlots.{slots_more, slots_none, lowest_more, highest_more}
-use Rattle.asking_many.specs.Tables.{Walkable, entered, row_of, row_at, no_slot, Table}
+use Rattle.asking_many.specs.Tables.{Walkable, entered, row_of, row_at, no_slot, ByParty, Table}
 use Rattle.asking_many.specs.declared.Row.{Row}
 
 -- ── a row changed ──
@@ -52,11 +52,38 @@ module _ (f : Row → Row) (a b : ℕ) (rows : List Row) (h : a < length rows) (
       changed f one b v (omega (arith, length-set rows a (f (row_at rows a))))
       ∙ ap (λ (x : Row). pick (eqb v b) (f x) x) (changed f rows a v h)
 
+-- what each party has in the table, from what each had
+by_party :
+    (f : Row → Row) (a b : ℕ) (rows : List Row) (old new : ℕ → Row) → ByParty old rows → a < 1024 → b < 1024 →
+    ((v : ℕ) → twice f a b v (old v) ≡ new v) →
+    let first : List Row = set rows a (f (row_at rows a)) in
+    ByParty new (set first b (f (row_at first b)))
+by_party f a b rows old new p h k e =
+    let first_end : a < length rows = omega (arith, p.size) in
+    let second_end : b < length rows = omega (arith, p.size) in
+    record {
+      size = two_size f a b rows first_end second_end ∙ p.size;
+      entry = λ v l. two_entry f a b rows first_end second_end v ∙ ap (twice f a b v) (p.entry v l) ∙ e v;
+    }
+
+-- a change that does nothing when it comes again is made once for whom the appointment names, once or twice
+twice_once :
+    {A : Type 0} (f : A → A) → ((x : A) → f (f x) ≡ f x) → (a b v : ℕ) (x : A) →
+    pick (eqb v b) (f (pick (eqb v a) (f x) x)) (pick (eqb v a) (f x) x) ≡ pick (named v (appt a b)) (f x) x
+unfolding names is
+twice_once {A = A} f again a b v x = go (eqb v a) (eqb v b)
+  where
+    go : (p q : Bool) → pick q (f (pick p (f x) x)) (pick p (f x) x) ≡ pick (ltb 0 (pick p 1 0 + pick q 1 0)) (f x) x
+    go true true = again x
+    go true false = refl
+    go false true = refl
+    go false false = refl
+
 -- ── a slot entered ──
 
 -- a row by its three numbers
 abbrev row : ℕ → ℕ → ℕ → Row
-row n low high = record { load = n; lowest = low; highest = high }
+row n low high = record { load = n; span = record { lowest = low; highest = high } }
 
 -- Entered for both ends: the load is higher by how often the appointment names the party, and its slot comes to the others once, since
 -- the same slot again changes neither the lowest nor the highest.
@@ -137,12 +164,7 @@ module _ (list slots : List ℕ) (i : ℕ) (walk : Walkable list slots) (inside 
       Table with_this slots (set first b (entered s (row_at first b)))
   table_more rows small t =
       let ends = walk.ends i inside in
-      let first_end : a < length rows = omega (arith, t.size) in
-      let second_end : b < length rows = omega (arith, t.size) in
-      record {
-        size = two_size (entered s) a b rows first_end second_end ∙ t.size;
-        entry = λ v h. two_entry (entered s) a b rows first_end second_end v ∙ ap (twice (entered s) a b v) (t.entry v h) ∙ row_more v small;
-      }
+      by_party (entered s) a b rows (row_of so_far slots) (row_of with_this slots) t ends.0 ends.1 (λ v. row_more v small)
 
   -- loads so far leave room for one more in 16 bits, and for two
   pub load_room : (rows : List Row) (v : ℕ) → Table so_far slots rows → v < 1024 → (row_at rows v).load ≤ 8190

@@ -1,8 +1,9 @@
 -- The table that the walk fills, by party number, and what it asks of a list. Assumes nothing.
-use Rattle.std.specs.Prelude.{ℕ, ◌+◌, ◌*◌, ◌/◌, ◌<◌, ◌≤◌, ◌≡◌, List, min, max, length, get_or, set}
+use Rattle.std.specs.Prelude.{ℕ, ◌+◌, ◌*◌, ◌/◌, ◌<◌, ◌≤◌, ◌≡◌, List, length, get_or, set}
 use Rattle.words.specs.Words.{word}
 use Rattle.appointments.specs.Appointments.{Appt, load}
 use Rattle.asking.specs.PartySlots.{slots_of, lowest, highest}
+use Rattle.asking.specs.Spans.{no_span, included}
 use Rattle.asking_many.specs.Many.{or_none}
 use Rattle.asking_many.specs.declared.Row.{Row}
 
@@ -14,30 +15,34 @@ pub record Walkable (list slots : List ℕ) : Type 0 where
 
 -- a row with a slot more, for one end of its appointment
 abbrev pub entered : ℕ → Row → Row
-entered s row = record { load = row.load + 1; lowest = min row.lowest s; highest = max row.highest s }
+entered s row = record { load = row.load + 1; span = included s row.span }
 
 -- the row of a party: load, lowest slot and highest slot
 abbrev pub row_of : List Appt → List ℕ → ℕ → Row
 row_of xs slots v =
-    record { load = load v xs; lowest = lowest (slots_of v xs slots); highest = highest (slots_of v xs slots) }
+    record { load = load v xs; span = record { lowest = lowest (slots_of v xs slots); highest = highest (slots_of v xs slots) } }
 
 -- the row of a party without an appointment
 abbrev pub no_slot : Row
-no_slot = record { load = 0; lowest = 65535; highest = 0 }
+no_slot = record { load = 0; span = no_span }
 
 -- the row at a place, and zeroes past the table
 abbrev pub row_at : List Row → ℕ → Row
-row_at rows v = get_or rows v (record { load = 0; lowest = 0; highest = 0 })
+row_at rows v = get_or rows v (record { load = 0; span = record { lowest = 0; highest = 0 } })
 
--- The table of some appointments: 1,024 rows, each that of its party.
-pub record Table (xs : List Appt) (slots : List ℕ) (rows : List Row) : Type 0 where
+-- 1,024 rows, each the one that its party has
+pub record ByParty (has : ℕ → Row) (rows : List Row) : Type 0 where
   pub size : length rows ≡ 1024
-  pub entry : (v : ℕ) → v < 1024 → row_at rows v ≡ row_of xs slots v
+  pub entry : (v : ℕ) → v < 1024 → row_at rows v ≡ has v
+
+-- The table of some appointments: each row that of its party.
+abbrev pub Table : List Appt → List ℕ → List Row → Type 0
+Table xs slots rows = ByParty (row_of xs slots) rows
 
 -- the three entries of query j, put from the row of the party that it asks for
 abbrev pub put_three : List ℕ → ℕ → Row → List ℕ
 put_three output j row =
     set
-    (set (set output (3 * j) row.load) (3 * j + 1) (or_none row.load row.lowest))
+    (set (set output (3 * j) row.load) (3 * j + 1) (or_none row.load row.span.lowest))
     (3 * j + 2)
-    (or_none row.load row.highest)
+    (or_none row.load row.span.highest)

@@ -12,13 +12,13 @@ ghost use Rattle.asking_many.specs.Many.{or_none, asked_of_all, many_answer, man
 ghost use Rattle.asking_many.specs.Tables.{entered, Table, Walkable, put_three};
 
 use appointments::Refusal;
+use asking::Span;
 
 // What the walk has seen of a party: its load, and of its slots the lowest and the highest.
 #[derive(Clone, Copy)]
 struct Row {
     load: u16,
-    lowest: u16,
-    highest: u16,
+    span: Span,
 }
 
 impl Row {
@@ -28,8 +28,7 @@ impl Row {
         ensures { self.new ≡ entered slot self.old }
     {
         self.load += 1;
-        self.lowest = self.lowest.min(slot);
-        self.highest = self.highest.max(slot);
+        self.span.include(slot);
     }
 
     // A slot to be told; 65,535 where the load is 0.
@@ -48,12 +47,11 @@ fn enter_all(list: &[u16], slots: &[u16]) -> [Row; 1024]
 {
     let mut rows = [Row {
         load: 0,
-        lowest: 65535, // no slot is above it
-        highest: 0,
+        span: Span::none(),
     }; 1024];
-    for i in 0..list.len() / 2 {
-        rows[usize::from(list[2 * i])].enter(slots[i]);
-        rows[usize::from(list[2 * i + 1])].enter(slots[i]);
+    for (&[first, second], &slot) in list.as_chunks::<2>().0.iter().zip(slots) {
+        rows[usize::from(first)].enter(slot);
+        rows[usize::from(second)].enter(slot);
     }
     rows
 }
@@ -64,8 +62,8 @@ fn answer_query(row: Row, j: usize, output: &mut [u16])
     ensures { output.new ≡ put_three output.old j row }
 {
     output[3 * j] = row.load;
-    output[3 * j + 1] = row.or_none(row.lowest);
-    output[3 * j + 2] = row.or_none(row.highest);
+    output[3 * j + 1] = row.or_none(row.span.lowest);
+    output[3 * j + 2] = row.or_none(row.span.highest);
 }
 
 // Answers all queries: one walk of the list, then three entries for each query. Those behind them stay.
@@ -76,8 +74,8 @@ fn answer_all(list: &[u16], slots: &[u16], queries: &[u16], output: &mut [u16])
     ensures { output.new ≡ over (asked_of_all (appts list.now) slots.now queries.now) output.old }
 {
     let rows = enter_all(list, slots);
-    for j in 0..queries.len() {
-        answer_query(rows[usize::from(queries[j])], j, output);
+    for (j, party) in queries.iter().enumerate() {
+        answer_query(rows[usize::from(*party)], j, output);
     }
 }
 
@@ -99,7 +97,7 @@ pub fn ask_many(
     ensures answer { told result ≡ many_answer p list.now slots.now queries.now output.old }
     ensures output { output.new ≡ many_output p list.now slots.now queries.now output.old }
 {
-    checking::check_with_slots(p as usize, list, slots.len())?;
+    checking::check_with_slots(usize::from(p), list, slots.len())?;
     if 64 < queries.len() {
         return Err(Refusal::ManyQueries);
     }

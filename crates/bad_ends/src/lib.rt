@@ -8,8 +8,7 @@ ghost use Rattle.appointments.specs.Checks.{blank, first_of, unlisted};
 ghost use Rattle.appointments.specs.BadEnds.{FirstBadEnds};
 ghost use Rattle.bad_ends.specs.Noted.{noted};
 
-// The mark of a blank end.
-const BLANK: u16 = 65535;
+use appointments::BLANK;
 
 // What the walk remembers: the first position for 4 and the first for 5.
 #[derive(Clone, Copy)]
@@ -18,14 +17,8 @@ pub struct BadEnds {
     pub unlisted: Option<usize>,
 }
 
-// What is kept once an end at position `i` is noted: `i` if the end passes the test and there is none yet. What was found before stays.
-fn noted(i: usize, passes: bool, kept: Option<usize>) -> Option<usize>
-    ensures { result ≡ noted i passes kept }
-{
-    if passes { kept.or(Some(i)) } else { kept }
-}
-
-// Notes an end of the appointment at position `i`. An end below P is neither blank nor unlisted, any other is one of the two.
+// Notes an end of the appointment at position `i`. An end below P is neither blank nor unlisted, any other is one of the two. What was found before
+// stays.
 fn note_end(seen: BadEnds, i: usize, p: u16, end: u16) -> BadEnds
     ensures blank { result.blank ≡ noted i (eqb end blank) seen.blank }
     ensures unlisted { result.unlisted ≡ noted i (unlisted p end) seen.unlisted }
@@ -33,9 +26,16 @@ fn note_end(seen: BadEnds, i: usize, p: u16, end: u16) -> BadEnds
     if end < p {
         return seen;
     }
-    BadEnds {
-        blank: noted(i, end == BLANK, seen.blank),
-        unlisted: noted(i, end != BLANK, seen.unlisted),
+    if end == BLANK {
+        BadEnds {
+            blank: seen.blank.or(Some(i)),
+            ..seen
+        }
+    } else {
+        BadEnds {
+            unlisted: seen.unlisted.or(Some(i)),
+            ..seen
+        }
     }
 }
 
@@ -47,10 +47,10 @@ pub fn first_bad_ends(p: u16, list: &[u16]) -> BadEnds
         blank: None,
         unlisted: None,
     };
-    for i in 0..list.len() / 2 {
-        let first = note_end(seen, i, p, list[2 * i]);
-        let second = note_end(first, i, p, list[2 * i + 1]);
-        seen = second;
+    for (i, &[first, second]) in list.as_chunks::<2>().0.iter().enumerate() {
+        let between = note_end(seen, i, p, first);
+        let after = note_end(between, i, p, second);
+        seen = after;
     }
     seen
 }

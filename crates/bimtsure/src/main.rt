@@ -7,15 +7,9 @@ ghost use Rattle.std.specs.Prelude.{◌≡◌, ◌+◌, ◌<◌, ◌≤◌, fals
 ghost use Rattle.std.specs.Io.KnownBytes.{Consumes, IsAtEnd};
 ghost use Rattle.bimtsure.specs.Answering.{Answers};
 
+use reading::Input;
 use std::io;
 use std::io::{Read, Write};
-
-// What came of the input: how many bytes, and whether it is broken, that is, reading failed for good before the input ended.
-#[derive(Clone, Copy)]
-struct Came {
-    count: usize,
-    broken: bool,
-}
 
 // One read into the buffer from where the bytes end, which stay: how many bytes it gave, none at the end of the input. A read that
 // failed took nothing of the input.
@@ -30,12 +24,12 @@ fn read_piece<R: Read>(reader: &mut R, buffer: &mut [u8], from: usize) -> Option
 }
 
 // Reads until the input ends or the buffer is full, however few bytes come at a time. A read may fail for a while, by a signal or
-// since the next bytes aren't there yet, so it is tried again; after a million failed reads in all the input is broken. What came
-// stands at the start of the buffer, none left out; and where the input isn't broken and the buffer isn't full, that is all of it.
-fn read_input<R: Read>(reader: &mut R, buffer: &mut [u8]) -> Came
-    ensures inside { result.count ≤ length buffer.new }
-    ensures bytes { Consumes (R.remaining reader.old) (R.remaining reader.new) (take result.count buffer.new) }
-    ensures all { result.broken ≡ false → result.count < length buffer.new → IsAtEnd (R.remaining reader.new) }
+// since the next bytes aren't there yet, so it is tried again; after a million failed reads in all the input is broken. What is
+// given is all that was taken, none left out; and where the input isn't broken and the buffer isn't full, that is all of the input.
+fn read_input<'a, R: Read>(reader: &mut R, buffer: &'a mut [u8]) -> Input<'a>
+    ensures inside { length result.bytes.now ≤ length buffer.old }
+    ensures bytes { Consumes (R.remaining reader.old) (R.remaining reader.new) result.bytes.now }
+    ensures all { result.broken ≡ false → length result.bytes.now < length buffer.old → IsAtEnd (R.remaining reader.new) }
 {
     let mut count = 0;
     let mut tries: usize = 1_000_000;
@@ -46,8 +40,8 @@ fn read_input<R: Read>(reader: &mut R, buffer: &mut [u8]) -> Came
             None => tries -= 1,
         }
     }
-    Came {
-        count,
+    Input {
+        bytes: &buffer[..count],
         broken: tries == 0,
     }
 }
@@ -57,8 +51,7 @@ fn answer_input<R: Read, W: Write>(reader: &mut R, writer: &mut W) -> io::Result
     ensures { OnOk result (Answers (R.remaining reader.old) (R.remaining reader.new) (W.contents writer.old) (W.contents writer.new)) }
 {
     let mut input = [0u8; 4097];
-    let came = read_input(reader, &mut input);
-    let output = text::text_output(&input[..came.count], came.broken);
+    let output = text::text_output(read_input(reader, &mut input));
     writer.write_all(output.as_bytes())
 }
 

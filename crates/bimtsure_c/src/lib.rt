@@ -10,13 +10,16 @@ ghost use Rattle.planning.specs.Demand3.{Demand3};
 ghost use Rattle.bimtsure_c.specs.Planned.{answer_by};
 ghost use Rattle.appointments.specs.Answers.{number_of, place_of, figure_of};
 ghost use Rattle.appointments.specs.Lent.{lent};
+ghost use Rattle.appointments.specs.Refusals.{told};
 ghost use Rattle.asking.specs.Waiting.{waiting_answer};
 ghost use Rattle.asking_many.specs.Many.{many_answer, many_output};
 ghost use Rattle.filing.specs.Filed.{writing_answer, writing_output, reading_answer, reading_list, reading_slots, parties_of, appointments_of};
 ghost use Rattle.viewing.specs.Viewer.{viewer_answer, view_step, view_next};
-ghost use Rattle.bimtsure_c.specs.Viewed.{if_open, found_of, position_of, slot_of};
+ghost use Rattle.bimtsure_c.specs.Viewed.{if_open, found_of, position_of, slot_of, shown, step_from};
 
-use viewing::Viewer;
+use appointments::{Needs, Numbers, Refusal};
+use filing::Header;
+use viewing::{Seen, Viewer};
 
 // Number, place, and D.
 #[repr(C)]
@@ -86,6 +89,13 @@ pub struct BimtsureView {
     pub next: usize,
 }
 
+// What a step of the viewer shows, an appointment or the end, and where the viewer then stands.
+#[derive(Clone, Copy, Default)]
+struct Shown {
+    seen: Option<Seen>,
+    next: usize,
+}
+
 // The planning call: a slot for each appointment of the list, or a refusal.
 #[unsafe(no_mangle)]
 pub extern "C" fn bimtsure_plan(
@@ -101,11 +111,12 @@ pub extern "C" fn bimtsure_plan(
     ensures scratch { scratch.new ≡ plan_scratch (lent p list.now slots.old scratch.old) }
     ensures demand_3 { Demand3 (lent p list.now slots.old scratch.old) (answer_by result.number result.place result.d) slots.new }
 {
-    let (number, place, d) = match planning::bipartite_edge_color(p, list, slots, scratch) {
-        Ok(d) => (0, 0, d as u32),
-        Err(refusal) => (refusal.number(), refusal.place() as u32, 0),
-    };
-    BimtsureAnswer { number, place, d }
+    let plan = Numbers::of(planning::bipartite_edge_color(p, list, slots, scratch), 0);
+    BimtsureAnswer {
+        number: plan.number,
+        place: plan.place as u32,
+        d: plan.figures as u32,
+    }
 }
 
 // How much scratch a list needs: checks 1 to 6 of the planning call, then D and W.
@@ -116,15 +127,15 @@ pub extern "C" fn bimtsure_needs(p: u16, list: &[u16]) -> BimtsureNeeds
     ensures d { result.d ≡ d_of (needs_answer p list.now) }
     ensures words { result.words ≡ words_of (needs_answer p list.now) }
 {
-    let (number, place, d, words) = match checking::needs(p as usize, list) {
-        Ok(needs) => (0, 0, needs.d as u32, needs.words as u32),
-        Err(refusal) => (refusal.number(), refusal.place() as u32, 0, 0),
-    };
+    let needs = Numbers::of(
+        checking::needs(usize::from(p), list),
+        Needs { d: 0, words: 0 },
+    );
     BimtsureNeeds {
-        number,
-        place,
-        d,
-        words,
+        number: needs.number,
+        place: needs.place as u32,
+        d: needs.figures.d as u32,
+        words: needs.figures.words as u32,
     }
 }
 
@@ -140,14 +151,11 @@ pub extern "C" fn bimtsure_waiting(
     ensures place { result.place ≡ place_of (waiting_answer p list.now slots.now party) }
     ensures waiting { result.waiting ≡ figure_of (waiting_answer p list.now slots.now party) }
 {
-    let (number, place, waiting) = match asking::waiting(p, list, slots, party) {
-        Ok(n) => (0, 0, n as u32),
-        Err(refusal) => (refusal.number(), refusal.place() as u32, 0),
-    };
+    let waiting = Numbers::of(asking::waiting(p, list, slots, party), 0);
     BimtsureWaiting {
-        number,
-        place,
-        waiting,
+        number: waiting.number,
+        place: waiting.place as u32,
+        waiting: waiting.figures as u32,
     }
 }
 
@@ -164,11 +172,11 @@ pub extern "C" fn bimtsure_ask_many(
     ensures place { result.place ≡ place_of (many_answer p list.now slots.now parties.now output.old) }
     ensures output { output.new ≡ many_output p list.now slots.now parties.now output.old }
 {
-    let (number, place) = match asking_many::ask_many(p, list, slots, parties, output) {
-        Ok(()) => (0, 0),
-        Err(refusal) => (refusal.number(), refusal.place() as u32),
-    };
-    BimtsureMany { number, place }
+    let many = Numbers::of(asking_many::ask_many(p, list, slots, parties, output), ());
+    BimtsureMany {
+        number: many.number,
+        place: many.place as u32,
+    }
 }
 
 // Writing a filed plan.
@@ -184,14 +192,11 @@ pub extern "C" fn bimtsure_file_plan(
     ensures length { result.length ≡ figure_of (writing_answer p list.now slots.now output.old) }
     ensures bytes { output.new ≡ writing_output p list.now slots.now output.old }
 {
-    let (number, place, length) = match filing::file_plan(p, list, slots, output) {
-        Ok(n) => (0, 0, n as u32),
-        Err(refusal) => (refusal.number(), refusal.place() as u32, 0),
-    };
+    let filed = Numbers::of(filing::file_plan(p, list, slots, output), 0);
     BimtsureFiled {
-        number,
-        place,
-        length,
+        number: filed.number,
+        place: filed.place as u32,
+        length: filed.figures as u32,
     }
 }
 
@@ -209,19 +214,29 @@ pub extern "C" fn bimtsure_read_plan(
     ensures list { list.new ≡ reading_list bytes.now list.old slots.old }
     ensures slots { slots.new ≡ reading_slots bytes.now list.old slots.old }
 {
-    let (number, place, parties, appointments) = match filing::read_plan(bytes, list, slots) {
-        Ok(header) => (0, 0, header.parties as u32, header.appointments as u32),
-        Err(refusal) => (refusal.number(), refusal.place() as u32, 0, 0),
-    };
+    let read = Numbers::of(filing::read_plan(bytes, list, slots), Header::default());
     BimtsureRead {
-        number,
-        place,
-        parties,
-        appointments,
+        number: read.number,
+        place: read.place as u32,
+        parties: u32::from(read.figures.parties),
+        appointments: read.figures.appointments as u32,
     }
 }
 
-// Opening a viewer over the list and its slots, then one step of it from a position to the party's next appointment.
+// Opening a viewer over the list and its slots, then one step of it from a position.
+fn view<'a>(list: &'a [u16], slots: &'a [u16], party: u16, from: usize) -> Result<Shown, Refusal>
+    ensures { told result ≡ shown (viewer_answer list.now slots.now) (step_from party list.now slots.now from) }
+{
+    let mut viewer = Viewer::open(list, slots)?;
+    viewer.at = from;
+    let seen = viewer.step(party);
+    Ok(Shown {
+        seen,
+        next: viewer.at,
+    })
+}
+
+// One step of a viewer, from a position to the party's next appointment.
 #[unsafe(no_mangle)]
 pub extern "C" fn bimtsure_view<'a>(
     list: &'a [u16],
@@ -236,30 +251,17 @@ pub extern "C" fn bimtsure_view<'a>(
     ensures slot { result.slot ≡ if_open (viewer_answer list.now slots.now) (slot_of (view_step party list.now slots.now from)) }
     ensures next { result.next ≡ if_open (viewer_answer list.now slots.now) (view_next party list.now slots.now from) }
 {
-    let mut viewer = match Viewer::open(list, slots) {
-        Ok(viewer) => viewer,
-        Err(refusal) => {
-            return BimtsureView {
-                number: refusal.number(),
-                place: refusal.place() as u32,
-                found: 0,
-                position: 0,
-                slot: 0,
-                next: 0,
-            };
-        }
-    };
-    viewer.at = from;
-    let (found, position, slot) = match viewer.step(party) {
-        Some(seen) => (1, seen.position, seen.slot as u32),
+    let viewed = Numbers::of(view(list, slots, party, from), Shown::default());
+    let (found, position, slot) = match viewed.figures.seen {
+        Some(seen) => (1, seen.position, u32::from(seen.slot)),
         None => (0, 0, 0),
     };
     BimtsureView {
-        number: 0,
-        place: 0,
+        number: viewed.number,
+        place: viewed.place as u32,
         found,
         position,
         slot,
-        next: viewer.at,
+        next: viewed.figures.next,
     }
 }

@@ -5,6 +5,7 @@ use mathlib.Core.Path.{◌≡◌, refl, ap, ◌∙◌}
 use mathlib.Core.Bool.{Bool, true, false, not, cond}
 use mathlib.Core.List.{List, [], ◌∷◌}
 use native.Mathlib.Omega.{arith}
+use native.Mathlib.Decide.{ℕ_discrete}
 use borrow.Author.Tests.{eq-eqb, ne_eqb, eqb-true, eqb-false, ltb-true, ltb-false}
 use lib.Dec.{eqb, ltb}
 use lib.ListN.{length, get_or}
@@ -42,6 +43,9 @@ number_found (x ∷ xs) t h = go (eqb x t) refl (number_found xs t)
 abbrev NoneBefore : List ℕ → ℕ → ℕ → Type 0
 NoneBefore xs t k = (i : ℕ) → i < k → get_or xs i 0 ≡ t → ⊥
 
+pub none_more : (xs : List ℕ) (t k : ℕ) → NoneBefore xs t k → (get_or xs k 0 ≡ t → ⊥) → NoneBefore xs t (k + 1)
+none_more xs t k none n i l e = elim (ℕ_discrete i k) [ yes q ↦ n (rw q at e) | no q ↦ none i (omega arith) e ]
+
 none_later : (x t k : ℕ) (xs : List ℕ) → NoneBefore (x ∷ xs) t (suc k) → NoneBefore xs t k
 none_later x t k xs none i l = none (suc i) (omega arith)
 
@@ -51,6 +55,13 @@ first_number [] t k h e none = absurd (omega arith)
 first_number (x ∷ xs) t zero h e none = number_here x t xs e
 first_number (x ∷ xs) t (suc k) h e none =
     number_later x t xs (none 0 (omega arith)) ∙ ap suc (first_number xs t k (omega arith) e (none_later x t k xs none))
+
+-- and with none at all, the number is that of a time that isn't there
+pub no_number : (xs : List ℕ) (t : ℕ) → NoneBefore xs t (length xs) → number_in xs t ≡ length xs
+unfolding number_in
+no_number [] t none = refl
+no_number (x ∷ xs) t none =
+    number_later x t xs (none 0 (omega arith)) ∙ ap suc (no_number xs t (none_later x t (length xs) xs none))
 
 -- In a list that rises each entry's number is its place.
 pub rising_number : (xs : List ℕ) → Rising xs → (k : ℕ) → k < length xs → number_in xs (get_or xs k 0) ≡ k

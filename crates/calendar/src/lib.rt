@@ -15,7 +15,7 @@ const TIMES: [u16; 16] = [
 ];
 
 // A day, and a time of it in two packed bytes.
-#[derive(Clone, Copy, Debug, PartialEq, Eq)]
+#[derive(Clone, Copy, Debug, Default, PartialEq, Eq)]
 pub struct Moment {
     pub day: u16,
     pub hours: u8,
@@ -44,7 +44,7 @@ pub fn clock(slot: u16) -> Result<Moment, Refusal>
         return Err(Refusal::LateSlot);
     }
     let day = slot / 16;
-    let time = time_at(slot as usize);
+    let time = time_at(usize::from(slot));
     let [hours, minutes] = time.to_be_bytes();
     Ok(Moment {
         day,
@@ -63,5 +63,5 @@ pub fn slot(day: u16, hours: u8, minutes: u8) -> Result<usize, Refusal>
     let Some(k) = number_of(u16::from_be_bytes([hours, minutes])) else {
         return Err(Refusal::UnknownTime);
     };
-    Ok(16 * (day as usize) + k)
+    Ok(16 * usize::from(day) + k)
 }

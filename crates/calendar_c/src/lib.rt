@@ -6,6 +6,9 @@ ghost use Rattle.std.specs.Prelude.{◌≡◌};
 ghost use Rattle.appointments.specs.Answers.{number_of, place_of, figure_of};
 ghost use Rattle.calendar.specs.Calendar.{clock_answer, day_of, hours_of, minutes_of, slot_answer};
 
+use appointments::Numbers;
+use calendar::Moment;
+
 // Number, place, the day, and the time in packed decimal; the figures of a refusal are 0, here and below.
 #[repr(C)]
 #[derive(Drop)]
@@ -35,21 +38,13 @@ pub extern "C" fn bimtsure_clock(slot: u16) -> BimtsureClock
     ensures hours { result.hours ≡ hours_of (clock_answer slot) }
     ensures minutes { result.minutes ≡ minutes_of (clock_answer slot) }
 {
-    match calendar::clock(slot) {
-        Ok(moment) => BimtsureClock {
-            number: 0,
-            place: 0,
-            day: moment.day as u32,
-            hours: moment.hours as u32,
-            minutes: moment.minutes as u32,
-        },
-        Err(refusal) => BimtsureClock {
-            number: refusal.number(),
-            place: refusal.place() as u32,
-            day: 0,
-            hours: 0,
-            minutes: 0,
-        },
+    let clock = Numbers::of(calendar::clock(slot), Moment::default());
+    BimtsureClock {
+        number: clock.number,
+        place: clock.place as u32,
+        day: u32::from(clock.figures.day),
+        hours: u32::from(clock.figures.hours),
+        minutes: u32::from(clock.figures.minutes),
     }
 }
 
@@ -60,16 +55,10 @@ pub extern "C" fn bimtsure_slot(day: u16, hours: u8, minutes: u8) -> BimtsureSlo
     ensures place { result.place ≡ place_of (slot_answer day hours minutes) }
     ensures slot { result.slot ≡ figure_of (slot_answer day hours minutes) }
 {
-    match calendar::slot(day, hours, minutes) {
-        Ok(slot) => BimtsureSlot {
-            number: 0,
-            place: 0,
-            slot: slot as u32,
-        },
-        Err(refusal) => BimtsureSlot {
-            number: refusal.number(),
-            place: refusal.place() as u32,
-            slot: 0,
-        },
+    let slot = Numbers::of(calendar::slot(day, hours, minutes), 0);
+    BimtsureSlot {
+        number: slot.number,
+        place: slot.place as u32,
+        slot: slot.figures as u32,
     }
 }

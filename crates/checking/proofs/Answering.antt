@@ -1,13 +1,14 @@
 -- The checks as the code goes through them: an early answer is the definition's. Assumes nothing.
-use Prim.Native.Nat.{ℕ, zero, suc, ◌+◌, ◌*◌, ◌/◌, ◌%◌, ◌<◌, ◌≤◌, max}
+use Prim.Native.Nat.{ℕ, zero, suc, ◌*◌, ◌/◌, ◌%◌, ◌<◌, ◌≤◌, max}
 use mathlib.Core.Path.{◌≡◌, refl, sym, ◌∙◌}
 use mathlib.Core.Bool.{Bool, true, false}
-use mathlib.Core.List.{List}
+use mathlib.Core.List.{List, [], ◌∷◌}
 use native.Mathlib.Omega.{arith}
-use native.Mathlib.Numerals.{add-one}
 use native.Mathlib.Nat.{le_trans, mul-le-mul_left}
 use borrow.Author.Tests.{eq-eqb, ne_eqb, lt-ltb, le-ltb, ltb-false}
 use lib.Dec.{eqb, ltb}
+use Rattle.std.specs.Option.{unwrap_or}
+use Rattle.std.specs.List.{fold, reduce}
 use lib.ListN.{length}
 use Rattle.words.specs.Words.{word}
 use Rattle.words.proofs.Sums.{count_le}
@@ -21,13 +22,24 @@ use Rattle.appointments.proofs.Loads.{largest_load_le, appts_length}
 use Rattle.appointments.proofs.ChecksLaws.{GoodList, bar_passed, good_goes_on, sized_goes_on, passed_good, passed_sized}
 use Rattle.appointments.proofs.Causes.{never_refused, refused_cause, cause_number}
 use Rattle.appointments.proofs.Enough.{words_enough, enough, needed_words}
-use Rattle.appointments.proofs.AnswerLaws.{accepted_passed, refused_checked}
+use Rattle.appointments.proofs.AnswerLaws.{accepted_passed, refused_checked, accepted_refused, refused_number, refused_place}
 use Rattle.appointments.proofs.Flat.{appts_count, load_count}
 
--- one party further
-pub largest_more : (p : ℕ) (s : List ℕ) → largest_word (p + 1) s ≡ max (largest_word p s) (word s p)
+-- the largest of a list, from its first element on
+largest_cons : (n x : ℕ) (s : List ℕ) → largest_word (suc n) (x ∷ s) ≡ max x (largest_word n s)
 unfolding largest_word
-largest_more p s = rw (add-one p)
+largest_cons zero x s = omega arith
+largest_cons (suc n) x s = rw (largest_cons n x s) (omega arith)
+
+largest_from : (a : ℕ) (s : List ℕ) → fold max a s ≡ max a (largest_word (length s) s)
+unfolding largest_word
+largest_from a [] = omega arith
+largest_from a (x ∷ s) = largest_from (max a x) s ∙ rw (largest_cons (length s) x s) (omega arith)
+
+pub largest_of : (s : List ℕ) → unwrap_or (reduce max s) 0 ≡ largest_word (length s) s
+unfolding largest_word
+largest_of [] = refl
+largest_of (x ∷ s) = largest_from x s ∙ sym (largest_cons (length s) x s)
 
 -- counters that hold the loads have the largest load
 pub largest_is :
@@ -72,8 +84,23 @@ pub checked_number : (c : Check) (n i : ℕ) → answers.refused n i ≡ checked
 checked_number c n i h = refused_checked c tt n i (sym h)
 
 -- and with D
+pub answered_passed : (c : Check) (d e : ℕ) → answered c d ≡ accepted e → c ≡ passed
+answered_passed c d e h = (accepted_passed c d e h).0
+
+pub answered_figure : (c : Check) (d e : ℕ) → answered c d ≡ accepted e → e ≡ d
+answered_figure c d e h = sym (accepted_passed c d e h).1
+
 pub answered_number : (c : Check) (d n i : ℕ) → answers.refused n i ≡ answered c d → c ≡ refused n i
 answered_number c d n i h = refused_checked c d n i (sym h)
+
+-- what one check told: it refused by its test, with its number and place 0; or it passed
+pub bar_refused : (t : Bool) (k n i : ℕ) → answers.refused n i ≡ checked (bar t k passed) → (t ≡ true) × (n ≡ k) × (i ≡ 0)
+bar_refused true k n i e = (refl, refused_number n i k 0 e, refused_place n i k 0 e)
+bar_refused false k n i e = accepted_refused tt n i (sym e)
+
+pub bar_accepted : (t : Bool) (k : ℕ) → accepted tt ≡ checked (bar t k passed) → t ≡ false
+bar_accepted true k e = accepted_refused tt k 0 e
+bar_accepted false k e = refl
 
 five_bars :
     (t u w : Bool) (f g : First) (own next : Check) (n i : ℕ) → (own ≡ refused n i → next ≡ refused n i) →
@@ -145,15 +172,9 @@ module _ (P : ℕ) (list : List ℕ) (slots : ℕ) where
   refuses_listed n i h = refused_first P list (check_slots slots (length (appts list)) passed) n i h
 
   module _ (ok : checks_1_to_5 P list passed ≡ passed) where
-    listed_goes_on : checks_with_slots P list slots passed ≡ check_slots slots (length (appts list)) passed
+    pub listed_goes_on : checks_with_slots P list slots passed ≡ check_slots slots (length (appts list)) passed
     unfolding checks_with_slots
     listed_goes_on = good_goes_on P list (check_slots slots (length (appts list)) passed) (passed_good P list passed ok).0
-
-    pub refuses_short : slots < length list / 2 → checks_with_slots P list slots passed ≡ refused 7 0
-    refuses_short h = listed_goes_on ∙ rw (lt-ltb slots (length (appts list)) (omega (arith, appts_count list)))
-
-    pub passes_long : length list / 2 ≤ slots → checks_with_slots P list slots passed ≡ passed
-    passes_long h = listed_goes_on ∙ rw (le-ltb slots (length (appts list)) (omega (arith, appts_count list)))
 
 -- and what checks 1 to 6 refuse
 pub refused_sized :
@@ -251,9 +272,8 @@ pub record Sized (P : ℕ) (list : List ℕ) (D : ℕ) : Type 0 where
 pub sized :
     (P : ℕ) (list : List ℕ) (D : ℕ) → accepted D ≡ answered (checks_1_to_6 P list passed) (largest_load P (appts list)) → Sized P list D
 sized P list D e =
-    let told = accepted_passed (checks_1_to_6 P list passed) (largest_load P (appts list)) D (sym e) in
-    let ok = told.0 in
-    let figure = sym told.1 in
+    let ok = answered_passed (checks_1_to_6 P list passed) (largest_load P (appts list)) D (sym e) in
+    let figure = answered_figure (checks_1_to_6 P list passed) (largest_load P (appts list)) D (sym e) in
     let c = passed_sized P list passed ok in
     let product : D * P ≤ 8192 = rw figure c.1 in
     let small : D ≤ 8192 = omega (arith, d_small P list (good_goes_on P list passed c.0)) in

@@ -1,6 +1,6 @@
 -- A graph of degree 2 in words, sifted, and its parties told their half-edges. Assumes nothing.
 use Prim.Native.Nat.{ℕ, ◌+◌, ◌*◌, ◌%◌, ◌≤◌, ◌<◌}
-use mathlib.Core.Path.{◌≡◌, refl, ◌∙◌, subst}
+use mathlib.Core.Path.{◌≡◌, refl, ◌∙◌, ap, subst}
 use mathlib.Core.List.{List, [], map, reverse_aux}
 use native.Mathlib.Omega.{arith}
 use native.Mathlib.Nat.{mul-le-mul_left, mul-le-mul_right}
@@ -13,7 +13,7 @@ use Rattle.words.proofs.Sums.{all_map}
 use Rattle.circuits.specs.declared.Two.{Two}
 use Rattle.std.proofs.Props.{props}
 use Rattle.euler.specs.Room.{Splits}
-use Rattle.circuits.specs.Model.{Lies, ApartSoFar, two_start_m, two_sift_all_m, two_fill_m, copies_sum_m, two_laid}
+use Rattle.circuits.specs.Model.{Lies, ApartSoFar, two_start_m, two_sift_all_m, two_fill_m, copies_sum_m, split_two_m, two_laid}
 use Rattle.circuits.specs.Bounds.{TwoFills}
 use Rattle.euler.proofs.Places.{keep}
 use Rattle.circuits.proofs.CircuitFill as Fill
@@ -25,14 +25,22 @@ use Rattle.euler.proofs.Grounds.{across_at}
 pub same_lies : (u k table graph m N : ℕ) (x y : Lies u k table graph m N) → x ≡ y
 same_lies u k table graph m N = hlevel props
 
-pub lies :
-    {s : List ℕ} {u table graph n width : ℕ} → Splits s u table graph n width →
-    Lies u (n * (width + 1)) table graph (word s (graph + 1)) (2 * n)
-lies {n = n} {width = width} q =
+-- so a split does the same, however it is known
+pub any_lies :
+    {u k table graph m N : ℕ} {t : List ℕ} (s : List ℕ) (x y : Lies u k table graph m N) →
+    t ≡ split_two_m (two_laid u k table graph m N x) m N s → t ≡ split_two_m (two_laid u k table graph m N y) m N s
+any_lies {u = u} {k = k} {table = table} {graph = graph} {m = m} {N = N} s x y et =
+    et ∙ ap (λ (z : Lies u k table graph m N). split_two_m (two_laid u k table graph m N z) m N s) (same_lies u k table graph m N x y)
+
+-- a split has that room
+pub lies_at :
+    {s : List ℕ} {u table graph n width m : ℕ} → Splits s u table graph n width → m ≡ word s (graph + 1) →
+    Lies u (n * (width + 1)) table graph m (2 * n)
+lies_at {n = n} {width = width} q em =
     let one : 1 * (width + 1) ≤ n * (width + 1) = mul-le-mul_right (width + 1) q.some in
     record {
       graph = omega (arith, q.graph, q.room, q.short);
-      entries = omega (arith, q.graph, q.room, q.short);
+      entries = omega (arith, em, q.graph, q.room, q.short);
       parties = omega (arith, q.few);
       table = omega (arith, q.base, q.room, q.short);
       first = omega (arith, q.room, q.short);
@@ -40,6 +48,11 @@ lies {n = n} {width = width} q =
       marks = omega (arith, q.room, q.short);
       notes = omega (arith, q.room, q.short);
     }
+
+pub lies :
+    {s : List ℕ} {u table graph n width : ℕ} → Splits s u table graph n width →
+    Lies u (n * (width + 1)) table graph (word s (graph + 1)) (2 * n)
+lies q = lies_at q refl
 
 module _ {s : List ℕ} {u table graph n width : ℕ} (q : Splits s u table graph n width) (sum : copies_sum_m graph (word s (graph + 1)) s ≡ 2 * n) where
   abbrev N : ℕ

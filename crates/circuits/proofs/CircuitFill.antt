@@ -25,8 +25,8 @@ use Rattle.circuits.proofs.ModelLaws.{push_one_length}
 
 -- one entry sifted, by what is read
 sift_is :
-    (l : Two) (t : ApartSoFar) (j f h e c p q : ℕ) → l.first ≡ f → l.second ≡ h → word t.words (l.g + 2 + 2 * j) ≡ e →
-    word t.words (l.g + 3 + 2 * j) ≡ c → t.sifted.even ≡ p → t.sifted.odd ≡ q →
+    (l : Two) (t : ApartSoFar) (j f h e c p q : ℕ) → l.first ≡ f → l.second ≡ h → word t.words (l.graph.g + 2 + 2 * j) ≡ e →
+    word t.words (l.graph.g + 3 + 2 * j) ≡ c → t.sifted.even ≡ p → t.sifted.odd ≡ q →
     two_sift_m l t j
     ≡ record {
       words = put_word (push_one_m h (push_one_m f t.words p e) p e) (l.notes + q) e;
@@ -45,9 +45,9 @@ pub record Ground (l : Two) (N m k u : ℕ) (s₀ : List ℕ) : Type 0 where
   pub small : length s₀ ≤ 4294967296
   pub few : N ≤ k
   pub entries : m < k
-  pub graph : l.g + 3 + 2 * m ≤ u
-  pub table : (i : ℕ) → i < m → l.ends + 2 * word s₀ (l.g + 2 + 2 * i) + 1 < u
-  pub ends : (i side : ℕ) → i < m → side < 2 → word s₀ (l.ends + (2 * word s₀ (l.g + 2 + 2 * i) + side)) < N
+  pub graph : l.graph.g + 3 + 2 * m ≤ u
+  pub table : (i : ℕ) → i < m → l.graph.ends + 2 * word s₀ (l.graph.g + 2 + 2 * i) + 1 < u
+  pub ends : (i side : ℕ) → i < m → side < 2 → word s₀ (l.graph.ends + (2 * word s₀ (l.graph.g + 2 + 2 * i) + side)) < N
 
 -- ── the pairs of some entries ──
 
@@ -88,19 +88,19 @@ cut_sum (y ∷ ys) = (cut_sum ys + y) % 4294967296
 module _ {l : Two} {N m k u : ℕ} {s₀ : List ℕ} (g : Ground l N m k u s₀) where
   -- an entry's pair number, its copies, and the party at a half-edge
   abbrev pub num : ℕ → ℕ
-  num i = word s₀ (l.g + 2 + 2 * i)
+  num i = word s₀ (l.graph.g + 2 + 2 * i)
 
   abbrev pub C : ℕ → ℕ
-  C i = word s₀ (l.g + 3 + 2 * i)
+  C i = word s₀ (l.graph.g + 3 + 2 * i)
 
   abbrev pub E : ℕ → ℕ
-  E y = word s₀ (l.ends + y)
+  E y = word s₀ (l.graph.ends + y)
 
   abbrev evens : ℕ → List ℕ
-  evens j = evens_of s₀ l.g j
+  evens j = evens_of s₀ l.graph.g j
 
   abbrev odds : ℕ → List ℕ
-  odds j = odds_of s₀ l.g j
+  odds j = odds_of s₀ l.graph.g j
 
   -- a pair number of the graph
   pub record Num (e : ℕ) : Type 0 where
@@ -112,7 +112,7 @@ module _ {l : Two} {N m k u : ℕ} {s₀ : List ℕ} (g : Ground l N m k u s₀)
   num_small j b = omega (arith, g.table j b, g.room, g.small)
 
   -- each of them is one
-  pub those_nums : (test : ℕ → Bool) (j : ℕ) → j ≤ m → All Num (those_of test s₀ l.g j)
+  pub those_nums : (test : ℕ → Bool) (j : ℕ) → j ≤ m → All Num (those_of test s₀ l.graph.g j)
   those_nums test j b =
       let q : ℕ → Bool = λ i. test (C i) in
       go (keep q (descend j)) (keep_all (λ i. i < j) q (descend j) (descend_below j))
@@ -140,12 +140,12 @@ module _ {l : Two} {N m k u : ℕ} {s₀ : List ℕ} (g : Ground l N m k u s₀)
       let p : ℕ = length (evens j) in
       let q : ℕ = length (odds j) in
       let e : ℕ = num j in
-      let en : word s (l.g + 2 + 2 * j) ≡ e = h.keeps.same (l.g + 2 + 2 * j) (omega (arith, g.graph)) in
-      let ec : word s (l.g + 3 + 2 * j) ≡ C j = h.keeps.same (l.g + 3 + 2 * j) (omega (arith, g.graph)) in
+      let en : word s (l.graph.g + 2 + 2 * j) ≡ e = h.keeps.same (l.graph.g + 2 + 2 * j) (omega (arith, g.graph)) in
+      let ec : word s (l.graph.g + 3 + 2 * j) ≡ C j = h.keeps.same (l.graph.g + 3 + 2 * j) (omega (arith, g.graph)) in
       let ep : t.sifted.even ≡ p = h.even in
       let eq : t.sifted.odd ≡ q = h.odd in
-      let pb : p ≤ j = those_length (λ c. leb 2 c) s₀ l.g j in
-      let qb : q ≤ j = those_length (λ c. eqb (c % 2) 1) s₀ l.g j in
+      let pb : p ≤ j = those_length (λ c. leb 2 c) s₀ l.graph.g j in
+      let qb : q ≤ j = those_length (λ c. eqb (c % 2) 1) s₀ l.graph.g j in
       let f : List ℕ = push_one_m u s p e in
       let f₂ : List ℕ = push_one_m (u + 2 * k) f p e in
       let w : List ℕ = put_word f₂ (l.notes + q) e in
@@ -289,7 +289,7 @@ module _ {l : Two} {N m k u : ℕ} {s₀ : List ℕ} (g : Ground l N m k u s₀)
 
   -- a half-edge that can be noted
   pub record Fine (y : ℕ) : Type 0 where
-    pub table : l.ends + y < u
+    pub table : l.graph.ends + y < u
     pub party : E y < N
 
   -- both half-edges of the graph's pairs can
@@ -299,7 +299,7 @@ module _ {l : Two} {N m k u : ℕ} {s₀ : List ℕ} (g : Ground l N m k u s₀)
       record { table = omega (arith, g.table i.place i.below); party = rw z (g.ends i.place side i.below b) }
 
   note_is :
-      (side : ℕ) (s : List ℕ) (j y v sum : ℕ) → half_edge_m l side s j ≡ y → word s (l.ends + y) ≡ v →
+      (side : ℕ) (s : List ℕ) (j y v sum : ℕ) → half_edge_m l side s j ≡ y → word s (l.graph.ends + y) ≡ v →
       word s (l.b + 2 * v + 1) ≡ sum →
       two_note_m l side s j ≡ put_word (put_word s (l.b + 2 * v) (y + 1)) (l.b + 2 * v + 1) (sum + y)
   unfolding two_note_m
@@ -313,8 +313,8 @@ module _ {l : Two} {N m k u : ℕ} {s₀ : List ℕ} (g : Ground l N m k u s₀)
       let v : ℕ = E y in
       let sum : ℕ = sum_of v done in
       let ey : half_edge_m l side s j ≡ y = ap (λ (x : ℕ). 2 * x + side) (h.high (l.notes + j) (omega arith) ∙ ne) in
-      let ev : word s (l.ends + y) ≡ v =
-      h.low (l.ends + y) (omega (arith, fine.table, g.parties)) ∙ kept.same (l.ends + y) fine.table in
+      let ev : word s (l.graph.ends + y) ≡ v =
+      h.low (l.graph.ends + y) (omega (arith, fine.table, g.parties)) ∙ kept.same (l.graph.ends + y) fine.table in
       let es : word s (l.b + 2 * v + 1) ≡ sum = h.sums v fine.party in
       let t : List ℕ = put_word s (l.b + 2 * v) (y + 1) in
       let w : List ℕ = put_word t (l.b + 2 * v + 1) (sum + y) in

@@ -67,16 +67,16 @@ module _ {l : Two} {N m k u : ℕ} {s₀ : List ℕ} (g : Ground l N m k u s₀)
   flag e = pick (leb pairs e) 1 0
 
   abbrev E : ℕ → ℕ
-  E y = word s₀ (l.ends + y)
+  E y = word s₀ (l.graph.ends + y)
 
   abbrev num : ℕ → ℕ
-  num i = word s₀ (l.g + 2 + 2 * i)
+  num i = word s₀ (l.graph.g + 2 + 2 * i)
 
   abbrev C : ℕ → ℕ
-  C i = word s₀ (l.g + 3 + 2 * i)
+  C i = word s₀ (l.graph.g + 3 + 2 * i)
 
   abbrev es : List ℕ
-  es = Fill.odds_of s₀ l.g m
+  es = Fill.odds_of s₀ l.graph.g m
 
   -- the pair number e of the rest
   abbrev pub pn : ℕ → Pair
@@ -84,21 +84,21 @@ module _ {l : Two} {N m k u : ℕ} {s₀ : List ℕ} (g : Ground l N m k u s₀)
 
   -- the first j entries
   abbrev pub G : ℕ → Graph
-  G j = entries s₀ l.ends pairs l.g 0 j
+  G j = entries s₀ l.graph.ends pairs l.graph.g 0 j
 
   abbrev at : ℕ → Pair
-  at j = entry s₀ l.ends pairs l.g j
+  at j = entry s₀ l.graph.ends pairs l.graph.g j
 
   one_copy : (j : ℕ) → with_copies 1 (at j) ≡ pn (num j)
   one_copy j =
-      let e : l.ends + 2 * num j + 1 ≡ l.ends + (2 * num j + 1) = omega arith in
-      ap (λ (x : ℕ). pair (word s₀ (l.ends + 2 * num j)) (word s₀ x) 1 (flag (num j))) e
+      let e : l.graph.ends + 2 * num j + 1 ≡ l.graph.ends + (2 * num j + 1) = omega arith in
+      ap (λ (x : ℕ). pair (word s₀ (l.graph.ends + 2 * num j)) (word s₀ x) 1 (flag (num j))) e
 
   -- ── the rest ──
 
   -- the rest, newest first, is the pairs of odd copies
-  pub rest_are : (j : ℕ) → reverse (rest (G j)) ≡ map pn (Fill.odds_of s₀ l.g j)
-  rest_are j = rest_places s₀ l.ends l.g pairs j ∙ go (odds C (descend j))
+  pub rest_are : (j : ℕ) → reverse (rest (G j)) ≡ map pn (Fill.odds_of s₀ l.graph.g j)
+  rest_are j = rest_places s₀ l.graph.ends l.graph.g pairs j ∙ go (odds C (descend j))
     where
       go : (xs : List ℕ) → map (λ i. with_copies 1 (at i)) xs ≡ map pn (map num xs)
       go [] = refl
@@ -107,20 +107,20 @@ module _ {l : Two} {N m k u : ℕ} {s₀ : List ℕ} (g : Ground l N m k u s₀)
   -- ── both halves before the rest is dealt ──
 
   abbrev evens : ℕ → List ℕ
-  evens j = Fill.evens_of s₀ l.g j
+  evens j = Fill.evens_of s₀ l.graph.g j
 
   module _ (copies : (i : ℕ) → i < m → C i ≤ 2) where
     -- even and odd ones are no more than all, by any weight that doesn't ask for copies
     pub parts :
         (f : Pair → ℕ) → ((p : Pair) → f (with_copies 1 p) ≡ f p) → (j : ℕ) → j ≤ m →
-        total (λ e. f (pn e)) (evens j) + total (λ e. f (pn e)) (Fill.odds_of s₀ l.g j) ≤ total f (G j)
+        total (λ e. f (pn e)) (evens j) + total (λ e. f (pn e)) (Fill.odds_of s₀ l.graph.g j) ≤ total f (G j)
     unfolding keep descend total
     parts f same zero h = omega arith
     parts f same (suc j) h =
-        let before : total (λ e. f (pn e)) (evens j) + total (λ e. f (pn e)) (Fill.odds_of s₀ l.g j) ≤ total f (G j) =
+        let before : total (λ e. f (pn e)) (evens j) + total (λ e. f (pn e)) (Fill.odds_of s₀ l.graph.g j) ≤ total f (G j) =
         parts f same j (omega arith) in
         let more : total f (G (suc j)) ≡ total f (G j) + f (pn (num j)) =
-        ap (total f) (entries_more s₀ l.ends l.g pairs j)
+        ap (total f) (entries_more s₀ l.graph.ends l.graph.g pairs j)
         ∙ total_append f (G j) (at j ∷ [])
         ∙ omega (arith, same (at j), ap f (one_copy j)) in
         elim (dec_lt (C j) 2) [
@@ -132,7 +132,7 @@ module _ {l : Two} {N m k u : ℕ} {s₀ : List ℕ} (g : Ground l N m k u s₀)
       where
         odd :
             (q : Bool) →
-            total (λ e. f (pn e)) (evens j) + total (λ e. f (pn e)) (Fill.odds_of s₀ l.g j) ≤ total f (G j) →
+            total (λ e. f (pn e)) (evens j) + total (λ e. f (pn e)) (Fill.odds_of s₀ l.graph.g j) ≤ total f (G j) →
             total f (G (suc j)) ≡ total f (G j) + f (pn (num j)) →
             total (λ e. f (pn e)) (evens j)
             + total (λ e. f (pn e)) (map num (pick q (j ∷ odds C (descend j)) (odds C (descend j))))
@@ -157,7 +157,7 @@ module _ {l : Two} {N m k u : ℕ} {s₀ : List ℕ} (g : Ground l N m k u s₀)
     -- both halves begin with the pairs of 2 copies
     pub halves_are : ApartAt at m → add_halves [] (G m) ≡ map pn (reverse (evens m))
     halves_are apart =
-        ap (add_halves []) (sym (upto_entries s₀ l.ends l.g pairs m))
+        ap (add_halves []) (sym (upto_entries s₀ l.graph.ends l.graph.g pairs m))
         ∙ Halves.halves_are at m apart m (omega arith)
         ∙ bigs_are m (omega arith)
 
@@ -166,16 +166,16 @@ module _ {l : Two} {N m k u : ℕ} {s₀ : List ℕ} (g : Ground l N m k u s₀)
   -- the words of a half that holds ds read as the graph of these pairs
   pub held_graph :
       (t : List ℕ) (h : ℕ) (ds : List ℕ) → Keeps u s₀ t → All (Fill.Num g) ds → Held t h ds →
-      entries t l.ends pairs h 0 (length ds) ≡ map pn (reverse ds)
+      entries t l.graph.ends pairs h 0 (length ds) ≡ map pn (reverse ds)
   unfolding entries
   held_graph t h [] kept nums d = refl
   held_graph t h (e ∷ ds) kept nums d =
       let j : ℕ = length ds in
       let n : Fill.Num g e = nums.0 in
-      let table : l.ends + 2 * e + 1 < u = rw n.is_there (g.table n.place n.below) in
-      let one : entry t l.ends pairs h j ≡ pn e =
+      let table : l.graph.ends + 2 * e + 1 < u = rw n.is_there (g.table n.place n.below) in
+      let one : entry t l.graph.ends pairs h j ≡ pn e =
       rw (d.0, d.1)
-      (ap (λ (x : ℕ). pair x (word t (l.ends + 2 * e + 1)) 1 (flag e)) (kept.same (l.ends + 2 * e) (omega arith))
-      ∙ ap (λ (x : ℕ). pair (E (2 * e)) x 1 (flag e)) (kept.same (l.ends + 2 * e + 1) table ∙ ap (word s₀) (omega arith))) in
-      entries_more t l.ends h pairs j
+      (ap (λ (x : ℕ). pair x (word t (l.graph.ends + 2 * e + 1)) 1 (flag e)) (kept.same (l.graph.ends + 2 * e) (omega arith))
+      ∙ ap (λ (x : ℕ). pair (E (2 * e)) x 1 (flag e)) (kept.same (l.graph.ends + 2 * e + 1) table ∙ ap (word s₀) (omega arith))) in
+      entries_more t l.graph.ends h pairs j
       ∙ rw (one, held_graph t h ds kept nums.1 d.2) (sym (ap (map pn) (reverse-cons e ds) ∙ map-append pn (reverse ds) (e ∷ [])))

@@ -402,15 +402,15 @@ split_two_asks {s = s} {u = u} {table = table} {graph = graph} {n = n} {width = 
     f
 
 pub split_two_gives :
-    {s t : List ℕ} {u table graph n width m : ℕ} {r : Option ℕ} → Splits s u table graph n width →
-    (f : Lies u (n * (width + 1)) table graph m (2 * n)) → m ≡ word s (graph + 1) → r ≡ few_sum_m graph m (2 * n) s → r ≡ Some (2 * n) →
-    t ≡ split_two_m (two_laid u (n * (width + 1)) table graph m (2 * n) f) m (2 * n) s →
+    {s t : List ℕ} {u table graph n width m : ℕ} {r : Option ℕ} (q : Splits s u table graph n width) (em : m ≡ word s (graph + 1)) →
+    r ≡ few_sum_m graph m (2 * n) s → r ≡ Some (2 * n) →
+    t ≡ split_two_m (two_laid u (n * (width + 1)) table graph m (2 * n) (Begun.lies_at q em)) m (2 * n) s →
     HalvesStored s t u (u + 4 * (n * (width + 1))) table graph n width
-split_two_gives {s = s} {t = t} {u = u} {table = table} {graph = graph} {n = n} {width = width} {m = m} q f em er e et =
+split_two_gives {s = s} {t = t} {u = u} {table = table} {graph = graph} {n = n} {width = width} {m = m} q em er e et =
     let sum : copies_sum_m graph m s ≡ 2 * n = few_sum_all graph m (2 * n) s (sym er ∙ e) in
     let k = n * (width + 1) in
     subst
     (λ (x : ℕ). (f : Lies u k table graph x (2 * n)) → t ≡ split_two_m (two_laid u k table graph x (2 * n) f) x (2 * n) s → HalvesStored s t u (u + 4 * k) table graph n width)
     (sym em)
     (λ f et. rw (et, Begun.same_lies u k table graph (word s (graph + 1)) (2 * n) f (Begun.lies q)) (split_two_stored q (rw em at sum)))
-    f et
+    (Begun.lies_at q em) et

@@ -39,10 +39,10 @@ numbers hs = map (λ y. y / 2) hs
 module _ {l : Two} {N m k u : ℕ} {s₀ : List ℕ} (g : Ground l N m k u s₀) (flag : ℕ → ℕ) (r : List Pair) where
   -- the party at a half-edge, the pairs of odd copies, and a party's two half-edges
   abbrev pub E : ℕ → ℕ
-  E y = word s₀ (l.ends + y)
+  E y = word s₀ (l.graph.ends + y)
 
   abbrev pub es : List ℕ
-  es = Fill.odds_of s₀ l.g m
+  es = Fill.odds_of s₀ l.graph.g m
 
   abbrev pub early : ℕ → ℕ
   early v = Ends.early E flag es v
@@ -136,13 +136,13 @@ module _ {l : Two} {N m k u : ℕ} {s₀ : List ℕ} (g : Ground l N m k u s₀)
       half : Half (next y)
 
     step_words :
-        (h : ℕ) (s : List ℕ) (at y v : ℕ) → word (push_one_m h s at (y / 2)) (l.ends + other_m y) ≡ v →
+        (h : ℕ) (s : List ℕ) (at y v : ℕ) → word (push_one_m h s at (y / 2)) (l.graph.ends + other_m y) ≡ v →
         (two_step_m l h s at y).words ≡ put_word (push_one_m h s at (y / 2)) (l.b + 2 * v) 0
     unfolding two_step_m
     step_words h s at y v e = rw e
 
     step_number :
-        (h : ℕ) (s : List ℕ) (at y v sum : ℕ) → word (push_one_m h s at (y / 2)) (l.ends + other_m y) ≡ v →
+        (h : ℕ) (s : List ℕ) (at y v sum : ℕ) → word (push_one_m h s at (y / 2)) (l.graph.ends + other_m y) ≡ v →
         word (push_one_m h s at (y / 2)) (l.b + 2 * v + 1) ≡ sum →
         (two_step_m l h s at y).number ≡ (sum + 4294967296 - other_m y) % 4294967296
     unfolding two_step_m
@@ -187,9 +187,9 @@ module _ {l : Two} {N m k u : ℕ} {s₀ : List ℕ} (g : Ground l N m k u s₀)
       stepped =
           let v : ℕ = leads_to y in
           let lt : length t ≡ length s = push_one_length h s at (y / 2) in
-          let ev : word t (l.ends + other_m y) ≡ v =
-          push_one_away h s at (y / 2) (l.ends + other_m y) (λ x. omega (arith, led.table)) (λ x. omega (arith, led.table))
-          ∙ q.keeps.same (l.ends + other_m y) led.table in
+          let ev : word t (l.graph.ends + other_m y) ≡ v =
+          push_one_away h s at (y / 2) (l.graph.ends + other_m y) (λ x. omega (arith, led.table)) (λ x. omega (arith, led.table))
+          ∙ q.keeps.same (l.graph.ends + other_m y) led.table in
           let sum : word t (l.b + 2 * v + 1) ≡ (early v + late v) % 4294967296 =
           high_word (l.b + 2 * v + 1) (omega arith) ∙ q.sums v led.party (ended.some (other_m y) (ended.mate_half y i)) in
           record {

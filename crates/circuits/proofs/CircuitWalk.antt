@@ -34,10 +34,10 @@ use Rattle.circuits.proofs.ModelLaws.{two_circuit_back, two_circuit_on, two_from
 
 module _ {l : Two} {N m k u : ℕ} {s₀ : List ℕ} (g : Ground l N m k u s₀) (flag : ℕ → ℕ) (r : List Pair) (two : Ends.Twos (Steps.E g flag r) flag (Steps.es g flag r) r) where
   abbrev E : ℕ → ℕ
-  E y = word s₀ (l.ends + y)
+  E y = word s₀ (l.graph.ends + y)
 
   abbrev es : List ℕ
-  es = Fill.odds_of s₀ l.g m
+  es = Fill.odds_of s₀ l.graph.g m
 
   abbrev pr : ℕ → Pair
   pr y = Ends.pr E flag es y
@@ -115,7 +115,7 @@ module _ {l : Two} {N m k u : ℕ} {s₀ : List ℕ} (g : Ground l N m k u s₀)
     early v = Ends.early E flag es v
 
     abbrev ps : List ℕ
-    ps = Fill.evens_of s₀ l.g m
+    ps = Fill.evens_of s₀ l.graph.g m
 
     abbrev TourOrdered : ℕ → Tour → Type 0
     TourOrdered v t =
@@ -156,7 +156,7 @@ module _ {l : Two} {N m k u : ℕ} {s₀ : List ℕ} (g : Ground l N m k u s₀)
           total_const 1 ps,
           total_const 1 es,
           total_const 1 (Graphs.G g 0 m),
-          entries_length s₀ l.ends 0 l.g 0 m,
+          entries_length s₀ l.graph.ends 0 l.graph.g 0 m,
         )
 
     few_along : (t : Tour) (v : ℕ) → TourOrdered v t → length (along t.cycles) ≤ length es

@@ -1,5 +1,6 @@
 -- the model's cases, for the code's proofs
 pub mod ModelLaws
+pub mod Mates
 -- the definition's walk at degree 2, circuit by circuit
 pub mod Leading
 pub mod CircuitTrails

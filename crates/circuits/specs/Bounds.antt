@@ -8,14 +8,14 @@ use Rattle.circuits.specs.Model.{Told, push_one_m, half_edge_m, two_note_m, two_
 
 -- entry i can be sifted
 pub record TwoSifts (l : Two) (s : List ℕ) (n : Sifted) (i : ℕ) : Type 0 where
-  pub graph : l.g + 3 + 2 * i < length s
+  pub graph : l.graph.g + 3 + 2 * i < length s
   pub first : l.first + 3 + 2 * n.even < length s
   pub second : l.second + 3 + 2 * n.even < length s
   pub note : l.notes + n.odd < length s
 
 -- all of m entries can, at places of which none is above the entry's own number
 pub record TwoSiftsAll (l : Two) (m : ℕ) (s : List ℕ) : Type 0 where
-  pub graph : l.g + 3 + 2 * m ≤ length s
+  pub graph : l.graph.g + 3 + 2 * m ≤ length s
   pub first : l.first + 3 + 2 * m ≤ length s
   pub second : l.second + 3 + 2 * m ≤ length s
   pub notes : l.notes + m ≤ length s
@@ -23,8 +23,8 @@ pub record TwoSiftsAll (l : Two) (m : ℕ) (s : List ℕ) : Type 0 where
 -- the half-edge of the pair noted at the place j can be noted at its party
 pub record TwoNotes (l : Two) (side : ℕ) (s : List ℕ) (j : ℕ) : Type 0 where
   pub note : l.notes + j < length s
-  pub end : l.ends + half_edge_m l side s j < length s
-  pub party : l.b + 2 * word s (l.ends + half_edge_m l side s j) + 1 < length s
+  pub end : l.graph.ends + half_edge_m l side s j < length s
+  pub party : l.b + 2 * word s (l.graph.ends + half_edge_m l side s j) + 1 < length s
 
 -- all below the place j can
 abbrev pub TwoFills : Two → ℕ → ℕ → List ℕ → Type 0
@@ -34,8 +34,8 @@ TwoFills l side (suc j) s = TwoNotes l side s j × TwoFills l side j (two_note_m
 -- a step can be made
 pub record TwoSteps (l : Two) (h : ℕ) (s : List ℕ) (at y : ℕ) : Type 0 where
   pub place : h + 3 + 2 * at < length s
-  pub end : l.ends + other_m y < length s
-  pub party : l.b + 2 * word (push_one_m h s at (y / 2)) (l.ends + other_m y) + 1 < length s
+  pub end : l.graph.ends + other_m y < length s
+  pub party : l.b + 2 * word (push_one_m h s at (y / 2)) (l.graph.ends + other_m y) + 1 < length s
 
 -- n times two steps, or fewer
 abbrev pub TwoCircuits : Two → ℕ → ℕ → List ℕ → ℕ → ℕ → Type 0

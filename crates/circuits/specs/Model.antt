@@ -33,8 +33,8 @@ unfoldable pub two_sift_m : Two → ApartSoFar → ℕ → ApartSoFar
 two_sift_m l t i =
     let s = t.words in
     let n = t.sifted in
-    let e = word s (l.g + 2 + 2 * i) in
-    let c = word s (l.g + 3 + 2 * i) in
+    let e = word s (l.graph.g + 2 + 2 * i) in
+    let c = word s (l.graph.g + 3 + 2 * i) in
     record {
       words = put_word (push_one_m l.second (push_one_m l.first s n.even e) n.even e) (l.notes + n.odd) e;
       sifted = record { even = n.even + many_m c; odd = n.odd + c % 2 };
@@ -55,7 +55,7 @@ half_edge_m l side s j = 2 * word s (l.notes + j) + side
 unfoldable pub two_note_m : Two → ℕ → List ℕ → ℕ → List ℕ
 two_note_m l side s j =
     let y = half_edge_m l side s j in
-    let z = l.b + 2 * word s (l.ends + y) in
+    let z = l.b + 2 * word s (l.graph.ends + y) in
     put_word (put_word s z (y + 1)) (z + 1) (word s (z + 1) + y)
 
 -- those noted below the place j, from the last down
@@ -73,7 +73,7 @@ other_m y = y + 1 - 2 * (y % 2)
 unfoldable pub two_step_m : Two → ℕ → List ℕ → ℕ → ℕ → Told
 two_step_m l h s at y =
     let t = push_one_m h s at (y / 2) in
-    let z = l.b + 2 * word t (l.ends + other_m y) in
+    let z = l.b + 2 * word t (l.graph.ends + other_m y) in
     record {
       words = put_word t z 0;
       number = (word t (z + 1) + word_limit - other_m y) % word_limit;
@@ -138,18 +138,21 @@ pub record Lies (u k ends g m N : ℕ) : Type 0 where
 abbrev pub two_laid : (u k ends g m N : ℕ) → Lies u k ends g m N → Two
 two_laid u k ends g m N lies =
     record {
-      g = g;
-      m = m;
-      parties = N;
-      ends = ends;
+      graph =
+          record {
+            g = g;
+            m = m;
+            parties = N;
+            ends = ends;
+            graph_small = lies.graph;
+            entries_few = lies.entries;
+            parties_few = lies.parties;
+            ends_small = lies.table;
+          };
       first = u;
       second = u + 2 * k;
       b = u + 4 * k;
       notes = u + 8 * k;
-      graph_small = lies.graph;
-      entries_few = lies.entries;
-      parties_few = lies.parties;
-      ends_small = lies.table;
       first_small = lies.first;
       second_small = lies.second;
       marks_small = lies.marks;

@@ -8,7 +8,7 @@ use words::word_at;
 // The copies of all m entries of the graph at g, or none if there are more entries than parties.
 #[tactic(auto, unfolding(crate::specs::Model::copies_sum_m))]
 pub fn copies_sum(s: &[u32], g: usize, m: usize, parties: usize) -> Option<usize>
-    requires { (g < word_limit) × (parties < word_limit) × (g + 3 + 2 * m ≤ length s.now) }
+    requires { (parties < word_limit) × (g + 3 + 2 * m ≤ length s.now) }
     ensures { result ≡ few_sum_m g m parties s.now }
 {
     if parties < m {

@@ -9,34 +9,28 @@
 
 ghost use Rattle.std.specs.Prelude.{◌≡◌, ◌+◌, ◌*◌, ◌<◌, ◌≤◌, length};
 ghost use Rattle.words.specs.Words.{word_limit};
+ghost use Rattle.words.specs.Sides.{offset_of};
 
-use euler::{head, many, push};
+use euler::{StoredGraph, head, many, push};
 use multigraph::end_of;
-use words::{EdgeIndex, NodeIndex, set_word, word_at};
+use words::{EdgeIndex, NodeIndex, Side, set_word, word_at};
 
 mod copies; // copies.rt: the copies of a graph, by which its degree is told
 
 pub use copies::copies_sum;
 
-// Where the words of such a split lie: the graph, of m entries on so many parties, the table of ends, both halves, two words for
-// each party, and the odd pairs' numbers. Each is small enough that sums of them are numbers.
+// Where the words of such a split lie: the graph, both halves, two words for each party, and the odd pairs' numbers. Each is
+// small enough that sums of them are numbers.
 // The half-edge 2·e stands at the first end of the pair number e, and 2·e + 1 at its second end, which stand in the table at
 // ends + 2·e and ends + 2·e + 1. A party's words, at b + 2·v: its last half-edge plus 1, or 0 where it has none or was visited;
 // and the sum of its half-edges, cut to 32 bits, so that of its two the one gives the other.
 #[derive(Clone, Copy)]
 pub struct Two {
-    pub g: usize,
-    pub m: usize,
-    pub parties: usize,
-    pub ends: usize,
+    pub graph: StoredGraph,
     pub first: usize,
     pub second: usize,
     pub b: usize,
     pub notes: usize,
-    pub ghost graph_small: { g < word_limit },
-    pub ghost entries_few: { m < word_limit },
-    pub ghost parties_few: { parties < word_limit },
-    pub ghost ends_small: { ends < word_limit },
     pub ghost first_small: { first < word_limit },
     pub ghost second_small: { second < word_limit },
     pub ghost marks_small: { b < word_limit },
@@ -59,10 +53,10 @@ impl Two {
     // No party has a half-edge yet.
     #[tactic(auto, unfolding(crate::specs::Model::two_start_m))]
     fn two_start(self, s: &mut [u32])
-        requires { self.b + 2 * self.parties ≤ length s.old }
-        ensures { s.new ≡ two_start_m self self.parties s.old }
+        requires { self.b + 2 * self.graph.parties ≤ length s.old }
+        ensures { s.new ≡ two_start_m self self.graph.parties s.old }
     {
-        for v in 0..self.parties {
+        for v in 0..self.graph.parties {
             set_word(s, self.b + 2 * v, 0);
             set_word(s, self.b + 2 * v + 1, 0);
         }
@@ -72,12 +66,11 @@ impl Two {
     // written over by the next.
     #[tactic(auto, unfolding(crate::specs::Model::two_sift_m))]
     fn two_sift(self, s: &mut [u32], i: usize, n: Sifted) -> Sifted
-        requires i_bound { (i < word_limit) × (n.even ≤ i) × (n.odd ≤ i) }
-        requires sifts { TwoSifts self s.old n i }
+        requires { TwoSifts self s.old n i }
         ensures { record { words = s.new; sifted = result } ≡ two_sift_m self (record { words = s.old; sifted = n }) i }
     {
-        let e = word_at(s, self.g + 2 + 2 * i);
-        let c = word_at(s, self.g + 3 + 2 * i);
+        let e = self.graph.number(s, i);
+        let c = self.graph.copies(s, i);
         push(s, self.first, n.even, e, 1);
         push(s, self.second, n.even, e, 1);
         set_word(s, self.notes + n.odd, e);
@@ -91,11 +84,11 @@ impl Two {
     // All m entries, in order.
     #[tactic(auto, unfolding(crate::specs::Model::two_sift_all_m, crate::specs::Model::two_sift_m))]
     fn two_sift_all(self, s: &mut [u32]) -> Sifted
-        requires { TwoSiftsAll self self.m s.old }
-        ensures { (record { words = s.new; sifted = result } ≡ two_sift_all_m self self.m s.old) × (result.even ≤ self.m) × (result.odd ≤ self.m) }
+        requires { TwoSiftsAll self self.graph.m s.old }
+        ensures { (record { words = s.new; sifted = result } ≡ two_sift_all_m self self.graph.m s.old) × (result.even ≤ self.graph.m) × (result.odd ≤ self.graph.m) }
     {
         let mut n = Sifted { even: 0, odd: 0 };
-        for i in 0..self.m {
+        for i in 0..self.graph.m {
             n = self.two_sift(s, i, n);
         }
         n
@@ -103,16 +96,14 @@ impl Two {
 
     // The half-edge, on one side, of the pair noted at the place j becomes its party's last.
     #[tactic(auto, unfolding(crate::specs::Model::two_note_m))]
-    fn two_note(self, s: &mut [u32], side: usize, j: usize)
-        requires side_bound { side < 2 }
-        requires j_bound { j < word_limit }
-        requires notes { TwoNotes self side s.old j }
-        ensures { s.new ≡ two_note_m self side s.old j }
+    fn two_note(self, s: &mut [u32], side: Side, j: usize)
+        requires { TwoNotes self (offset_of side) s.old j }
+        ensures { s.new ≡ two_note_m self (offset_of side) s.old j }
     {
         let e = word_at(s, self.notes + j);
-        let p = end_of(s, self.ends, side, EdgeIndex(e as u32));
-        let v = p.0 as usize;
-        let y = 2 * e + side;
+        let p = end_of(s, self.graph.ends, side, EdgeIndex::new(e));
+        let v = p.index();
+        let y = 2 * e + side.offset();
         let sum = word_at(s, self.b + 2 * v + 1);
         set_word(s, self.b + 2 * v, y + 1);
         set_word(s, self.b + 2 * v + 1, sum + y);
@@ -120,11 +111,9 @@ impl Two {
 
     // From the newest of the noted pairs down.
     #[tactic(auto, unfolding(crate::specs::Model::two_fill_m))]
-    fn two_fill(self, s: &mut [u32], side: usize, odd: usize)
-        requires side_bound { side < 2 }
-        requires odd_bound { odd < word_limit }
-        requires fills { TwoFills self side odd s.old }
-        ensures { s.new ≡ two_fill_m self side odd s.old }
+    fn two_fill(self, s: &mut [u32], side: Side, odd: usize)
+        requires { TwoFills self (offset_of side) odd s.old }
+        ensures { s.new ≡ two_fill_m self (offset_of side) odd s.old }
     {
         for k in (0..odd).rev() {
             self.two_note(s, side, k);
@@ -132,31 +121,34 @@ impl Two {
     }
 
     // The pair of the half-edge y goes to the half h. The party to which y leads is visited, and its other half-edge is next.
-    #[tactic(auto, unfolding(crate::specs::Model::two_step_m))]
+    #[tactic(auto, using(crate::proofs::Mates::other_flips), unfolding(crate::specs::Model::two_step_m))]
     fn two_step(self, s: &mut [u32], h: usize, at: usize, y: usize) -> usize
-        requires h_bound { h < word_limit }
-        requires at_bound { at < word_limit }
         requires y_bound { y < word_limit }
         requires steps { TwoSteps self h s.old at y }
         ensures { (record { words = s.new; number = result } ≡ two_step_m self h s.old at y) × (result < word_limit) }
     {
         push(s, h, at, y / 2, 1);
-        let other = y + 1 - 2 * (y % 2);
-        let p = end_of(s, self.ends, 1 - y % 2, EdgeIndex((y / 2) as u32));
-        let v = p.0 as usize;
+        let other = y ^ 1;
+        let p = end_of(
+            s,
+            self.graph.ends,
+            Side::of_half_edge(other),
+            EdgeIndex::new(y / 2),
+        );
+        let v = p.index();
         let sum = word_at(s, self.b + 2 * v + 1);
         set_word(s, self.b + 2 * v, 0);
-        (sum + 4294967296 - other) % 4294967296
+        (sum as u32).wrapping_sub(other as u32) as usize
     }
 
     // The circuit that begins with the half-edge y0: its pairs go to the first half and the second in turn.
+    #[tactic(auto, using(crate::proofs::ModelLaws::two_circuit_none))]
     fn two_circuit(self, s: &mut [u32], at: usize, y0: usize) -> usize
-        requires at_bound { at + self.m < word_limit }
         requires y0_bound { y0 < word_limit }
-        requires circuits { TwoCircuits self y0 self.m s.old at y0 }
-        ensures { record { words = s.new; number = result } ≡ two_circuit_m self y0 self.m s.old at y0 }
+        requires circuits { TwoCircuits self y0 self.graph.m s.old at y0 }
+        ensures { record { words = s.new; number = result } ≡ two_circuit_m self y0 self.graph.m s.old at y0 }
     {
-        let end = at + self.m;
+        let end = at + self.graph.m;
         let mut y = y0;
         for n in at..end {
             let x = self.two_step(s, self.first, n, y);
@@ -171,27 +163,24 @@ impl Two {
     // The circuit from the party w, unless it has no pairs or was visited.
     #[tactic(auto, unfolding(crate::specs::Model::two_from_m))]
     fn two_from(self, s: &mut [u32], at: usize, w: NodeIndex) -> usize
-        requires at_bound { at + self.m < word_limit }
-        requires froms { TwoFroms self self.m (record { words = s.old; number = at }) w.0 }
-        ensures { record { words = s.new; number = result } ≡ two_from_m self self.m (record { words = s.old; number = at }) w.0 }
+        requires { TwoFroms self self.graph.m (record { words = s.old; number = at }) w.0 }
+        ensures { record { words = s.new; number = result } ≡ two_from_m self self.graph.m (record { words = s.old; number = at }) w.0 }
     {
-        let v = w.0 as usize;
-        let y = word_at(s, self.b + 2 * v);
-        if y == 0 {
-            return at;
+        match word_at(s, self.b + 2 * w.index()).checked_sub(1) {
+            Some(y) => self.two_circuit(s, at, y),
+            None => at,
         }
-        self.two_circuit(s, at, y - 1)
     }
 
     // The circuits from all parties, in number order.
     #[tactic(auto, unfolding(crate::specs::Model::two_walk_m))]
     fn two_walk(self, s: &mut [u32], even: usize) -> usize
-        requires { TwoWalks self self.m self.parties (record { words = s.old; number = even }) }
-        ensures { record { words = s.new; number = result } ≡ two_walk_m self self.m self.parties (record { words = s.old; number = even }) }
+        requires { TwoWalks self self.graph.m self.graph.parties (record { words = s.old; number = even }) }
+        ensures { record { words = s.new; number = result } ≡ two_walk_m self self.graph.m self.graph.parties (record { words = s.old; number = even }) }
     {
         let mut n = even;
-        for v in 0..self.parties {
-            n = self.two_from(s, n, NodeIndex(v as u32));
+        for v in 0..self.graph.parties {
+            n = self.two_from(s, n, NodeIndex::new(v));
         }
         n
     }
@@ -199,13 +188,13 @@ impl Two {
     // Both halves of a graph of degree 2.
     #[tactic(auto, unfolding(crate::specs::Model::split_two_m))]
     pub fn split_two(self, s: &mut [u32])
-        requires { TwoSplits self self.m self.parties s.old }
-        ensures { s.new ≡ split_two_m self self.m self.parties s.old }
+        requires { TwoSplits self self.graph.m self.graph.parties s.old }
+        ensures { s.new ≡ split_two_m self self.graph.m self.graph.parties s.old }
     {
         self.two_start(s);
         let t = self.two_sift_all(s);
-        self.two_fill(s, 0, t.odd);
-        self.two_fill(s, 1, t.odd);
+        self.two_fill(s, Side::First, t.odd);
+        self.two_fill(s, Side::Second, t.odd);
         let n = self.two_walk(s, t.even);
         head(s, self.first, n);
         head(s, self.second, n);

@@ -16,7 +16,7 @@ use Rattle.diagonal.proofs.LookLaws.{at_place_old, at_place_new}
 use Rattle.list_pairs.specs.declared.Bases.{Bases}
 
 module _ (n : ℕ) (at : Bases) (diag u : ℕ) (s : List ℕ)
-    (h : CanDiagonal n at.left at.right at.ends at.g diag u s) where
+    (h : CanDiagonal n at diag u s) where
   left_of : (i : ℕ) → i < n → (word s (at.left + i) < n + n) × (h.side (word s (at.left + i)) ≡ 0)
   left_of = region_all (λ v. (v < n + n) × (h.side v ≡ 0)) s at.left n h.partition.left_side
 
@@ -50,11 +50,11 @@ module _ (n : ℕ) (at : Bases) (diag u : ℕ) (s : List ℕ)
       }
 
 module _ (n : ℕ) (at : Bases) (diag u : ℕ) (s : List ℕ)
-    (h : CanDiagonal n at.left at.right at.ends at.g diag u s) where
+    (h : CanDiagonal n at diag u s) where
   -- all places begun and all pairs looked at: the diagonal is set
   pub diagonal_set :
       (t v : List ℕ) → Begun n at diag u (size s at.g) n s t → Looked n at diag (size s at.g) (size s at.g) t v →
-      DiagonalSet n at.left at.right at.ends at.g diag u s u v
+      DiagonalSet n at diag u s u v
   diagonal_set t v x y =
       record {
         firsts = λ i a. y.over (at.ends + 2 * (size s at.g + i)) (omega (arith, h.after_diag)) ∙ x.firsts i a;

@@ -1,8 +1,8 @@
 // The diagonal: the pairs of left i and right i, to which the search for a matching (module 5) adds copies. Place i of the diagonal is
 // left i and right i; its pair's number goes to `diag + i`. Each party's place stands at `b` plus the party. Of a graph with m pairs
 // the numbers from m on are free: the row m + i of the table of ends is place i's own.
-ghost use Rattle.std.specs.Prelude.{◌≡◌, ◌+◌, ◌<◌};
-ghost use Rattle.words.specs.Words.{word, word_limit};
+ghost use Rattle.std.specs.Prelude.{◌≡◌, ◌+◌};
+ghost use Rattle.words.specs.Words.{word};
 ghost use Rattle.diagonal.specs.Contract.{CanDiagonal, DiagonalSet};
 ghost use Rattle.diagonal.specs.DiagonalPlaces.{begun, Begins, DiagSmall, DiagFit, Begun, Looks, LookedAt, DiagReady, Looked};
 
@@ -11,7 +11,7 @@ use list_pairs::ends::same_ends;
 use words::{get, set_word, word_at};
 
 // Where the diagonal lies: its `n` numbers at `diag`, and each party's place at `b` plus the party, for the graph at `at`, which has `m`
-// pairs. All these numbers are small.
+// pairs. All these places are small numbers.
 #[derive(Clone, Copy)]
 struct Places {
     at: Bases,
@@ -20,14 +20,12 @@ struct Places {
     m: usize,
     n: usize,
     ghost small: { DiagSmall at diag b },
-    ghost m_small: { m < word_limit },
 }
 
 impl Places {
     // Place `i` begins: both parties learn it, its number is `m + i` for now, and the row of that number has its ends.
     fn begin_place(self, s: &mut [u32], i: usize)
-        requires i_small { i < word_limit }
-        requires begins { Begins self.at self.diag self.b self.m i s.old }
+        requires { Begins self.at self.diag self.b self.m i s.old }
         ensures { s.new ≡ begun self.at.ends self.diag self.b self.m i (word s.old (self.at.left + i)) (word s.old (self.at.right + i)) s.old }
     {
         let l = word_at(s, self.at.left + i);
@@ -41,6 +39,7 @@ impl Places {
     }
 
     // All `n` places begin.
+    #[tactic(auto, using(crate::proofs::BeginLaws::begins, crate::proofs::BeginLaws::begun_more))]
     fn begin_places(self, s: &mut [u32])
         requires { DiagFit self.n self.at self.diag self.b self.m s.old }
         ensures { Begun self.n self.at self.diag self.b self.m self.n s.old s.new }
@@ -53,8 +52,7 @@ impl Places {
     // Pair `e` gives its number to a place whose two parties are its ends. The place is read with a test: that an end of a pair is
     // below n + n isn't asked for.
     fn look_at(self, s: &mut [u32], e: usize)
-        requires e_small { e < word_limit }
-        requires looks { Looks self.n self.at self.diag e s.old }
+        requires { Looks self.n self.at self.diag e s.old }
         ensures { LookedAt self.n self.at self.diag self.b e s.old s.new }
     {
         let x = word_at(s, self.at.ends + 2 * e);
@@ -83,8 +81,8 @@ impl Places {
 
 // The same as `diagonal`, where the words from `u` on are free.
 pub(crate) fn diagonal_at(s: &mut [u32], u: usize, n: usize, at: Bases, diag: usize)
-    requires { CanDiagonal n at.left at.right at.ends at.g diag u s.old }
-    ensures { DiagonalSet n at.left at.right at.ends at.g diag u s.old u s.new }
+    requires { CanDiagonal n at diag u s.old }
+    ensures { DiagonalSet n at diag u s.old u s.new }
 {
     let m = get(s, at.g + 1);
     let places = Places {

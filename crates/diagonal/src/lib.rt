@@ -16,8 +16,8 @@ mod diagonal_places; // the diagonal: the pairs of left i and right i
 // The number of the pair of left `i` and right `i`, for each i: its own if the graph has it, else one after those of all pairs,
 // in a row of its own. Takes a word for each party, and gives it back.
 pub fn diagonal(s: &mut [u32], m: &mut Mark, n: usize, at: Bases, diag: usize)
-    requires { CanDiagonal n at.left at.right at.ends at.g diag m.old.taken s.old × (m.old.taken + (n + n) ≤ m.old.there) }
-    ensures { DiagonalSet n at.left at.right at.ends at.g diag m.old.taken s.old m.new.taken s.new × (m.new ≡ m.old) }
+    requires { CanDiagonal n at diag m.old.taken s.old }
+    ensures { DiagonalSet n at diag m.old.taken s.old m.new.taken s.new × (m.new ≡ m.old) }
 {
     let k = n + n;
     let u = m.take(k);

@@ -8,8 +8,6 @@ use borrow.Author.Tests.{eq-eqb, ne_eqb}
 use Rattle.words.specs.Basics.{Run, ran, Ran}
 use Rattle.words.specs.Words.{word}
 use Rattle.words.proofs.Ranges.{spares_refl, spares_trans, spares_wide, changes_spares}
-use Rattle.mark.specs.declared.Mark.{Mark}
-use Rattle.mark.specs.Taking.{given_back}
 use Rattle.multigraph.specs.Multigraph.{Graph, remove_matching}
 use Rattle.multigraph.specs.Stored.{graph_at, matching_at, matchings_at}
 use Rattle.multigraph.specs.Places.{size, number, Removable, MatchingRemoved, RemovesMatching}
@@ -230,7 +228,3 @@ small t s used g n d out f =
       map = omega (arith, f.after_places);
       some = omega (arith, mul-le-mul_left n one, mul-one n, c.some);
     }
-
--- a mark with the same words there, given back down to where it was, is as it was
-pub back_again : (m n : Mark) → n.there ≡ m.there → given_back m.taken n ≡ m
-back_again m n e = ap (λ (x : ℕ). given_back m.taken (record { taken = m.taken; there = x })) e

@@ -7,9 +7,14 @@
 
 ghost use Rattle.std.specs.Prelude.{◌≡◌, ℕ, ◌+◌, ◌*◌, ◌<◌, ◌≤◌, length};
 ghost use Rattle.words.specs.Words.{word_limit};
-ghost use Rattle.euler.specs.Entries.{many_m, push_m, head_m};
+ghost use Rattle.euler.specs.Entries.{many_m, push_m};
 
+pub use multigraph::head;
 use words::set_word;
+
+mod stored; // stored.rt: graphs as they lie in words
+
+pub use stored::{RegularGraph, StoredGraph};
 
 // One for an entry of 2 copies or more.
 pub fn many(copies: usize) -> usize
@@ -20,18 +25,9 @@ pub fn many(copies: usize) -> usize
 
 // An entry of a half, at its place `at`.
 pub fn push(s: &mut [u32], h: usize, at: usize, e: usize, copies: usize)
-    requires { (h < word_limit) × (at < 137438953472) × (h + 3 + 2 * at < length s.old) }
+    requires { h + 3 + 2 * at < length s.old }
     ensures { s.new ≡ push_m h s.old at e copies }
 {
     set_word(s, h + 2 + 2 * at, e);
     set_word(s, h + 3 + 2 * at, copies);
-}
-
-// The head of a half: its base and the number of its entries.
-pub fn head(s: &mut [u32], h: usize, n: usize)
-    requires { h < word_limit }
-    ensures { s.new ≡ head_m h s.old n }
-{
-    words::put(s, h, h);
-    words::put(s, h + 1, n);
 }

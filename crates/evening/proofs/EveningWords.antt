@@ -15,10 +15,10 @@ use Rattle.multigraph.specs.Multigraph.{Graph}
 use Rattle.multigraph.specs.Places.{size}
 use Rattle.regular_graph.specs.Evening.{Evening, evening, even_out_step, evened, even_out}
 use Rattle.list_pairs.specs.Contract.{first_of, second_of}
-use Rattle.evening.specs.Contract.{EvenedOut}
+use Rattle.evening.specs.Contract.{CanEven, EvenedOut}
 use Rattle.list_pairs.specs.Adding.{plain_graph, HasPlace}
 use Rattle.list_pairs.specs.Rows.{rows_from, RowsFit, RowsFilled}
-use Rattle.evening.specs.Filling.{StepTaken, all_passed, left_full, none_right, right_full, both_short, EvensAt}
+use Rattle.evening.specs.Filling.{StepTaken, all_passed, left_full, none_right, right_full, both_short}
 use Rattle.words.proofs.Regions.{region_length}
 use Rattle.regular_graph.proofs.RegularLaws.{Evened, even_out_law}
 use Rattle.multigraph.proofs.TableLaws.{has_ends_new}
@@ -32,7 +32,7 @@ use Rattle.list_pairs.specs.declared.Bases.{Bases}
 
 -- what every step over words does is a step of the definition
 stage_more :
-    (list : List ℕ) (d n : ℕ) (at : Bases) (u : ℕ) (first : List ℕ) (h : EvensAt list d n at u first)
+    (list : List ℕ) (d n : ℕ) (at : Bases) (u : ℕ) (first : List ℕ) (h : CanEven list d n at u first)
     (s₁ : List ℕ) (x : RowsFilled list (rows_from (n + n) d u) (length list) first s₁) (E : Evening) (i j : ℕ) (s : List ℕ)
     (st : Stage list d n at u first h s₁ x E i j s) (t : List ℕ) (i' j' : ℕ) →
     StepTaken list at (rows_from (n + n) d u) n s t i j i' j' →
@@ -54,7 +54,7 @@ evened_ran : (P : Graph → Type 0) (E : Evening) (left : List ℕ) → Ran P (e
 evened_ran P E [] h = refl
 evened_ran P E (l ∷ left) h = absurd h
 
-module _ (list : List ℕ) (d n : ℕ) (at : Bases) (u : ℕ) (first : List ℕ) (h : EvensAt list d n at u first) where
+module _ (list : List ℕ) (d n : ℕ) (at : Bases) (u : ℕ) (first : List ℕ) (h : CanEven list d n at u first) where
   -- there is room for the rows of all parties
   pub rows_fit_even : RowsFit list (rows_from (n + n) d u) first
   rows_fit_even =
@@ -126,7 +126,7 @@ module _ (list : List ℕ) (d n : ℕ) (at : Bases) (u : ℕ) (first : List ℕ)
     -- after all steps the graph is evened out
     pub evened_out :
         (i j : ℕ) (t : List ℕ) → At (2 * (n + n)) i j t →
-        EvenedOut list d n at.left at.right at.ends at.apair at.g u first u t
+        EvenedOut list d n at u first u t
     evened_out i j t st =
         record {
           graph =

@@ -15,11 +15,12 @@ use Rattle.multigraph.specs.Regular.{degree}
 use Rattle.multigraph.specs.Places.{size, HasEnds}
 use Rattle.multigraph.proofs.Ends.{same_ends_sym, same_ends_trans}
 use Rattle.regular_graph.specs.Evening.{Evening, evening, even_out_step}
+use Rattle.evening.specs.Contract.{CanEven}
 use Rattle.list_pairs.specs.Contract.{first_of, second_of}
 use Rattle.list_pairs.specs.Adding.{plain_graph, ItsNumber, PairFits, PairAdded}
 use Rattle.list_pairs.specs.Rows.{rows_from, row, RowsFilled}
 use Rattle.list_pairs.specs.Ends.{Joins}
-use Rattle.evening.specs.Filling.{shortfall, Filled, EvensAt}
+use Rattle.evening.specs.Filling.{shortfall, Filled}
 use Rattle.regular_graph.proofs.StepLaws.{added_left, added_right, added_else, next_fill}
 use Rattle.multigraph.proofs.TableLaws.{TableSame, first_same, second_same, has_ends_new, has_ends_old}
 use Rattle.list_pairs.proofs.PlainLaws.{newest, GraphKept, graph_kept, plain_kept, graph_kept_by}
@@ -28,7 +29,7 @@ use Rattle.evening.proofs.FillingWords.{Raised, raised}
 use Rattle.evening.proofs.StageWords.{Stage, Known, known}
 use Rattle.list_pairs.specs.declared.Bases.{Bases}
 
-module _ (list : List ℕ) (d n : ℕ) (at : Bases) (u : ℕ) (first : List ℕ) (h : EvensAt list d n at u first) (s₁ : List ℕ)
+module _ (list : List ℕ) (d n : ℕ) (at : Bases) (u : ℕ) (first : List ℕ) (h : CanEven list d n at u first) (s₁ : List ℕ)
     (x : RowsFilled list (rows_from (n + n) d u) (length list) first s₁) (E : Evening) (i j : ℕ) (s : List ℕ)
     (st : Stage list d n at u first h s₁ x E i j s) (a : i < n)
     (ne_l : word s (u + word s (at.left + i)) ≡ d → ⊥) (b : j < n) (ne_r : word s (u + word s (at.right + j)) ≡ d → ⊥) (t : List ℕ)

@@ -20,6 +20,7 @@ use Rattle.multigraph.proofs.Matchings.{Sound}
 use Rattle.multigraph.proofs.Sizes.{pairs_le, copies_le}
 use Rattle.multigraph.proofs.Spans.{span_length, all_span}
 use Rattle.regular_graph.specs.Evening.{Evening, evening, add_appointments, even_out_step}
+use Rattle.evening.specs.Contract.{CanEven}
 use Rattle.list_pairs.specs.Contract.{Plain}
 use Rattle.list_pairs.specs.Adding.{plain_pair, plain_graph}
 use Rattle.list_pairs.specs.Rows.{rows_from, row, RowsFilled}
@@ -30,9 +31,8 @@ use Rattle.regular_graph.proofs.RegularLaws.{keep}
 use Rattle.multigraph.proofs.TableLaws.{TableSame}
 use Rattle.list_pairs.proofs.PlainLaws.{plain_is, GraphKept, graph_kept, plain_kept, graph_kept_by}
 use Rattle.list_pairs.specs.declared.Bases.{Bases}
-use Rattle.evening.specs.Filling.{EvensAt}
 
-module _ (list : List ℕ) (d n : ℕ) (at : Bases) (u : ℕ) (first : List ℕ) (h : EvensAt list d n at u first) where
+module _ (list : List ℕ) (d n : ℕ) (at : Bases) (u : ℕ) (first : List ℕ) (h : CanEven list d n at u first) where
   abbrev side : ℕ → ℕ
   side = h.side
 

@@ -10,6 +10,7 @@ use Rattle.multigraph.specs.Regular.{Across, Partition}
 use Rattle.multigraph.specs.Stored.{graph_at}
 use Rattle.multigraph.specs.Places.{size, copies_of, HasEnds}
 use Rattle.regular_graph.specs.Evening.{padded, even_out}
+use Rattle.list_pairs.specs.declared.Bases.{Bases}
 use Rattle.list_pairs.specs.Contract.{Plain, first_of, second_of, Paired}
 
 -- ── `pad_sides` ──
@@ -30,35 +31,35 @@ pub record SidesPadded (p left l right r n : ℕ) (s t : List ℕ) : Type 0 wher
 
 -- ── `even_out` ──
 
--- The pairs of the list stand at g; n parties on each side stand at `left` and at `right`, below the table of ends, and the
+-- The pairs of the list stand at `at.g`; n parties on each side stand at `at.left` and at `at.right`, below the table of ends, and the
 -- appointments go across. The table and the graph have room for n·(d + 1) pairs, and there is room above the mark u.
-pub record CanEven (list : List ℕ) (d n left right ends apair g u : ℕ) (s : List ℕ) : Type 0 where
+pub record CanEven (list : List ℕ) (d n : ℕ) (at : Bases) (u : ℕ) (s : List ℕ) : Type 0 where
   pub short : length list ≤ 8192
   pub even : length list % 2 ≡ 0
-  pub paired : Paired list ends apair g s
+  pub paired : Paired list at s
   pub side : ℕ → ℕ
-  pub partition : Partition (n + n) side (region s left n) (region s right n)
+  pub partition : Partition (n + n) side (region s at.left n) (region s at.right n)
   pub crosses : All (λ x. Across (n + n) side (pair x.first x.second 1 0)) (appts list)
   pub loads : (v : ℕ) → v < n + n → load v (appts list) ≤ d
   pub few : d < 2147483648
-  pub after_left : left + n ≤ ends
-  pub after_right : right + n ≤ ends
-  pub after_ends : ends + 2 * (n * d + n) ≤ apair
-  pub after_apair : apair + length list / 2 ≤ g
-  pub after_graph : g + 2 + 2 * (n * d + n) ≤ u
+  pub after_left : at.left + n ≤ at.ends
+  pub after_right : at.right + n ≤ at.ends
+  pub after_ends : at.ends + 2 * (n * d + n) ≤ at.apair
+  pub after_apair : at.apair + length list / 2 ≤ at.g
+  pub after_graph : at.g + 2 + 2 * (n * d + n) ≤ u
   pub room : u + (n + n) + d * (n + n) ≤ length s
   pub low : u + (n + n) + d * (n + n) < word_limit
 
--- The graph at g is evened out; no pair has more than d copies, and each appointment's pair is the one that it was.
-pub record EvenedOut (list : List ℕ) (d n left right ends apair g u : ℕ) (s : List ℕ) (u' : ℕ) (t : List ℕ) : Type 0 where
+-- The graph at `at.g` is evened out; no pair has more than d copies, and each appointment's pair is the one that it was.
+pub record EvenedOut (list : List ℕ) (d n : ℕ) (at : Bases) (u : ℕ) (s : List ℕ) (u' : ℕ) (t : List ℕ) : Type 0 where
   pub graph :
-      (pairs : ℕ) → size t g ≤ pairs →
-      even_out d (graph_at s ends pairs g) (region s left n) (region s right n) ≡ ran (graph_at t ends pairs g)
-  pub plain : Plain ends g t
-  pub grown : size s g ≤ size t g
-  pub few : size t g ≤ n * d
-  pub copies : (e : ℕ) → e < size t g → copies_of t g e ≤ d
-  pub number_of : (i : ℕ) → i < length list / 2 → word t (apair + i) < size t g
-  pub ends_of : (i : ℕ) → i < length list / 2 → HasEnds t ends (word t (apair + i)) (first_of list i) (second_of list i)
+      (pairs : ℕ) → size t at.g ≤ pairs →
+      even_out d (graph_at s at.ends pairs at.g) (region s at.left n) (region s at.right n) ≡ ran (graph_at t at.ends pairs at.g)
+  pub plain : Plain at.ends at.g t
+  pub grown : size s at.g ≤ size t at.g
+  pub few : size t at.g ≤ n * d
+  pub copies : (e : ℕ) → e < size t at.g → copies_of t at.g e ≤ d
+  pub number_of : (i : ℕ) → i < length list / 2 → word t (at.apair + i) < size t at.g
+  pub ends_of : (i : ℕ) → i < length list / 2 → HasEnds t at.ends (word t (at.apair + i)) (first_of list i) (second_of list i)
   pub mark : u' ≡ u
-  pub changes : ChangesThree ends (2 * (n * d + n)) g (2 + 2 * (n * d + n)) u 0 u s t
+  pub changes : ChangesThree at.ends (2 * (n * d + n)) at.g (2 + 2 * (n * d + n)) u 0 u s t

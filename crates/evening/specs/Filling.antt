@@ -2,7 +2,6 @@
 use Rattle.std.specs.Prelude.{ℕ, ◌+◌, ◌-◌, ◌/◌, ◌<◌, ◌≤◌, min, ◌≡◌, List, ◌⊎◌}
 use Rattle.words.specs.Words.{word, put_word, word_limit}
 use Rattle.multigraph.specs.Places.{size}
-use Rattle.evening.specs.Contract.{CanEven}
 use Rattle.list_pairs.specs.Adding.{AddsPair}
 use Rattle.list_pairs.specs.Ends.{Joins}
 use Rattle.list_pairs.specs.Rows.{row, counter}
@@ -17,10 +16,6 @@ pub record FillSmall (at : Bases) (rs : RowBases) : Type 0 where
   pub counts : rs.counts < word_limit
   pub rows : rs.rows < word_limit
   pub degree : rs.d < 2147483648
-
--- `CanEven` for these bases
-abbrev pub EvensAt : List ℕ → ℕ → ℕ → Bases → ℕ → List ℕ → Type 0
-EvensAt list d n at u s = CanEven list d n at.left at.right at.ends at.apair at.g u s
 
 -- The pair with the ends l and r by the row of l: that of one of its appointments, or the next number if none has these ends.
 abbrev pub PairFound : List ℕ → Bases → RowBases → ℕ → ℕ → List ℕ → ℕ → Type 0

@@ -8,8 +8,9 @@ ghost use Rattle.evening.specs.Filling.{FillSmall, PairFound, Filled, StepTaken}
 
 use list_pairs::Bases;
 use list_pairs::ends::joins;
-use list_pairs::rows::{RowBases, clear_words};
-use words::{EdgeIndex, NodeIndex, get, put};
+use list_pairs::rows::RowBases;
+use multigraph::pair_at;
+use words::{EdgeIndex, NodeIndex, clear, get, put};
 
 // How many parties have been passed on the left and on the right: the next ones are at these places of their sides.
 #[derive(Clone, Copy)]
@@ -35,18 +36,16 @@ impl Filling {
     fn find_pair(self, s: &[u32], list: &[u16], l: NodeIndex, r: NodeIndex) -> EdgeIndex
         ensures { PairFound list.now self.at self.rows l.0 r.0 s.now result.0 }
     {
-        let v = l.0 as usize;
-        let w = r.0 as usize;
+        let v = l.index();
+        let w = r.index();
         let from = self.rows.rows + self.rows.d * v;
         for t in 0..self.rows.d {
             let i = get(s, from + t) / 2;
             if joins(list, i, v, w) {
-                let e = get(s, self.at.apair + i);
-                return EdgeIndex(e as u32);
+                return pair_at(s, self.at.apair + i);
             }
         }
-        let e = get(s, self.at.g + 1);
-        EdgeIndex(e as u32)
+        EdgeIndex::new(get(s, self.at.g + 1))
     }
 
     // Adds the smaller shortfall of `l` and `r` as copies of their pair, and to both degrees.
@@ -54,8 +53,8 @@ impl Filling {
         requires { HasPlace self.at.ends self.at.g s.old }
         ensures { Filled list.now self.at self.rows l.0 r.0 s.old s.new }
     {
-        let v = l.0 as usize;
-        let w = r.0 as usize;
+        let v = l.index();
+        let w = r.index();
         let dl = get(s, self.rows.counts + v);
         let dr = get(s, self.rows.counts + w);
         let d = self.rows.d;
@@ -80,7 +79,7 @@ impl Filling {
         if dl == self.rows.d {
             return Passed {
                 l: passed.l + 1,
-                r: passed.r,
+                ..passed
             };
         }
         if passed.r >= self.n {
@@ -90,11 +89,11 @@ impl Filling {
         let dr = get(s, self.rows.counts + r);
         if dr == self.rows.d {
             return Passed {
-                l: passed.l,
                 r: passed.r + 1,
+                ..passed
             };
         }
-        self.fill(s, list, NodeIndex(l as u32), NodeIndex(r as u32));
+        self.fill(s, list, NodeIndex::new(l), NodeIndex::new(r));
         passed
     }
 }
@@ -102,8 +101,8 @@ impl Filling {
 // The same as `even_out`, where the words from `u` on are free. The rows are cleared for the same reason as the map in `pairs_at`:
 // `find_pair` looks at all words of a row.
 pub(crate) fn even_at(s: &mut [u32], u: usize, list: &[u16], d: usize, n: usize, at: Bases)
-    requires { CanEven list.now d n at.left at.right at.ends at.apair at.g u s.old }
-    ensures { EvenedOut list.now d n at.left at.right at.ends at.apair at.g u s.old u s.new }
+    requires { CanEven list.now d n at u s.old }
+    ensures { EvenedOut list.now d n at u s.old u s.new }
 {
     let rows = RowBases {
         parties: n + n,
@@ -111,7 +110,7 @@ pub(crate) fn even_at(s: &mut [u32], u: usize, list: &[u16], d: usize, n: usize,
         counts: u,
         rows: u + (n + n),
     };
-    clear_words(s, rows.rows, d * (n + n));
+    clear(s, rows.rows, d * (n + n));
     rows.fill_rows(s, list);
     let filling = Filling { at, rows, n };
     let mut passed = Passed { l: 0, r: 0 };

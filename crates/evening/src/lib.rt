@@ -31,8 +31,8 @@ pub fn pad_sides(s: &mut [u32], p: usize, left: usize, l: usize, right: usize, r
 // From the first left and the first right party below `d`, the smaller shortfall is added as copies, moving on when a party is
 // full, until every party has degree `d`. Takes the degrees and the rows, and gives them back.
 pub fn even_out(s: &mut [u32], m: &mut Mark, list: &[u16], d: usize, n: usize, at: Bases)
-    requires { CanEven list.now d n at.left at.right at.ends at.apair at.g m.old.taken s.old × (m.old.taken + (n + n + d * (n + n)) ≤ m.old.there) }
-    ensures { EvenedOut list.now d n at.left at.right at.ends at.apair at.g m.old.taken s.old m.new.taken s.new × (m.new ≡ m.old) }
+    requires { CanEven list.now d n at m.old.taken s.old }
+    ensures { EvenedOut list.now d n at m.old.taken s.old m.new.taken s.new × (m.new ≡ m.old) }
 {
     let k = n + n + d * (n + n);
     let u = m.take(k);

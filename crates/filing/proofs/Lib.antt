@@ -4,3 +4,4 @@ pub mod RoundTrip
 pub mod ByIndex
 pub mod WritingSteps
 pub mod ReadingSteps
+pub mod Turns

@@ -7,7 +7,7 @@ use native.Mathlib.Omega.{arith}
 use borrow.Author.Tests.{eq-eqb, ne_eqb, lt-ltb, le-ltb}
 use lib.ListN.{length, get_or, set, drop}
 use Rattle.words.specs.Words.{filled}
-use Rattle.words.proofs.Filling.{filled_more, filled_again, filled_all, RowAt}
+use Rattle.words.proofs.Filling.{filled_more, filled_all, RowAt}
 use Rattle.appointments.specs.Appointments.{appts}
 use Rattle.appointments.proofs.ChecksLaws.{test_even}
 use Rattle.appointments.proofs.Flat.{appts_count}
@@ -54,10 +54,6 @@ module _ (P : ℕ) (list slots : List ℕ) where
       f
       ∙ ap (λ (l : List ℕ). put_number l 2 (length list / 2)) first
       ∙ number_put 2 1 (length list / 2) out refl (appts_count list) (omega (arith, filed_long h)) (omega arith)
-
-  -- what the header left, filled further
-  pub from_header : (n : ℕ) (out held : List ℕ) → length list / 2 ≤ length slots → 4 ≤ n → held ≡ filled (filed_bytes P list slots) 4 out → filled (filed_bytes P list slots) n held ≡ filled (filed_bytes P list slots) n out
-  from_header n out held h k e = filled_again (filed_bytes P list slots) 4 n out held k (omega (arith, filed_long h)) e
 
   -- an appointment
   pub row_put : (i : ℕ) (out : List ℕ) → length list / 2 ≤ length slots → i < length list / 2 → 6 * i + 9 < length out → put_row list slots i (filled (filed_bytes P list slots) (6 * i + 4) out) ≡ filled (filed_bytes P list slots) (6 * (i + 1) + 4) out

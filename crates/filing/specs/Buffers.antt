@@ -6,13 +6,14 @@ use Rattle.filing.specs.Filed.{numbers_of}
 abbrev pub put_number : List ℕ → ℕ → ℕ → List ℕ
 put_number buffer at w = set (set buffer at (w % 256)) (at + 1) (w / 256 % 256)
 
--- the six bytes of the appointment at a position: first end, second end, slot
+-- the six bytes of an appointment at its position: first end, second end, slot
+abbrev pub put_numbers : List ℕ → ℕ → ℕ → ℕ → ℕ → List ℕ
+put_numbers buffer i first second slot =
+    put_number (put_number (put_number buffer (6 * i + 4) first) (6 * i + 4 + 2) second) (6 * i + 4 + 4) slot
+
+-- and of the appointment there in a list and its slots
 abbrev pub put_row : List ℕ → List ℕ → ℕ → List ℕ → List ℕ
-put_row list slots i buffer =
-    put_number
-    (put_number (put_number buffer (6 * i + 4) (get_or list (2 * i) 0)) (6 * i + 4 + 2) (get_or list (2 * i + 1) 0))
-    (6 * i + 4 + 4)
-    (get_or slots i 0)
+put_row list slots i buffer = put_numbers buffer i (get_or list (2 * i) 0) (get_or list (2 * i + 1) 0) (get_or slots i 0)
 
 -- the two ends of the appointment at a position of the filed plan go to their places in the list
 abbrev pub take_row : List ℕ → ℕ → List ℕ → List ℕ

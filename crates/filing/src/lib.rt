@@ -5,12 +5,12 @@ ghost use Rattle.std.specs.Prelude.{◌≡◌, ◌+◌, ◌*◌, ◌/◌, ◌<�
 ghost use Rattle.words.specs.Words.{filled};
 ghost use Rattle.appointments.specs.Refusals.{told};
 ghost use Rattle.filing.specs.Filed.{numbers_of, filed_bytes, filed_rows, rows_list, rows_slots, writing_answer, writing_output, reading_answer, reading_list, reading_slots};
-ghost use Rattle.filing.specs.Buffers.{put_number, put_row, take_row, take_slot};
+ghost use Rattle.filing.specs.Buffers.{put_number, put_numbers, take_row, take_slot};
 
 use appointments::Refusal;
 
 // What a filed plan begins with: P and A.
-#[derive(Clone, Copy, Debug, PartialEq, Eq)]
+#[derive(Clone, Copy, Debug, Default, PartialEq, Eq)]
 pub struct Header {
     pub parties: u16,
     pub appointments: usize,
@@ -21,21 +21,18 @@ fn put_bytes(output: &mut [u8], at: usize, w: u16)
     requires { at + 1 < length output.old }
     ensures { output.new ≡ put_number output.old at w }
 {
-    let [low, high] = w.to_le_bytes();
-    output[at] = low;
-    output[at + 1] = high;
+    output[at..at + 2].copy_from_slice(&w.to_le_bytes());
 }
 
 // The bytes of an appointment: its first end, second end and slot.
-fn put_appointment(list: &[u16], slots: &[u16], i: usize, output: &mut [u8])
-    requires i_in_bounds { (2 * i + 1 < length list.now) × (i < length slots.now) }
-    requires room { 6 * i + 9 < length output.old }
-    ensures { output.new ≡ put_row list.now slots.now i output.old }
+fn put_appointment(output: &mut [u8], i: usize, first: u16, second: u16, slot: u16)
+    requires { 6 * i + 9 < length output.old }
+    ensures { output.new ≡ put_numbers output.old i first second slot }
 {
     let at = 6 * i + 4;
-    put_bytes(output, at, list[2 * i]);
-    put_bytes(output, at + 2, list[2 * i + 1]);
-    put_bytes(output, at + 4, slots[i]);
+    put_bytes(output, at, first);
+    put_bytes(output, at + 2, second);
+    put_bytes(output, at + 4, slot);
 }
 
 // The whole plan, where there is room for it.
@@ -48,8 +45,8 @@ fn put_plan(p: u16, list: &[u16], slots: &[u16], output: &mut [u8])
     let count = list.len() / 2;
     put_bytes(output, 0, p);
     put_bytes(output, 2, count as u16);
-    for i in 0..count {
-        put_appointment(list, slots, i, output);
+    for (i, (&[first, second], &slot)) in list.as_chunks::<2>().0.iter().zip(slots).enumerate() {
+        put_appointment(output, i, first, second, slot);
     }
 }
 
@@ -58,19 +55,11 @@ pub fn file_plan(p: u16, list: &[u16], slots: &[u16], output: &mut [u8]) -> Resu
     ensures answer { told result ≡ writing_answer p list.now slots.now output.old }
     ensures bytes { output.new ≡ writing_output p list.now slots.now output.old }
 {
-    if 1024 < p {
-        return Err(Refusal::ManyParties);
-    }
-    if list.len() % 2 == 1 {
-        return Err(Refusal::OddLength);
-    }
+    checking::check_parties(usize::from(p))?;
+    checking::check_even(list)?;
     let count = list.len() / 2;
-    if 4096 < count {
-        return Err(Refusal::ManyAppointments);
-    }
-    if slots.len() < count {
-        return Err(Refusal::FewSlots);
-    }
+    checking::check_count(count)?;
+    checking::check_slots(slots.len(), count)?;
     let length = 6 * count + 4;
     if output.len() < length {
         return Err(Refusal::ShortOutput);
@@ -121,16 +110,12 @@ pub fn read_plan(bytes: &[u8], list: &mut [u16], slots: &mut [u16]) -> Result<He
         return Err(Refusal::WrongLength);
     }
     let parties = number_at(bytes, 0);
-    let appointments = number_at(bytes, 1) as usize;
+    let appointments = usize::from(number_at(bytes, 1));
     if bytes.len() != 6 * appointments + 4 {
         return Err(Refusal::WrongLength);
     }
-    if 1024 < parties {
-        return Err(Refusal::ManyParties);
-    }
-    if 4096 < appointments {
-        return Err(Refusal::ManyAppointments);
-    }
+    checking::check_parties(usize::from(parties))?;
+    checking::check_count(appointments)?;
     if list.len() < 2 * appointments || slots.len() < appointments {
         return Err(Refusal::ShortOutput);
     }

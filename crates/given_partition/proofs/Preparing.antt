@@ -20,6 +20,7 @@ use Rattle.matching.specs.Searched.{column, lefts, rights, Tabled}
 use Rattle.edge_color.specs.Room.{Colorable, ColorFits}
 use Rattle.regular_graph.specs.Evening.{add_appointments, padded, even_out}
 use Rattle.evening.specs.Contract.{CanPad, SidesPadded, CanEven, EvenedOut}
+use Rattle.list_pairs.specs.declared.Bases.{Bases}
 use Rattle.list_pairs.specs.Contract.{CanPair, PairsMade}
 use Rattle.diagonal.specs.Contract.{CanDiagonal, DiagonalSet}
 use Rattle.regular_graph.proofs.Pairs.{Crosses, sound_list, degree_load}
@@ -58,6 +59,10 @@ module _ {P D q l : ℕ} {list s₀ : List ℕ} (h : Sided P D q l list s₀) wh
   pub graph_low : graph_base q < 4294967296
   graph_low = omega (arith, z.unit, z.product, z.parties)
 
+  -- and so does the table of ends
+  pub ends_low : ends_at q < 4294967296
+  ends_low = omega (arith, graph_low)
+
   -- the sides of the padded graph
   abbrev side' : ℕ → ℕ
   side' = padded_side P (region s₀ 0 l) (region s₀ P (P - l)) h.side
@@ -71,7 +76,12 @@ module _ {P D q l : ℕ} {list s₀ : List ℕ} (h : Sided P D q l list s₀) wh
         small = omega (arith, z.parties, h.few);
       }
 
-  module _ {n : ℕ} {s₁ : List ℕ} (x : SidesPadded P 0 l P (P - l) n s₀ s₁) where
+  module _ {n : ℕ} {s₁ : List ℕ} (e_low : ends_at q < 4294967296) (g_low : graph_base q < 4294967296)
+      (x : SidesPadded P 0 l P (P - l) n s₀ s₁) where
+    -- where the pairs of the list lie
+    abbrev at : Bases
+    at = record { left = 0; right = P; ends = ends_at q; apair = apair_at q; g = graph_base q; ends_small = e_low; g_small = g_low }
+
     n_le : n ≤ P
     n_le = omega (arith, x.longer, h.few)
 
@@ -109,7 +119,7 @@ module _ {P D q l : ℕ} {list s₀ : List ℕ} (h : Sided P D q l list s₀) wh
     len₁ : length s₁ ≡ 128 * q
     len₁ = x.changes.len ∙ z.whole
 
-    pub can_pair : CanPair list P D (ends_at q) (apair_at q) (graph_base q) (first_mark q) s₁
+    pub can_pair : CanPair list P D at (first_mark q) s₁
     can_pair =
         record {
           short = omega (arith, z.named, z.product);
@@ -123,14 +133,14 @@ module _ {P D q l : ℕ} {list s₀ : List ℕ} (h : Sided P D q l list s₀) wh
           low = omega (arith, z.unit, z.product, z.parties);
         }
 
-    module _ {u₂ : ℕ} {s₂ : List ℕ} (y : PairsMade list (ends_at q) (apair_at q) (graph_base q) (first_mark q) s₁ u₂ s₂) where
+    module _ {u₂ : ℕ} {s₂ : List ℕ} (y : PairsMade list at (first_mark q) s₁ u₂ s₂) where
       len₂ : length s₂ ≡ 128 * q
       len₂ = y.changes.len ∙ len₁
 
       sides₂ : SidesIn s₂
       sides₂ = sides_stay (first_mark q) (omega (arith, z.unit, h.some)) y.changes.under (record { lefts = x.lefts; rights = x.rights })
 
-      pub can_even : CanEven list D n 0 P (ends_at q) (apair_at q) (graph_base q) u₂ s₂
+      pub can_even : CanEven list D n at u₂ s₂
       can_even =
           record {
             short = omega (arith, z.named, z.product);
@@ -150,7 +160,7 @@ module _ {P D q l : ℕ} {list s₀ : List ℕ} (h : Sided P D q l list s₀) wh
             low = omega (arith, z.unit, zn.product, zn.twice, n_le, y.mark, z.product, z.parties);
           }
 
-      module _ {u₃ : ℕ} {s₃ : List ℕ} (e : EvenedOut list D n 0 P (ends_at q) (apair_at q) (graph_base q) u₂ s₂ u₃ s₃) where
+      module _ {u₃ : ℕ} {s₃ : List ℕ} (e : EvenedOut list D n at u₂ s₂ u₃ s₃) where
         len₃ : length s₃ ≡ 128 * q
         len₃ = e.changes.len ∙ len₂
 
@@ -160,7 +170,7 @@ module _ {P D q l : ℕ} {list s₀ : List ℕ} (h : Sided P D q l list s₀) wh
         sides₃ : SidesIn s₃
         sides₃ = sides_stay u₂ (omega (arith, z.unit, h.some, y.mark)) e.changes.under sides₂
 
-        pub can_diagonal : CanDiagonal n 0 P (ends_at q) (graph_base q) (2 * P) u₃ s₃
+        pub can_diagonal : CanDiagonal n at (2 * P) u₃ s₃
         can_diagonal =
             record {
               side = side';
@@ -169,7 +179,6 @@ module _ {P D q l : ℕ} {list s₀ : List ℕ} (h : Sided P D q l list s₀) wh
               after_right = omega (arith, n_le);
               after_diag = omega (arith, n_le, z.unit);
               after_ends = omega (arith, n_le, z.unit, zn.product, e.few, mark₃);
-              graph_small = omega (arith, z.unit, z.product, z.parties);
               room = omega (arith, n_le, z.unit, mark₃, len₃);
               low = omega (arith, n_le, z.unit, mark₃, z.product, z.parties);
             }
@@ -191,7 +200,7 @@ module _ {P D q l : ℕ} {list s₀ : List ℕ} (h : Sided P D q l list s₀) wh
             (padded P n (region s₀ P (P - l))) partition₀ (sound_list (n + n) side' (appts list) crosses)
             (λ v k. omega (arith, degree_load v (appts list), padded_loads P D (appts list) z.listed z.loads v)))
 
-        module _ {u₄ : ℕ} {s₄ : List ℕ} (w : DiagonalSet n 0 P (ends_at q) (graph_base q) (2 * P) u₃ s₃ u₄ s₄) where
+        module _ {u₄ : ℕ} {s₄ : List ℕ} (w : DiagonalSet n at (2 * P) u₃ s₃ u₄ s₄) where
           len₄ : length s₄ ≡ 128 * q
           len₄ = w.changes.len ∙ len₃
 

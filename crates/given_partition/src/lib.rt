@@ -11,6 +11,7 @@ ghost use Rattle.appointments.specs.Appointments.{appts};
 ghost use Rattle.edge_color.specs.Room.{ColorFits, Colored};
 ghost use Rattle.given_partition.specs.Steps.{left_side, right_side, Sided, Prepared, SlotsPlanned};
 
+use euler::RegularGraph;
 use list_pairs::Bases;
 use mark::Mark;
 use matching::Table;
@@ -38,7 +39,6 @@ fn prepare(s: &mut [u32], list: &[u16], p: usize, d: usize, q: usize, left: usiz
 {
     let mut m = Mark {
         taken: FIRST_MARK * q,
-        there: s.len(),
     };
     let at = Bases {
         left: 0,
@@ -55,15 +55,12 @@ fn prepare(s: &mut [u32], list: &[u16], p: usize, d: usize, q: usize, left: usiz
 }
 
 // `rbmg_edge_color` on a scratch whose first `taken` words are taken.
-fn color(s: &mut [u32], taken: usize, t: Table, g: usize, n: usize, d: usize, out: usize)
-    requires { ColorFits t s.old taken g n d out }
-    ensures { Colored t s.old s.new taken taken g n d out }
+fn color(s: &mut [u32], taken: usize, t: Table, graph: RegularGraph, out: usize)
+    requires { ColorFits t s.old taken graph.g graph.n graph.d out }
+    ensures { Colored t s.old s.new taken taken graph.g graph.n graph.d out }
 {
-    let mut m = Mark {
-        taken,
-        there: s.len(),
-    };
-    edge_color::rbmg_edge_color(s, &mut m, t, g, n, d, out);
+    let mut m = Mark { taken };
+    edge_color::rbmg_edge_color(s, &mut m, t, graph, out);
 }
 
 // The slots of a list whose first `left` parties, as `two_color` wrote them, stand on the left: the graph is evened out and
@@ -92,7 +89,8 @@ pub fn bipartite_edge_color_given_partition(
         diag: 2 * p,
         pairs,
     };
-    color(s, FIRST_MARK * q, t, g, n, d, out);
+    let graph = RegularGraph { g, n, d };
+    color(s, FIRST_MARK * q, t, graph, out);
     let links = g;
     let chains = Chains { n, d, out, links };
     slots::give_slots(s, slots, chains, list.len() / 2, APAIR * q);

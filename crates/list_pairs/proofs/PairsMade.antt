@@ -8,13 +8,14 @@ use lib.ListN.{length, take}
 use lib.Seq.{take_all}
 use Rattle.words.specs.Basics.{count}
 use Rattle.words.specs.Words.{word, put_word}
+use Rattle.words.specs.Clearing.{Cleared}
 use Rattle.words.proofs.Ranges.{changes_stays, three_trans, three_keeps, three_within, three_middle}
 use Rattle.appointments.specs.Appointments.{appts}
 use Rattle.appointments.proofs.Flat.{appts_count, load_count}
 use Rattle.multigraph.specs.Steps.{span}
 use Rattle.regular_graph.specs.Evening.{add_appointments}
 use Rattle.list_pairs.specs.Contract.{CanPair, PairsMade}
-use Rattle.list_pairs.specs.Rows.{rows_from, Cleared, RowsFit, RowsFilled}
+use Rattle.list_pairs.specs.Rows.{rows_from, RowsFit, RowsFilled}
 use Rattle.list_pairs.specs.Representatives.{RepsFit, RepsDone}
 use Rattle.list_pairs.specs.FromList.{PairsChange, Building, Built}
 use Rattle.list_pairs.proofs.PlainLaws.{plain_is}
@@ -25,7 +26,7 @@ use Rattle.list_pairs.specs.declared.Bases.{Bases}
 use Rattle.words.proofs.Puts.{Put, put_is}
 
 module _ (list : List ℕ) (p d : ℕ) (at : Bases) (u : ℕ) (s : List ℕ)
-    (h : CanPair list p d at.ends at.apair at.g u s) where
+    (h : CanPair list p d at u s) where
   halves : (f : ℕ) → f < length list → word list f < p
   halves = listed_half list p h.even h.listed
 
@@ -129,7 +130,7 @@ module _ (list : List ℕ) (p d : ℕ) (at : Bases) (u : ℕ) (s : List ℕ)
           (λ i m a b c. o_away i (λ q. c (omega arith) (omega arith)) (λ q. c (omega arith) (omega arith)))))
 
       -- after the last appointment the pairs are made
-      pub pairs_made : (e : List ℕ) → Built list at (length list / 2) o e → PairsMade list at.ends at.apair at.g u s u e
+      pub pairs_made : (e : List ℕ) → Built list at (length list / 2) o e → PairsMade list at u s u e
       pairs_made e b =
           record {
             paired =

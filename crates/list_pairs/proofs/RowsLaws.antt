@@ -7,12 +7,13 @@ use native.Mathlib.Decide.{ℕ_discrete}
 use lib.ListN.{length, take}
 use Rattle.words.specs.Basics.{is, count}
 use Rattle.words.specs.Words.{word, put_word}
+use Rattle.words.specs.Clearing.{Cleared}
 use Rattle.words.proofs.Sums.{is_same, is_ne, count_take_le}
 use Rattle.words.proofs.Frames.{keeps_trans, keeps_less}
 use Rattle.words.proofs.Below.{rows_apart, row_inside}
 use Rattle.appointments.proofs.Flat.{count_more}
 use Rattle.list_pairs.specs.declared.rows.RowBases.{RowBases}
-use Rattle.list_pairs.specs.Rows.{row, counter, Cleared, Pushes, row_pushed, RowsFit, RowsFilled}
+use Rattle.list_pairs.specs.Rows.{row, counter, Pushes, row_pushed, RowsFit, RowsFilled}
 use Rattle.words.proofs.Puts.{Put, put_is}
 
 -- ── clearing ──

@@ -2,6 +2,7 @@
 -- nothing.
 use Rattle.std.specs.Prelude.{ℕ, ◌+◌, ◌*◌, ◌<◌, ◌≤◌, ◌≡◌, List, length, take}
 use Rattle.words.specs.Basics.{count}
+use Rattle.words.specs.Appending.{CanAppend}
 use Rattle.words.specs.Frames.{Keeps}
 use Rattle.words.specs.Words.{word, put_word, word_limit}
 use Rattle.list_pairs.specs.declared.rows.RowBases.{RowBases}
@@ -18,15 +19,9 @@ counter s rs v = word s (rs.counts + v)
 abbrev pub rows_from : ℕ → ℕ → ℕ → RowBases
 rows_from parties d u = record { parties = parties; d = d; counts = u; rows = u + parties }
 
--- n words at b are 0
-pub record Cleared (b n : ℕ) (s t : List ℕ) : Type 0 where
-  pub zero : (v : ℕ) → v < n → word t (b + v) ≡ 0
-  pub keeps : Keeps b s t
-
 -- the row of party v has a place for one half-edge more
-pub record Pushes (rs : RowBases) (v : ℕ) (s : List ℕ) : Type 0 where
-  pub count : rs.counts + v < length s
-  pub next : rs.rows + rs.d * v + counter s rs v < length s
+abbrev pub Pushes : RowBases → ℕ → List ℕ → Type 0
+Pushes rs v s = CanAppend (rs.counts + v) (rs.rows + rs.d * v) s
 
 -- the words after half-edge h has gone to the end of the row of party v
 abbrev pub row_pushed : RowBases → ℕ → ℕ → List ℕ → List ℕ

@@ -1,7 +1,6 @@
 // Copies are added to a pair, or the pair is new: `add_edge` of module 1, in a graph in which the entry at place i has number i, so
 // that a pair's number is its place. The graph at g: a header, how many pairs it has, and for each its number and its copies.
 ghost use Rattle.std.specs.Prelude.{◌≡◌, ◌+◌, ◌*◌, ◌<◌, length};
-ghost use Rattle.words.specs.Words.{word_limit};
 ghost use Rattle.list_pairs.specs.Adding.{pushed, HasPlace, AddsPair};
 
 use crate::Bases;
@@ -14,11 +13,9 @@ impl Bases {
         requires { (self.ends + 2 * e.0 + 1 < length s.old) × (self.g + 3 + 2 * e.0 < length s.old) }
         ensures { s.new ≡ pushed self.ends self.g e.0 l.0 r.0 copies s.old }
     {
-        let m = e.0 as usize;
-        let v = l.0 as usize;
-        let w = r.0 as usize;
-        set_word(s, self.ends + 2 * m, v);
-        set_word(s, self.ends + 2 * m + 1, w);
+        let m = e.index();
+        set_word(s, self.ends + 2 * m, l.index());
+        set_word(s, self.ends + 2 * m + 1, r.index());
         set_word(s, self.g + 2 + 2 * m, m);
         set_word(s, self.g + 3 + 2 * m, copies);
         set_word(s, self.g + 1, m + 1);
@@ -26,17 +23,16 @@ impl Bases {
 
     // `add_edge` where the pair's number is known: pair `e` gets the copies, or is new if it is the next number.
     pub fn add_pair(self, s: &mut [u32], e: EdgeIndex, l: NodeIndex, r: NodeIndex, copies: usize)
-        requires copies_lt_word_limit { copies < word_limit }
-        requires has_place { HasPlace self.ends self.g s.old }
+        requires { HasPlace self.ends self.g s.old }
         ensures { AddsPair self.ends self.g e.0 l.0 r.0 copies s.old s.new }
     {
-        let i = e.0 as usize;
+        let i = e.index();
         let m = word_at(s, self.g + 1);
         if i < m {
             let c = word_at(s, self.g + 3 + 2 * i);
-            set_word(s, self.g + 3 + 2 * i, c + copies);
+            set_word(s, self.g + 3 + 2 * i, c.wrapping_add(copies));
             return;
         }
-        self.push_pair(s, EdgeIndex(m as u32), l, r, copies);
+        self.push_pair(s, EdgeIndex::new(m), l, r, copies);
     }
 }

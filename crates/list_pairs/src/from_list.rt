@@ -1,29 +1,27 @@
 // The pairs of the list, one appointment after the other: module 8, "pairs from the list".
 ghost use Rattle.std.specs.Prelude.{◌≡◌, ◌+◌, ◌/◌, ◌<◌, length};
-ghost use Rattle.words.specs.Words.{put_word, word_limit};
 ghost use Rattle.list_pairs.specs.Contract.{CanPair, PairsMade};
 ghost use Rattle.list_pairs.specs.FromList.{pair_of, Building, Built};
 
 use crate::Bases;
 use crate::representatives::Reps;
-use crate::rows::{RowBases, clear_words};
-use words::{EdgeIndex, NodeIndex, put, set_word, word_at};
+use crate::rows::RowBases;
+use mark::Mark;
+use multigraph::head;
+use words::{EdgeIndex, NodeIndex, clear, set_word, word_at};
 
 impl Bases {
     // The number of appointment `i`'s pair, for which its representative stands at `apair`: that of an earlier appointment, or the
     // next number.
     fn pair_of(self, s: &[u32], i: usize) -> EdgeIndex
-        requires small { (self.apair < word_limit) × (i < word_limit) }
-        requires i_in_bounds { (self.apair + i < length s.now) × (self.g + 1 < length s.now) }
+        requires { (self.apair + i < length s.now) × (self.g + 1 < length s.now) }
         ensures { result.0 ≡ pair_of self.g self.apair i s.now }
     {
         let j = word_at(s, self.apair + i);
         if j < i {
-            let e = word_at(s, self.apair + j);
-            return EdgeIndex(e as u32);
+            return EdgeIndex::new(word_at(s, self.apair + j));
         }
-        let e = word_at(s, self.g + 1);
-        EdgeIndex(e as u32)
+        EdgeIndex::new(word_at(s, self.g + 1))
     }
 
     // One copy for appointment `i`: its pair gets it, and the pair's number takes the place of the representative.
@@ -35,9 +33,8 @@ impl Bases {
         let e = self.pair_of(s, i);
         let x = word_at(list, 2 * i);
         let y = word_at(list, 2 * i + 1);
-        self.add_pair(s, e, NodeIndex(x as u32), NodeIndex(y as u32), 1);
-        let k = e.0 as usize;
-        set_word(s, self.apair + i, k);
+        self.add_pair(s, e, NodeIndex::new(x), NodeIndex::new(y), 1);
+        set_word(s, self.apair + i, e.index());
     }
 
     // One copy for each appointment, in list order.
@@ -50,19 +47,11 @@ impl Bases {
         }
     }
 
-    // A graph without pairs.
-    fn no_pairs(self, s: &mut [u32])
-        ensures { s.new ≡ put_word (put_word s.old self.g self.g) (self.g + 1) 0 }
-    {
-        put(s, self.g, self.g);
-        put(s, self.g + 1, 0);
-    }
-
     // The same as `pairs_from_list`, where the words from `u` on are free. What the map holds at first makes no difference; it is
     // cleared so that no word is read before it is written, which a memory checker would report.
-    pub(crate) fn pairs_at(self, s: &mut [u32], u: usize, list: &[u16], p: usize, d: usize)
-        requires { CanPair list.now p d self.ends self.apair self.g u s.old }
-        ensures { PairsMade list.now self.ends self.apair self.g u s.old u s.new }
+    fn pairs_at(self, s: &mut [u32], u: usize, list: &[u16], p: usize, d: usize)
+        requires { CanPair list.now p d self u s.old }
+        ensures { PairsMade list.now self u s.old u s.new }
     {
         let rows = RowBases {
             parties: p,
@@ -71,7 +60,7 @@ impl Bases {
             rows: u + p,
         };
         let map = rows.rows + d * p;
-        clear_words(s, map, p);
+        clear(s, map, p);
         rows.fill_rows(s, list);
         let reps = Reps {
             rows,
@@ -79,7 +68,19 @@ impl Bases {
             apair: self.apair,
         };
         reps.rep_rows(s, list);
-        self.no_pairs(s);
+        head(s, self.g, 0); // no pairs yet
         self.add_appointments(s, list);
     }
+}
+
+// The pairs of the list, one copy for each appointment, in list order: the table of their ends, the graph, and each
+// appointment's pair. Takes the rows and the map, and gives them back.
+pub fn pairs_from_list(s: &mut [u32], m: &mut Mark, list: &[u16], p: usize, d: usize, at: Bases)
+    requires { CanPair list.now p d at m.old.taken s.old }
+    ensures { PairsMade list.now at m.old.taken s.old m.new.taken s.new × (m.new ≡ m.old) }
+{
+    let n = p + d * p + p;
+    let u = m.take(n);
+    at.pairs_at(s, u, list, p, d);
+    m.give_back(u);
 }

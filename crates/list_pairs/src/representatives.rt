@@ -21,19 +21,18 @@ pub(crate) struct Reps {
 }
 
 // The half-edge at the other end of the same appointment.
+#[tactic(auto, using(crate::proofs::RepsLaws::flipped))]
 fn other_half(h: usize) -> usize
-    requires { h < word_limit }
     ensures { result ≡ mate h }
 {
-    2 * (h / 2) + (1 - h % 2)
+    h ^ 1
 }
 
 impl Reps {
     // The representative of the appointment of half-edge `h`: what the map has for the other end, if that is an earlier appointment with
     // its ends; else itself, and the map has it from now on.
     fn find_rep(self, s: &mut [u32], list: &[u16], h: usize)
-        requires h_small { h < word_limit }
-        requires finds { Finds list.now self.map self.apair h s.old }
+        requires { Finds list.now self.map self.apair h s.old }
         ensures { RepFound list.now self.map self.apair h s.old s.new }
     {
         let i = h / 2;
@@ -55,7 +54,7 @@ impl Reps {
         requires w_lt_parties { w.0 < self.rows.parties }
         ensures { RowDone list.now self.rows.parties self.map self.apair w.0 s.old s.new }
     {
-        let v = w.0 as usize;
+        let v = w.index();
         let n = word_at(s, self.rows.counts + v);
         let from = self.rows.rows + self.rows.d * v;
         for t in 0..n {
@@ -70,7 +69,7 @@ impl Reps {
         ensures { RepsDone list.now self.rows.parties self.map self.apair self.rows.parties s.old s.new }
     {
         for v in 0..self.rows.parties {
-            self.rep_row(s, list, NodeIndex(v as u32));
+            self.rep_row(s, list, NodeIndex::new(v));
         }
     }
 }

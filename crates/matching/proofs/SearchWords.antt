@@ -4,7 +4,7 @@ use mathlib.Core.Path.{◌≡◌, refl, sym, ◌∙◌, ap}
 use mathlib.Core.List.{List, []}
 use mathlib.Core.Logic.{⊎_elim}
 use native.Mathlib.Omega.{arith}
-use native.Mathlib.Nat.{mul_comm, mul-one, mul-le-mul_left, mul-le-mul_right, one-mul}
+use native.Mathlib.Nat.{mul_comm, mul-one, mul-le-mul_left}
 use Rattle.words.specs.Basics.{is}
 use Rattle.words.specs.Words.{word}
 use Rattle.words.proofs.Frames.{stays_trans, keeps_stays}
@@ -84,39 +84,11 @@ module _ (t : Table) (g n k mark : ℕ) (s : List ℕ) (can : CanSearch t g n k 
       same e =
           column_once (word s (l + 2 * j)) s l n (omega (arith, can.partition.once (word s (l + 2 * j)) (below j b))) i j a b e refl
 
-  -- every address fits a word
-  pub record Addresses : Type 0 where
-    pub places : t.places < 4294967296
-    pub diag : t.diag < 4294967296
-    pub rows : t.pairs + n < 4294967296
-    pub graph : g < 4294967296
-    pub top : mark < 4294967296
-
-  pub addresses : Addresses
-  addresses =
-      record {
-        places = omega (arith, can.after_places, can.below, can.room, can.short, can.some);
-        diag = omega (arith, can.tabled.after_diag, can.after_places, can.below, can.room, can.short, can.some);
-        rows = omega (arith, can.after_places, can.below, can.room, can.short, can.some);
-        graph = omega (arith, can.below, can.room, can.short, can.some);
-        top = omega (arith, can.room, can.short, can.some);
-      }
-
   -- the graph and its copy lie inside the words
   pub copy_inside : InsideBoth g mark (size s g) s
   copy_inside = (omega (arith, can.below, can.room), omega (arith, few_pairs, can.room, can.some))
 
   module _ (p : ℕ) (is : p ≡ 2 ^ log_up (k * n)) where
-    -- and so do α and β
-    pub shares_fit : (p / k < 4294967296) × (p - k * (p / k) < 4294967296)
-    shares_fit = (omega (arith, c.small, c.times, mul-le-mul_right (p / k) one, one-mul (p / k)), omega (arith, c.small))
-      where
-        c : Cut n k p
-        c = cut n k p is can.several can.some can.most
-
-        one : 1 ≤ k
-        one = omega (arith, can.several)
-
     c : Cut n k p
     c = cut n k p is can.several can.some can.most
 

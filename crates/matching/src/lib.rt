@@ -14,7 +14,9 @@ ghost use Rattle.words.specs.PowersOfTwo.{log_up};
 ghost use Rattle.matching.specs.Choosing.{flagged_by, flagged_entry, Whole, fewer, Chooses, Copies, Copying, CanCopy, InsideBoth, SideBySide, GoesOn};
 ghost use Rattle.matching.specs.Searched.{AddsDiagonal, BuildsGraph, CanHalve, Halved, CanHalveAll, HalvedAll, CanSearch, SearchDone, SearchesDone, ReadsMatching, CanFind, MatchingFound};
 
+use euler::RegularGraph;
 use mark::Mark;
+use multigraph::{MappedGraph, PairNumbers, head, pair_at};
 use words::{EdgeIndex, get, put, set_word, word_at};
 
 // Where the table of a regular graph lies: the ends, two words for each pair and then for left i with right i; the map of
@@ -45,7 +47,7 @@ pub fn next_power_of_two(m: usize) -> usize
 
 // What entry `i` of a graph's own words counts: nothing if it isn't flagged, else 1, or its copies.
 fn flagged_at(g: &[u32], pairs: usize, count: Count, i: usize) -> usize
-    requires { (i < word_limit) × (3 + 2 * i < length g.now) }
+    requires { 3 + 2 * i < length g.now }
     ensures { (result ≡ flagged_entry count g.now pairs 0 i) × (result < word_limit) }
 {
     let e = word_at(g, 2 + 2 * i);
@@ -59,6 +61,7 @@ fn flagged_at(g: &[u32], pairs: usize, count: Count, i: usize) -> usize
 }
 
 // How many pairs of a graph are flagged, or how many copies these have. The slice holds the graph's own words.
+#[tactic(auto, using(crate::proofs::Counts::flagged_sum, crate::proofs::Counts::flagged_more, crate::proofs::Counts::flagged_none))]
 fn flagged(g: &[u32], pairs: usize, count: Count) -> usize
     requires { Whole g.now }
     ensures { (ends : ℕ) → result ≡ flagged_by count (graph_at g.now ends pairs 0) }
@@ -89,141 +92,176 @@ pub fn fewer_flagged<'a>(
     second
 }
 
-// The base of the half that goes on, where the two lie side by side.
-fn chosen(s: &[u32], first: usize, room: usize, pairs: usize, count: Count) -> usize
-    requires { (0 < room) × (first + room + room ≤ length s.now) × (2 + 2 * size s.now first ≤ room) × (2 + 2 * size s.now (first + room) ≤ room) }
-    ensures { Chooses first room pairs count s.now result × (result < word_limit) }
-{
-    let middle = first + room;
-    let end = middle + room;
-    let r = fewer_flagged(&s[first..middle], &s[middle..end], pairs, count);
-    get(r, 0)
-}
-
 // A copy of the graph at `from` to `to`, every pair's copies times `alpha`.
 #[derive(Clone, Copy)]
 struct GraphCopy {
     from: usize,
     to: usize,
     alpha: usize,
-    ghost from_small: { from < word_limit },
     ghost to_small: { to < word_limit },
-    ghost alpha_small: { alpha < word_limit },
 }
 
 impl GraphCopy {
     // Copies entry `i`.
     fn copy_entry(self, s: &mut [u32], i: usize)
-        requires i_small { i < word_limit }
-        requires inside_both { InsideBoth self.from self.to (i + 1) s.old }
+        requires { InsideBoth self.from self.to (i + 1) s.old }
         ensures { s.new ≡ put_word (put_word s.old (self.to + 2 + 2 * i) (word s.old (self.from + 2 + 2 * i))) (self.to + 3 + 2 * i) (self.alpha * word s.old (self.from + 3 + 2 * i)) }
     {
         let e = word_at(s, self.from + 2 + 2 * i);
         let c = word_at(s, self.from + 3 + 2 * i);
         set_word(s, self.to + 2 + 2 * i, e);
-        set_word(s, self.to + 3 + 2 * i, self.alpha * c);
+        set_word(s, self.to + 3 + 2 * i, self.alpha.wrapping_mul(c));
     }
 
     // Copies `m` entries.
+    #[tactic(auto, using(crate::proofs::CopyLaws::copying_more))]
     fn copy_entries(self, s: &mut [u32], m: usize)
-        requires m_small { m < word_limit }
-        requires inside_both { InsideBoth self.from self.to m s.old }
+        requires { InsideBoth self.from self.to m s.old }
         ensures { m ≡ size s.old self.from → CanCopy self.from self.to self.alpha s.old → Copying self.from self.to self.alpha m s.old s.new }
     {
         for i in 0..m {
             self.copy_entry(s, i);
         }
     }
+
+    // Copies the graph.
+    fn copy(self, s: &mut [u32])
+        requires { InsideBoth self.from self.to (size s.old self.from) s.old }
+        ensures { Copies self.from self.to self.alpha s.old s.new }
+    {
+        let m = word_at(s, self.from + 1);
+        self.copy_entries(s, m);
+        head(s, self.to, m);
+    }
 }
 
-// Copies the graph at `from` to `to`, every pair's copies times `alpha`.
-fn copy_times(s: &mut [u32], from: usize, to: usize, alpha: usize)
-    requires from_lt_word_limit { from < word_limit }
-    requires to_lt_word_limit { to < word_limit }
-    requires alpha_lt_word_limit { alpha < word_limit }
-    requires inside_both { InsideBoth from to (size s.old from) s.old }
-    ensures { Copies from to alpha s.old s.new }
-{
-    let m = word_at(s, from + 1);
-    let copy = GraphCopy { from, to, alpha };
-    copy.copy_entries(s, m);
-    set_word(s, to, to);
-    set_word(s, to + 1, m);
+// Two halves side by side at `first`, each with so much room, and what decides between them.
+#[derive(Clone, Copy)]
+struct Halves {
+    first: usize,
+    room: usize,
+    pairs: usize,
+    count: Count,
+    ghost some_room: { 0 < room },
 }
 
-// Of the two halves at `first`, side by side, the one that goes on is copied down to `h`.
-fn go_on(s: &mut [u32], first: usize, room: usize, pairs: usize, h: usize, count: Count)
-    requires { (0 < room) × (h < word_limit) × SideBySide first room h s.old }
-    ensures { GoesOn first room pairs h count s.old s.new }
-{
-    let from = chosen(s, first, room, pairs, count);
-    copy_times(s, from, h, 1);
+impl Halves {
+    // The base of the half that goes on.
+    fn chosen(self, s: &[u32]) -> usize
+        requires inside { self.first + self.room + self.room ≤ length s.now }
+        requires first_fits { 2 + 2 * size s.now self.first ≤ self.room }
+        requires second_fits { 2 + 2 * size s.now (self.first + self.room) ≤ self.room }
+        ensures { Chooses self.first self.room self.pairs self.count s.now result × (result < word_limit) }
+    {
+        let middle = self.first + self.room;
+        let end = middle + self.room;
+        let r = fewer_flagged(
+            &s[self.first..middle],
+            &s[middle..end],
+            self.pairs,
+            self.count,
+        );
+        get(r, 0)
+    }
+
+    // The half that goes on is copied down to `h`.
+    fn go_on(self, s: &mut [u32], h: usize)
+        requires { (h < word_limit) × SideBySide self.first self.room h s.old }
+        ensures { GoesOn self.first self.room self.pairs h self.count s.old s.new }
+    {
+        let from = self.chosen(s);
+        let half = GraphCopy {
+            from,
+            to: h,
+            alpha: 1,
+        };
+        half.copy(s);
+    }
 }
 
-// The graph that a search splits: it stands at `h`, on `n` parties a side, and no party is in more than `width` of its pairs. What
-// decides between two halves is `count`.
+// The graph that a search splits, in which no party is in more than `d` pairs. What decides between two halves is `count`.
 #[derive(Clone, Copy)]
 struct SearchGraph {
     t: Table,
-    h: usize,
-    n: usize,
-    width: usize,
+    graph: RegularGraph,
     count: Count,
     ghost places_small: { t.places < word_limit },
     ghost diag_small: { t.diag < word_limit },
-    ghost rows_small: { t.pairs + n < word_limit },
-    ghost h_small: { h < word_limit },
+    ghost rows_small: { t.pairs + graph.n < word_limit },
+    ghost h_small: { graph.g < word_limit },
 }
 
 impl SearchGraph {
+    // The graph with the table's map of places.
+    fn mapped(self) -> MappedGraph
+        ensures { (result.g ≡ self.graph.g) × (result.places ≡ self.t.places) }
+    {
+        MappedGraph {
+            g: self.graph.g,
+            places: self.t.places,
+        }
+    }
+
     // `beta` copies of left `i` with right `i`: the pair that has these ends, or a new one with the number of their row.
     fn add_pair(self, s: &mut [u32], beta: usize, i: usize)
-        requires i_lt_n { i < self.n }
-        requires beta_small { beta < word_limit }
-        ensures { AddsEdge self.t.places self.h (word s.old (self.t.diag + i)) (self.t.pairs + i) beta s.old s.new }
+        requires { i < self.graph.n }
+        ensures { AddsEdge self.t.places self.graph.g (word s.old (self.t.diag + i)) (self.t.pairs + i) beta s.old s.new }
     {
-        let e = get(s, self.t.diag + i);
-        let key = EdgeIndex(e as u32);
-        let number = EdgeIndex((self.t.pairs + i) as u32);
-        multigraph::add_edge(s, self.t.places, self.h, key, number, beta);
+        let key = pair_at(s, self.t.diag + i);
+        let number = EdgeIndex::new(self.t.pairs + i);
+        self.mapped().add_edge(s, key, number, beta);
     }
 
     // `beta` copies of each left party with the right party of the same place, in order.
     fn add_diagonal(self, s: &mut [u32], beta: usize)
-        requires { beta < word_limit }
-        ensures { AddsDiagonal self.t self.h self.n beta s.old s.new }
+        ensures { AddsDiagonal self.t self.graph.g self.graph.n beta s.old s.new }
     {
-        multigraph::map_places(s, self.t.places, self.h, self.t.diag, self.n);
-        for i in 0..self.n {
+        let keys = PairNumbers {
+            at: self.t.diag,
+            n: self.graph.n,
+        };
+        self.mapped().map_places(s, keys);
+        for i in 0..self.graph.n {
             self.add_pair(s, beta, i);
         }
     }
 
     // Builds it from the graph at `g`.
     fn build(self, s: &mut [u32], g: usize, alpha: usize, beta: usize)
-        requires { (g < word_limit) × (alpha < word_limit) × (beta < word_limit) × InsideBoth g self.h (size s.old g) s.old }
-        ensures { BuildsGraph self.t g self.h self.n alpha beta s.old s.new }
+        requires { InsideBoth g self.graph.g (size s.old g) s.old }
+        ensures { BuildsGraph self.t g self.graph.g self.graph.n alpha beta s.old s.new }
     {
-        copy_times(s, g, self.h, alpha);
+        let copy = GraphCopy {
+            from: g,
+            to: self.graph.g,
+            alpha,
+        };
+        copy.copy(s);
         self.add_diagonal(s, beta);
     }
 
     // One halving: both halves are pushed, and the one that goes on is copied down to `h`.
     fn halve_once(self, s: &mut [u32], m: &mut Mark)
-        requires { CanHalve self.t self.h self.n self.width m.old.taken s.old × (m.old.taken + 16 * (self.n * (self.width + 1)) ≤ m.old.there) }
-        ensures { Halved self.t self.h self.n self.count m.old.taken m.new.taken s.old s.new × (m.new ≡ m.old) }
+        requires { CanHalve self.t self.graph.g self.graph.n self.graph.d m.old.taken s.old }
+        ensures { Halved self.t self.graph.g self.graph.n self.count m.old.taken m.new.taken s.old s.new × (m.new ≡ m.old) }
     {
+        let RegularGraph { g, n, d } = self.graph;
         let u = m.taken;
-        let room = 2 * (self.n * (self.width + 1));
-        splitting::rbmg_split_into_two(s, m, self.t.ends, self.h, self.n, self.width);
-        go_on(s, u, room, self.t.pairs, self.h, self.count);
+        let halves = Halves {
+            first: u,
+            room: 2 * (n * (d + 1)),
+            pairs: self.t.pairs,
+            count: self.count,
+        };
+        splitting::rbmg_split_into_two(s, m, self.t.ends, g, n, d);
+        halves.go_on(s, g);
         m.give_back(u);
     }
 
     // From degree `degree`, a power of two, down to degree 1.
     fn halve_all(self, s: &mut [u32], m: &mut Mark, degree: usize)
-        requires { CanHalveAll self.t self.h self.n self.width degree m.old.taken s.old × (m.old.taken + 16 * (self.n * (self.width + 1)) ≤ m.old.there) }
-        ensures { HalvedAll self.t self.h self.n self.width degree self.count m.old.taken m.new.taken s.old s.new × (m.new ≡ m.old) }
+        requires { CanHalveAll self.t self.graph.g self.graph.n self.graph.d degree m.old.taken s.old }
+        ensures { HalvedAll self.t self.graph.g self.graph.n self.graph.d degree self.count m.old.taken m.new.taken s.old s.new × (m.new ≡ m.old) }
     {
         if degree < 2 {
             return;
@@ -242,46 +280,37 @@ fn flagged_in(s: &[u32], h: usize, room: usize, pairs: usize) -> usize
     flagged(&s[h..end], pairs, Count::FlaggedPairs)
 }
 
-// One search of the graph at `g`: what it leaves stands at the mark. Gives how many flagged pairs are among it.
-fn search(
-    s: &mut [u32],
-    m: &mut Mark,
-    t: Table,
-    g: usize,
-    n: usize,
-    k: usize,
-    count: Count,
-) -> usize
-    requires { CanSearch t g n k m.old.taken s.old × (m.old.taken + 18 * (n * (k + 2)) ≤ m.old.there) }
-    ensures { SearchDone t g n k count m.old.taken m.new.taken result s.old s.new × (m.new ≡ m.old) }
+// One search of a graph: what it leaves stands at the mark. Gives how many flagged pairs are among it.
+fn search(s: &mut [u32], m: &mut Mark, t: Table, graph: RegularGraph, count: Count) -> usize
+    requires { CanSearch t graph.g graph.n graph.d m.old.taken s.old }
+    ensures { SearchDone t graph.g graph.n graph.d count m.old.taken m.new.taken result s.old s.new × (m.new ≡ m.old) }
 {
+    let RegularGraph { g, n, d: k } = graph;
     let room = 2 * (n * (k + 2));
     let h = m.take(room);
     let degree = next_power_of_two(k * n);
     let alpha = degree / k;
-    let graph = SearchGraph {
+    let split = SearchGraph {
         t,
-        h,
-        n,
-        width: k + 1,
+        graph: RegularGraph { g: h, n, d: k + 1 },
         count,
     };
-    graph.build(s, g, alpha, degree - k * alpha);
-    graph.halve_all(s, m, degree);
+    split.build(s, g, alpha, degree - k * alpha);
+    split.halve_all(s, m, degree);
     m.give_back(h);
     flagged_in(s, h, room, t.pairs)
 }
 
 // The search that counts flagged pairs; and if one survives, the search that counts their copies.
-fn searches(s: &mut [u32], m: &mut Mark, t: Table, g: usize, n: usize, k: usize)
-    requires { CanSearch t g n k m.old.taken s.old × (m.old.taken + 18 * (n * (k + 2)) ≤ m.old.there) }
-    ensures { SearchesDone t g n k m.old.taken m.new.taken s.old s.new × (m.new ≡ m.old) }
+fn searches(s: &mut [u32], m: &mut Mark, t: Table, graph: RegularGraph)
+    requires { CanSearch t graph.g graph.n graph.d m.old.taken s.old }
+    ensures { SearchesDone t graph.g graph.n graph.d m.old.taken m.new.taken s.old s.new × (m.new ≡ m.old) }
 {
-    let flagged = search(s, m, t, g, n, k, Count::FlaggedPairs);
+    let flagged = search(s, m, t, graph, Count::FlaggedPairs);
     if flagged == 0 {
         return;
     }
-    search(s, m, t, g, n, k, Count::FlaggedCopies);
+    search(s, m, t, graph, Count::FlaggedCopies);
 }
 
 // Writes the numbers of the `n` pairs of the graph at `h` to `out`.
@@ -290,25 +319,23 @@ pub fn read_matching(s: &mut [u32], h: usize, n: usize, out: usize)
     ensures { ReadsMatching h n out s.old s.new }
 {
     for i in 0..n {
-        let e = get(s, h + 2 + 2 * i);
-        put(s, out + i, e);
+        let e = pair_at(s, h + 2 + 2 * i);
+        put(s, out + i, e.index());
     }
 }
 
-// The perfect matching of the graph at `g`, regular of degree `k` on `n` parties a side: its pair numbers, in order, at `out`.
+// The perfect matching of a regular graph: its pair numbers, in order, at `out`.
 pub fn rbmg_find_perfect_matching(
     s: &mut [u32],
     m: &mut Mark,
     t: Table,
-    g: usize,
-    n: usize,
-    k: usize,
+    graph: RegularGraph,
     out: usize,
 )
-    requires { CanFind t g n k out m.old.taken s.old × (m.old.taken + 18 * (n * (k + 2)) ≤ m.old.there) }
-    ensures { MatchingFound t g n k out m.old.taken m.new.taken s.old s.new × (m.new ≡ m.old) }
+    requires { CanFind t graph.g graph.n graph.d out m.old.taken s.old }
+    ensures { MatchingFound t graph.g graph.n graph.d out m.old.taken m.new.taken s.old s.new × (m.new ≡ m.old) }
 {
     let h = m.taken;
-    searches(s, m, t, g, n, k);
-    read_matching(s, h, n, out);
+    searches(s, m, t, graph);
+    read_matching(s, h, graph.n, out);
 }

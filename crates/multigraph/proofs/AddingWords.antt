@@ -1,6 +1,6 @@
 -- `add_edge` over words is `add_edge`: an entry that the map has for the key gets the copies, or a new entry comes last; and the
 -- map stays what it is. Assumes nothing.
-use Prim.Native.Nat.{ℕ, ◌+◌, ◌*◌, ◌-◌, ◌≤◌, ◌<◌}
+use Prim.Native.Nat.{ℕ, ◌+◌, ◌*◌, ◌≤◌, ◌<◌}
 use mathlib.Core.Path.{◌≡◌, sym, ◌∙◌}
 use mathlib.Core.Bool.{true, false}
 use mathlib.Core.List.{List}
@@ -361,20 +361,11 @@ module _ (ends pairs rows most room : ℕ) (keys : ℕ → ℕ) (n places g key 
 
 -- a place was found
 pub adds_there :
-    (places g key e copies place : ℕ) (s t : List ℕ) → place ≡ word s (places + key) → 0 < place →
-    t ≡ put_word s (g + 1 + 2 * place) (word s (g + 1 + 2 * place) + copies) → AddsEdge places g key e copies s t
-adds_there places g key e copies place s t found pos words ends pairs rows most room keys n h =
-    edge_bumped ends pairs rows most room keys n places g key e copies s h p has t (rw (words, at) bump)
+    (places g key e copies p : ℕ) (s t : List ℕ) → word s (places + key) ≡ p + 1 →
+    t ≡ put_word s (g + 3 + 2 * p) (copies_of s g p + copies) → AddsEdge places g key e copies s t
+adds_there places g key e copies p s t has words ends pairs rows most room keys n h =
+    edge_bumped ends pairs rows most room keys n places g key e copies s h p has t (rw words bump)
   where
-    p : ℕ
-    p = place - 1
-
-    has : word s (places + key) ≡ p + 1
-    has = omega arith
-
-    at : g + 1 + 2 * place ≡ g + 3 + 2 * p
-    at = omega arith
-
     inside : p < size s g
     inside = (key_there ends pairs rows most room keys n places g key e copies s h p has).0
 

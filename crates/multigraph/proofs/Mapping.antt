@@ -180,9 +180,6 @@ abbrev pub Writing : (ℕ → ℕ) → (ℕ → ℕ) → ℕ → ℕ → ℕ →
 Writing at value n i places s t =
     (rows : ℕ) → Writable at value n rows places s → Written (λ j. word s (at j)) value i rows places s t
 
-pub writing_none : (at value : ℕ → ℕ) (n places : ℕ) (s : List ℕ) → Writing at value n 0 places s s
-writing_none at value n places s rows w = written_none (λ j. word s (at j)) value rows places s
-
 -- the keys' own words are not changed
 writing_key :
     (at value : ℕ → ℕ) (n i rows places : ℕ) (s t : List ℕ) → Writable at value n rows places s →

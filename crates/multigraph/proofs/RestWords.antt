@@ -1,6 +1,6 @@
 -- The entries of a graph copied one after the other, each with what is left of it: what stands there is the list without the
 -- copies that the map takes away. Assumes nothing.
-use Prim.Native.Nat.{ℕ, ◌+◌, ◌*◌, ◌-◌, ◌≤◌, ◌<◌}
+use Prim.Native.Nat.{ℕ, ◌+◌, ◌*◌, ◌≤◌, ◌<◌}
 use mathlib.Core.Path.{◌≡◌, refl, sym, ◌∙◌}
 use mathlib.Core.Bool.{Bool, true, false}
 use mathlib.Core.List.{List, append-nil}
@@ -14,7 +14,7 @@ use Rattle.words.specs.Words.{word, put_word}
 use Rattle.words.proofs.Frames.{here, away, length_put}
 use Rattle.multigraph.specs.Stored.{numbered, entry}
 use Rattle.multigraph.specs.Places.{size, number, copies_of}
-use Rattle.multigraph.specs.Steps.{span, without, less_of, loses, rest_left, rest_words, rest_next, Copyable, Copied, CopiesRest}
+use Rattle.multigraph.specs.Steps.{span, without, loses, rest_left, rest_words, rest_next, Copyable, Copied, CopiesRest}
 use Rattle.multigraph.proofs.Spans.{span_same, span_snoc}
 use Rattle.multigraph.proofs.Kept.{EndsKept, ends_below, entry_is}
 use Rattle.multigraph.proofs.Without.{left_some, left_none, without_snoc}
@@ -196,20 +196,3 @@ pub copies_more :
     r ≡ rest_next places g at i t → CopiesRest places g to i at s t → CopiesRest places g to (i + 1) r s u
 copies_more places g to i at r s t u a e f before ends pairs most h =
     rw (e, f) (copied_more ends pairs most places g to s h i at t a (before ends pairs most h))
-
--- what one step reads, writes and answers
-module _ (places g to at i : ℕ) {e l : ℕ} (s : List ℕ)
-    (number_is : e ≡ number s g i) (left_is : l ≡ copies_of s g i - less_of (word s (places + e))) where
-  step_left : l ≡ rest_left places g i s
-  step_left = rw number_is at left_is
-
-  pub step_words :
-      {u v : List ℕ} → u ≡ put_word s (to + 2 + 2 * at) e → v ≡ put_word u (to + 3 + 2 * at) l →
-      v ≡ rest_words places g to at i s
-  step_words x y = rw (y, x, step_left, number_is)
-
-  pub next_more : 0 < l → at + 1 ≡ rest_next places g at i s
-  next_more h = rw (lt-ltb 0 (rest_left places g i s) (omega (arith, step_left)))
-
-  pub next_same : l ≤ 0 → at ≡ rest_next places g at i s
-  next_same h = rw (le-ltb 0 (rest_left places g i s) (omega (arith, step_left)))

@@ -2,8 +2,12 @@
 -- own base, the count of its entries, and then for each entry a pair's number and its copies. Assumes nothing.
 use Rattle.std.specs.Prelude.{ℕ, zero, suc, ◌+◌, ◌*◌, List, [], ◌∷◌, leb}
 use Rattle.words.specs.Basics.{pick}
-use Rattle.words.specs.Words.{word}
+use Rattle.words.specs.Words.{word, put_word}
 use Rattle.multigraph.specs.Multigraph.{Pair, pair, Graph}
+
+-- the head of a graph: its base and the number of its entries
+abbrev pub head_m : ℕ → List ℕ → ℕ → List ℕ
+head_m g s n = put_word (put_word s g g) (g + 1) n
 
 -- A pair by its number: its ends stand in the table; it is flagged if its number is not below `pairs`.
 abbrev pub numbered : List ℕ → ℕ → ℕ → ℕ → ℕ → Pair

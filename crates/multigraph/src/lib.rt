@@ -7,204 +7,204 @@
 // Ported from rustworkx-core, `RegularBipartiteMultiGraph` in bipartite_coloring.rs (Apache License 2.0, see NOTICE).
 #![tactic(auto)]
 
-ghost use Rattle.std.specs.Prelude.{◌≡◌, ℕ, ◌+◌, ◌*◌, ◌-◌, ◌<◌, ◌≤◌, length, take, drop};
+ghost use Rattle.std.specs.Prelude.{◌≡◌, ℕ, ◌+◌, ◌*◌, ◌-◌, ◌<◌, ◌≤◌, length, take, drop, MatchOption};
 ghost use Rattle.words.specs.Words.{word, put_word, word_limit};
 ghost use Rattle.multigraph.specs.Places.{size, copies_of, MapsPlaces, AddsEdge, AddsMatching, RemovesMatching};
+ghost use Rattle.words.specs.Sides.{offset_of};
+ghost use Rattle.multigraph.specs.Stored.{head_m};
 ghost use Rattle.multigraph.specs.Steps.{Writes, less_of, rest_words, rest_next, CopiesRest};
 
-use words::{EdgeIndex, NodeIndex, get, put};
+use words::{EdgeIndex, NodeIndex, Side, get, put};
 
-// The end of pair `e` on one side: the first end (0) or the second (1).
-pub fn end_of(s: &[u32], ends: usize, side: usize, e: EdgeIndex) -> NodeIndex
-    requires { (ends < word_limit) × (side < 2) × (ends + 2 * e.0 + side < length s.now) }
-    ensures { result.0 ≡ word s.now (ends + 2 * e.0 + side) }
+// The end of pair `e` on one side.
+pub fn end_of(s: &[u32], ends: usize, side: Side, e: EdgeIndex) -> NodeIndex
+    requires { ends + 2 * e.0 + offset_of side < length s.now }
+    ensures { result.0 ≡ word s.now (ends + 2 * e.0 + offset_of side) }
 {
-    let i = e.0 as usize;
-    NodeIndex(s[ends + 2 * i + side])
+    NodeIndex(s[ends + 2 * e.index() + side.offset()])
 }
 
-// Puts `x` into the map for the pair whose number stands at `at`.
-fn write_place(s: &mut [u32], places: usize, at: usize, x: usize)
-    requires { places < word_limit }
-    ensures { s.new ≡ put_word s.old (places + word s.old at) x }
+// The pair whose number stands at `at`.
+pub fn pair_at(s: &[u32], at: usize) -> EdgeIndex
+    ensures { result.0 ≡ word s.now at }
 {
     let e = get(s, at);
-    put(s, places + e, x);
+    EdgeIndex::new(e)
 }
 
-// The `n` pairs whose numbers stand at `from` are absent.
-fn write_absent(s: &mut [u32], places: usize, from: usize, n: usize)
-    requires places_lt_word_limit { places < word_limit }
-    requires from_lt_word_limit { from < word_limit }
-    requires n_lt_word_limit { n < word_limit }
-    ensures { Writes (λ (i : ℕ). from + i) (λ (i : ℕ). 0) n places s.old s.new }
+// The head of a graph: its base and the number of its entries.
+pub fn head(s: &mut [u32], g: usize, n: usize)
+    requires { g < word_limit }
+    ensures { s.new ≡ head_m g s.old n }
 {
-    for i in 0..n {
-        write_place(s, places, from + i, 0);
-    }
+    put(s, g, g);
+    put(s, g + 1, n);
 }
 
-// Each entry of the graph at `g` gets its place plus 1.
-fn write_places(s: &mut [u32], places: usize, g: usize)
-    requires places_lt_word_limit { places < word_limit }
-    requires g_lt_word_limit { g < word_limit }
-    ensures { Writes (λ (i : ℕ). g + 2 + 2 * i) (λ (i : ℕ). i + 1) (size s.old g) places s.old s.new }
-{
-    let m = get(s, g + 1);
-    for i in 0..m {
-        write_place(s, places, g + 2 + 2 * i, i + 1);
-    }
-}
-
-// Makes the map ready for the `n` keys at `keys`: each is absent, or stands at its place in the graph at `g`. Nothing else of
-// the map is cleared.
-pub fn map_places(s: &mut [u32], places: usize, g: usize, keys: usize, n: usize)
-    requires places_lt_word_limit { places < word_limit }
-    requires g_lt_word_limit { g < word_limit }
-    requires keys_lt_word_limit { keys < word_limit }
-    requires n_lt_word_limit { n < word_limit }
-    ensures { MapsPlaces places g keys n s.old s.new }
-{
-    write_absent(s, places, keys, n);
-    write_places(s, places, g);
-}
-
-// Adds to the word at `at`.
+// Adds to the word at `at`; the sum is cut to 32 bits.
 fn add_to(s: &mut [u32], at: usize, copies: usize)
-    requires { copies < word_limit }
     ensures { s.new ≡ put_word s.old at (word s.old at + copies) }
 {
     let c = get(s, at);
-    put(s, at, c + copies);
+    put(s, at, c.wrapping_add(copies));
 }
 
-// A new entry, the last one of the graph at `g`, of which `m` stand there.
-fn push_entry(s: &mut [u32], g: usize, m: usize, e: EdgeIndex, copies: usize)
-    requires g_lt_word_limit { g < word_limit }
-    requires m_lt_word_limit { m < word_limit }
-    ensures { s.new ≡ put_word (put_word (put_word s.old (g + 2 + 2 * m) e.0) (g + 3 + 2 * m) copies) (g + 1) (m + 1) }
-{
-    let x = e.0 as usize;
-    put(s, g + 2 + 2 * m, x);
-    put(s, g + 3 + 2 * m, copies);
-    put(s, g + 1, m + 1);
+// The numbers of `n` pairs, side by side at `at`.
+#[derive(Clone, Copy)]
+pub struct PairNumbers {
+    pub at: usize,
+    pub n: usize,
+    pub ghost at_small: { at < word_limit },
+    pub ghost n_small: { n < word_limit },
 }
 
-// `add_edge`: adds copies to the entry whose place the map has for `key`; or a new entry with `number` comes last.
-pub fn add_edge(
-    s: &mut [u32],
-    places: usize,
-    g: usize,
-    key: EdgeIndex,
-    number: EdgeIndex,
-    copies: usize,
-)
-    requires places_lt_word_limit { places < word_limit }
-    requires g_lt_word_limit { g < word_limit }
-    requires copies_lt_word_limit { copies < word_limit }
-    ensures { AddsEdge places g key.0 number.0 copies s.old s.new }
-{
-    let k = key.0 as usize;
-    let place = get(s, places + k);
-    if place > 0 {
-        add_to(s, g + 1 + 2 * place, copies);
-        return;
+// A graph and where its map of places begins.
+#[derive(Clone, Copy)]
+pub struct MappedGraph {
+    pub g: usize,
+    pub places: usize,
+    pub ghost g_small: { g < word_limit },
+    pub ghost places_small: { places < word_limit },
+}
+
+impl MappedGraph {
+    // Puts `x` into the map for the pair whose number stands at `at`.
+    fn write_place(self, s: &mut [u32], at: usize, x: usize)
+        ensures { s.new ≡ put_word s.old (self.places + word s.old at) x }
+    {
+        let e = pair_at(s, at);
+        put(s, self.places + e.index(), x);
     }
-    let m = get(s, g + 1);
-    push_entry(s, g, m, number, copies);
-    put(s, places + k, m + 1);
-}
 
-// One more copy of the pair whose number stands at `at`.
-fn add_number(s: &mut [u32], places: usize, g: usize, at: usize)
-    requires places_lt_word_limit { places < word_limit }
-    requires g_lt_word_limit { g < word_limit }
-    ensures { AddsEdge places g (word s.old at) (word s.old at) 1 s.old s.new }
-{
-    let e = get(s, at);
-    let k = EdgeIndex(e as u32);
-    add_edge(s, places, g, k, k, 1);
-}
-
-// `add_matching`: one copy more of each of the `n` pairs whose numbers stand at `m`.
-pub fn add_matching(s: &mut [u32], places: usize, g: usize, m: usize, n: usize)
-    requires places_lt_word_limit { places < word_limit }
-    requires g_lt_word_limit { g < word_limit }
-    requires m_lt_word_limit { m < word_limit }
-    requires n_lt_word_limit { n < word_limit }
-    ensures { AddsMatching places g m n s.old s.new }
-{
-    map_places(s, places, g, m, n);
-    for i in 0..n {
-        add_number(s, places, g, m + i);
+    // The pairs of these numbers are absent.
+    fn write_absent(self, s: &mut [u32], keys: PairNumbers)
+        ensures { Writes (λ (i : ℕ). keys.at + i) (λ (i : ℕ). 0) keys.n self.places s.old s.new }
+    {
+        for i in 0..keys.n {
+            self.write_place(s, keys.at + i, 0);
+        }
     }
-}
 
-// How many copies of entry `i`, whose number is `e`, stay: one goes where the map says absent.
-fn left_over(s: &[u32], places: usize, g: usize, i: usize, e: EdgeIndex) -> usize
-    requires places_lt_word_limit { places < word_limit }
-    requires g_lt_word_limit { g < word_limit }
-    requires i_lt_word_limit { i < word_limit }
-    ensures { result ≡ copies_of s.now g i - less_of (word s.now (places + e.0)) }
-{
-    let x = e.0 as usize;
-    let c = get(s, g + 3 + 2 * i);
-    let place = get(s, places + x);
-    if place > 0 {
-        return c;
+    // Each entry of the graph gets its place plus 1.
+    fn write_places(self, s: &mut [u32])
+        ensures { Writes (λ (i : ℕ). self.g + 2 + 2 * i) (λ (i : ℕ). i + 1) (size s.old self.g) self.places s.old s.new }
+    {
+        let m = get(s, self.g + 1);
+        for i in 0..m {
+            self.write_place(s, self.g + 2 + 2 * i, i + 1);
+        }
     }
-    c.saturating_sub(1)
-}
 
-// Copies entry `i` of the graph at `g` to place `at` of the one at `to`, with what is left of it. Gives the next place: the
-// same one where nothing is left.
-fn rest_step(s: &mut [u32], places: usize, g: usize, to: usize, at: usize, i: usize) -> usize
-    requires places_lt_word_limit { places < word_limit }
-    requires g_lt_word_limit { g < word_limit }
-    requires to_lt_word_limit { to < word_limit }
-    requires at_le_i { at ≤ i }
-    requires i_lt_word_limit { i < word_limit }
-    ensures { (s.new ≡ rest_words places g to at i s.old) × (result ≡ rest_next places g at i s.old) }
-{
-    let e = get(s, g + 2 + 2 * i);
-    let left = left_over(s, places, g, i, EdgeIndex(e as u32));
-    put(s, to + 2 + 2 * at, e);
-    put(s, to + 3 + 2 * at, left);
-    if left > 0 {
-        return at + 1;
+    // Makes the map ready for these keys: each is absent, or stands at its place in the graph. Nothing else of the map
+    // is cleared.
+    pub fn map_places(self, s: &mut [u32], keys: PairNumbers)
+        ensures { MapsPlaces self.places self.g keys.at keys.n s.old s.new }
+    {
+        self.write_absent(s, keys);
+        self.write_places(s);
     }
-    at
-}
 
-// Copies the entries of the graph at `g` to `to`, each with what is left of it; gives how many there are then.
-fn copy_rest(s: &mut [u32], places: usize, g: usize, to: usize) -> usize
-    requires places_lt_word_limit { places < word_limit }
-    requires g_lt_word_limit { g < word_limit }
-    requires to_lt_word_limit { to < word_limit }
-    ensures { CopiesRest places g to (size s.old g) result s.old s.new }
-{
-    let m = get(s, g + 1);
-    let mut at = 0;
-    for i in 0..m {
-        at = rest_step(s, places, g, to, at, i);
+    // The place of pair `e` among the entries, if the map has one: its word is the place plus 1, or 0.
+    fn place_of(self, s: &[u32], e: EdgeIndex) -> Option<usize>
+        ensures { MatchOption result (word s.now (self.places + e.0) ≡ 0) (λ i. word s.now (self.places + e.0) ≡ i + 1) }
+    {
+        get(s, self.places + e.index()).checked_sub(1)
     }
-    at
-}
 
-// `remove_matching`: writes at `to` the graph at `g` without the `n` pairs whose numbers stand at `m`.
-pub fn remove_matching(s: &mut [u32], places: usize, g: usize, to: usize, m: usize, n: usize)
-    requires places_lt_word_limit { places < word_limit }
-    requires g_lt_word_limit { g < word_limit }
-    requires to_lt_word_limit { to < word_limit }
-    requires m_lt_word_limit { m < word_limit }
-    requires n_lt_word_limit { n < word_limit }
-    ensures { RemovesMatching places g to m n s.old s.new }
-{
-    write_places(s, places, g);
-    write_absent(s, places, m, n);
-    let k = copy_rest(s, places, g, to);
-    put(s, to, to);
-    put(s, to + 1, k);
+    // A new entry, the last one of the graph, of which `m` stand there.
+    fn push_entry(self, s: &mut [u32], m: usize, e: EdgeIndex, copies: usize)
+        requires { m < word_limit }
+        ensures { s.new ≡ put_word (put_word (put_word s.old (self.g + 2 + 2 * m) e.0) (self.g + 3 + 2 * m) copies) (self.g + 1) (m + 1) }
+    {
+        put(s, self.g + 2 + 2 * m, e.index());
+        put(s, self.g + 3 + 2 * m, copies);
+        put(s, self.g + 1, m + 1);
+    }
+
+    // `add_edge`: adds copies to the entry whose place the map has for `key`; or a new entry with `number` comes last.
+    pub fn add_edge(self, s: &mut [u32], key: EdgeIndex, number: EdgeIndex, copies: usize)
+        ensures { AddsEdge self.places self.g key.0 number.0 copies s.old s.new }
+    {
+        if let Some(i) = self.place_of(s, key) {
+            add_to(s, self.g + 3 + 2 * i, copies);
+            return;
+        }
+        let m = get(s, self.g + 1);
+        self.push_entry(s, m, number, copies);
+        put(s, self.places + key.index(), m + 1);
+    }
+
+    // One more copy of the pair whose number stands at `at`.
+    fn add_number(self, s: &mut [u32], at: usize)
+        ensures { AddsEdge self.places self.g (word s.old at) (word s.old at) 1 s.old s.new }
+    {
+        let e = pair_at(s, at);
+        self.add_edge(s, e, e, 1);
+    }
+
+    // `add_matching`: one copy more of each of the pairs of these numbers.
+    pub fn add_matching(self, s: &mut [u32], m: PairNumbers)
+        ensures { AddsMatching self.places self.g m.at m.n s.old s.new }
+    {
+        self.map_places(s, m);
+        for i in 0..m.n {
+            self.add_number(s, m.at + i);
+        }
+    }
+
+    // How many copies of entry `i`, whose number is `e`, stay: one goes where the map says absent.
+    fn left_over(self, s: &[u32], i: usize, e: EdgeIndex) -> usize
+        requires { i < word_limit }
+        ensures { result ≡ copies_of s.now self.g i - less_of (word s.now (self.places + e.0)) }
+    {
+        let c = get(s, self.g + 3 + 2 * i);
+        if self.place_of(s, e).is_some() {
+            return c;
+        }
+        c.saturating_sub(1)
+    }
+
+    // Copies entry `i` to place `at` of the graph at `to`, with what is left of it. Gives the next place: the same one where nothing is
+    // left.
+    fn rest_step(self, s: &mut [u32], to: usize, at: usize, i: usize) -> usize
+        requires to_lt_word_limit { to < word_limit }
+        requires at_le_i { at ≤ i }
+        requires i_lt_word_limit { i < word_limit }
+        ensures { (s.new ≡ rest_words self.places self.g to at i s.old) × (result ≡ rest_next self.places self.g at i s.old) }
+    {
+        let e = pair_at(s, self.g + 2 + 2 * i);
+        let left = self.left_over(s, i, e);
+        put(s, to + 2 + 2 * at, e.index());
+        put(s, to + 3 + 2 * at, left);
+        if left > 0 {
+            return at + 1;
+        }
+        at
+    }
+
+    // Copies the entries to `to`, each with what is left of it; gives how many there are then.
+    fn copy_rest(self, s: &mut [u32], to: usize) -> usize
+        requires { to < word_limit }
+        ensures { CopiesRest self.places self.g to (size s.old self.g) result s.old s.new }
+    {
+        let m = get(s, self.g + 1);
+        let mut at = 0;
+        for i in 0..m {
+            at = self.rest_step(s, to, at, i);
+        }
+        at
+    }
+
+    // `remove_matching`: writes at `to` the graph without the pairs of these numbers.
+    pub fn remove_matching(self, s: &mut [u32], to: usize, m: PairNumbers)
+        requires { to < word_limit }
+        ensures { RemovesMatching self.places self.g to m.at m.n s.old s.new }
+    {
+        self.write_places(s);
+        self.write_absent(s, m);
+        let k = self.copy_rest(s, to);
+        head(s, to, k);
+    }
 }
 
 // Matching `i` of those that lie side by side at `out`, `n` numbers each, as the stretch of words that holds it.

@@ -8,8 +8,5 @@ ghost use Rattle.appointments.specs.Appointments.{appt, named};
 pub fn named(first: u16, second: u16, party: u16) -> bool
     ensures { result ≡ named party (appt first second) }
 {
-    if first == party {
-        return true;
-    }
-    second == party
+    first == party || second == party
 }

@@ -2,15 +2,15 @@
 -- and from the answer to a list that passed the answer of the call. Assumes nothing.
 use Prim.Native.Nat.{ℕ, ◌+◌, ◌*◌, ◌<◌, ◌≤◌}
 use mathlib.Core.Path.{◌≡◌, refl, sym, ◌∙◌, ap}
-use mathlib.Core.List.{List, [], ◌∷◌, ◌++◌, append-nil}
+use mathlib.Core.List.{List, [], ◌∷◌, ◌++◌}
 use native.Mathlib.Omega.{arith}
 use native.Mathlib.Nat.{zero-add}
-use lib.ListN.{length, take, drop, replicate, length-take, length-replicate, drop_of_length-le}
+use lib.ListN.{length, take, drop, replicate, length-take, length-replicate}
 use Rattle.std.specs.Prelude.{Some, None}
 use Rattle.words.specs.Basics.{All}
-use Rattle.appointments.specs.Appointments.{Appt, appts}
+use Rattle.appointments.specs.Appointments.{Appt, appts, scratch_words}
 use Rattle.appointments.specs.Checks.{Check, passed}
-use Rattle.checking.specs.Checked.{answered}
+use Rattle.checking.specs.Checked.{answered, WordsFit}
 use Rattle.appointments.specs.Answers.{Answer, accepted, refused}
 use Rattle.appointments.specs.Lent.{Lent, lent_appts, lent_d, lent_words, lent_checks}
 use Rattle.appointments.proofs.Loads.{Listed, largest_load_empty}
@@ -98,19 +98,6 @@ module _ {P D : ℕ} {list slots : List ℕ} where
       sided_outcome P (appts list) (sides_found c) ∙ ap outcome x.found in
       record { answers = rw found; holds = rw found x.held; len = x.len ∙ c.keeps.len }
 
--- ── clearing ──
-
-cleared_all : (v c : List ℕ) → c ≡ replicate (length v) 0 ++ drop (length v) v → c ≡ replicate (length v) 0
-cleared_all v c h = h ∙ rw (drop_of_length-le v {i = length v} (omega arith), append-nil)
-
-pub worked_cleanly :
-    {P D : ℕ} {list slots slots' s v c : List ℕ} {a : Answer ℕ} → WorkedOut P D list slots slots' a s v →
-    c ≡ replicate (length v) 0 ++ drop (length v) v → WorkedOut P D list slots slots' a s c × (c ≡ replicate (length s) 0)
-worked_cleanly {s} {v} {c} x h =
-    let zeros : c ≡ replicate (length s) 0 = cleared_all v c h ∙ rw x.len in
-    let len : length c ≡ length s = rw zeros (length-replicate (length s) 0) in
-    (record { answers = x.answers; holds = x.holds; len = len }, zeros)
-
 -- ── the call ──
 
 module _ (l : Lent) where
@@ -172,6 +159,16 @@ module _ (l : Lent) where
         let most : lent_d l ≤ 8192 = d_small l.parties l.list (good_goes_on l.parties l.list passed good) in
         let product : D * l.parties ≤ 8192 = rw figure passes.product in
         (good.parties, (rw figure most, omega (arith, good.parties)))
+
+    -- W can be computed, and is 128 words for each of the q
+    pub words_fit : WordsFit l.parties D
+    words_fit =
+        let f = figures in
+        let units : scratch_words l.parties D ≡ 128 * q = omega arith in
+        record { parties = f.0; figure = f.1.0; words = omega (arith, units, f.1.1) }
+
+    pub units_are : (w : ℕ) → w ≡ scratch_words l.parties D → w ≡ 128 * q
+    units_are w e = omega (arith, e)
 
     pub ready : Ready l.parties D q l.list (take (128 * q) l.scratch)
     ready =

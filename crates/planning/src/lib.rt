@@ -51,7 +51,7 @@ fn work_out_cleanly(
     ensures s_after { s.new ≡ replicate (length s.old) 0 }
 {
     let answer = work_out(s, slots, list, p, d);
-    words::clear(s, s.len());
+    s.fill(0);
     answer
 }
 
@@ -68,9 +68,8 @@ pub fn bipartite_edge_color(
     ensures scratch { scratch.new ≡ plan_scratch (lent p list.now slots.old scratch.old) }
     ensures demand_3 { Demand3 (lent p list.now slots.old scratch.old) (told result) slots.new }
 {
-    let parties = p as usize;
+    let parties = usize::from(p);
     let d = checking::check_all(parties, list, slots.len(), scratch.len())?;
-    let q = parties * (d + 1);
-    let w = 128 * q;
+    let w = checking::scratch_words(parties, d);
     work_out_cleanly(&mut scratch[..w], slots, list, parties, d)
 }

@@ -1,12 +1,12 @@
 -- Text put piece by piece: the digits of a number, a line field by field, and lines one by one. Assumes nothing.
-use Prim.Native.Nat.{ℕ, zero, suc, ◌+◌, ◌-◌, ◌*◌, ◌/◌, ◌%◌, ◌^◌, ◌≤◌, ◌<◌}
+use Prim.Native.Nat.{ℕ, zero, suc, ◌+◌, ◌-◌, ◌/◌, ◌%◌, ◌^◌, ◌≤◌, ◌<◌}
 use mathlib.Core.Path.{◌≡◌, refl, sym, ◌∙◌, ap, subst}
 use mathlib.Core.Bool.{Bool, true, false}
 use mathlib.Core.List.{List, [], ◌∷◌, ◌++◌, append_assoc, append-nil}
 use native.Mathlib.Omega.{arith}
-use borrow.Author.Tests.{ne_eqb, lt-ltb, ltb-false, ltb-true}
+use borrow.Author.Tests.{ne_eqb, lt-ltb, le-ltb, ltb-false, ltb-true}
 use lib.Dec.{ltb}
-use lib.ListN.{length, get_or, drop, length-append}
+use lib.ListN.{length, drop, length-append}
 use lib.Seq.{append_snoc}
 use Rattle.std.specs.Fmt as Fmt
 use Rattle.std.specs.Fmt.{digits, digits_onto}
@@ -67,6 +67,24 @@ digits_more k n behind h =
     let digit : n % 10 < 10 = omega arith in
     rw (ne_eqb (n / 10) 0 tenth, lt-ltb (n % 10) 10 digit)
 
+-- ── a number by its digits ──
+
+-- fuel above the number is enough
+enough : (f g n : ℕ) → n < f → n < g → decimal_by f n ≡ decimal_by g n
+unfolding decimal_by
+enough zero g n h k = absurd (omega arith)
+enough (suc f) zero n h k = absurd (omega arith)
+enough (suc f) (suc g) n h k = go (ltb n 10) refl (λ l. enough f g (n / 10) (omega arith) (omega arith))
+  where
+    go : (t : Bool) → ltb n 10 ≡ t → (10 ≤ n → decimal_by f (n / 10) ≡ decimal_by g (n / 10))
+        → pick t ((48 + n) ∷ []) (decimal_by f (n / 10) ++ ((48 + n % 10) ∷ [])) ≡ pick t ((48 + n) ∷ []) (decimal_by g (n / 10) ++ ((48 + n % 10) ∷ []))
+    go true e front = refl
+    go false e front = rw (front (ltb-false n 10 e))
+
+pub decimal_large : (n : ℕ) → 10 ≤ n → decimal n ≡ decimal (n / 10) ++ ((48 + n % 10) ∷ [])
+unfolding decimal
+decimal_large n h = rw (le-ltb n 10 h, enough n (suc (n / 10)) (n / 10) (omega arith) (omega arith))
+
 -- the digits that std writes of a number, in front of others
 digits_by : (k f n : ℕ) (behind : List ℕ) → n < 10 ^ suc k → n < f → digits_onto (suc k) 10 false n behind ≡ decimal_by f n ++ behind
 unfolding decimal_by
@@ -106,11 +124,6 @@ line_3 a b c = line_more a b (c ∷ []) ∙ ap (λ (l : List ℕ). field a space
 
 pub line_4 : (a b c d : List ℕ) → line (a ∷ b ∷ c ∷ d ∷ []) ≡ field a space ++ (field b space ++ (field c space ++ field d line_feed))
 line_4 a b c d = line_more a b (c ∷ d ∷ []) ∙ ap (λ (l : List ℕ). field a space ++ l) (line_3 b c d)
-
-pub appointment_fields : (list slots : List ℕ) (i first second slot : ℕ) → first ≡ get_or list (2 * i) 0 → second ≡ get_or list (2 * i + 1) 0 → slot ≡ get_or slots i 0
-    → appointment_line_at list slots i ≡ field (decimal i) space ++ (field (decimal first) space ++ (field (decimal second) space ++ field (decimal slot) line_feed))
-appointment_fields list slots i first second slot p q r =
-    rw (p, q, r) (line_4 (decimal i) (decimal (get_or list (2 * i) 0)) (decimal (get_or list (2 * i + 1) 0)) (decimal (get_or slots i 0)))
 
 pub plan_fields : (P : ℕ) (list : List ℕ) (D : ℕ) (slots : List ℕ)
     → plan_lines P list D slots ≡ field (ascii "plan") space ++ (field (decimal D) line_feed ++ (appointment_lines 0 (appts list) slots ++ party_lines (appts list) slots 0 P))

@@ -1,11 +1,11 @@
 // What main prints: text behind what was put before it, line by line. Every function needs room for its text.
 #![tactic(auto)]
 
-ghost use Rattle.std.specs.Prelude.{◌≡◌, ◌+◌, ◌*◌, ◌<◌, [], ◌∷◌, length};
-ghost use Rattle.appointments.specs.Appointments.{appts};
+ghost use Rattle.std.specs.Prelude.{◌<◌, [], ◌∷◌};
+ghost use Rattle.appointments.specs.Appointments.{appt, appts};
 ghost use Rattle.appointments.specs.Refusals.{refusal_number, refusal_place};
-ghost use Rattle.printing.specs.Printing.{decimal, line, party_line, appointment_lines, party_lines, plan_lines, refusal_line};
-ghost use Rattle.printing.specs.Placed.{Placed, Room, field, appointment_line_at};
+ghost use Rattle.printing.specs.Printing.{decimal, line, party_line, appointment_line, appointment_lines, party_lines, plan_lines, refusal_line};
+ghost use Rattle.printing.specs.Placed.{Placed, Room, field};
 
 use appointments::Refusal;
 use arrayvec::ArrayString;
@@ -30,18 +30,20 @@ fn put_field<const N: usize>(out: &mut ArrayString<N>, n: usize, end: char)
     put_text(out, Buffer::new().format(n), end);
 }
 
-// Puts the line of the appointment at a position: the position, its ends and its slot.
-fn put_appointment<const N: usize>(list: &[u16], slots: &[u16], i: usize, out: &mut ArrayString<N>)
-    requires position { 2 * i + 1 < length list.now }
-    requires room { Room N out.old.bytes (appointment_line_at list.now slots.now i) }
-    ensures { Placed out.old.bytes (appointment_line_at list.now slots.now i) out.new.bytes }
+// Puts the line of an appointment: its position, ends and slot.
+fn put_appointment<const N: usize>(
+    i: usize,
+    first: u16,
+    second: u16,
+    slot: usize,
+    out: &mut ArrayString<N>,
+)
+    requires { Room N out.old.bytes (appointment_line i (appt first second) slot) }
+    ensures { Placed out.old.bytes (appointment_line i (appt first second) slot) out.new.bytes }
 {
-    let first = words::get(list, 2 * i);
-    let second = words::get(list, 2 * i + 1);
-    let slot = words::get(slots, i);
     put_field(out, i, ' ');
-    put_field(out, first, ' ');
-    put_field(out, second, ' ');
+    put_field(out, usize::from(first), ' ');
+    put_field(out, usize::from(second), ' ');
     put_field(out, slot, '\n');
 }
 
@@ -50,8 +52,8 @@ fn put_appointments<const N: usize>(list: &[u16], slots: &[u16], out: &mut Array
     requires { Room N out.old.bytes (appointment_lines 0 (appts list.now) slots.now) }
     ensures { Placed out.old.bytes (appointment_lines 0 (appts list.now) slots.now) out.new.bytes }
 {
-    for i in 0..list.len() / 2 {
-        put_appointment(list, slots, i, out);
+    for (i, &[first, second]) in list.as_chunks::<2>().0.iter().enumerate() {
+        put_appointment(i, first, second, words::get(slots, i), out);
     }
 }
 
@@ -71,7 +73,7 @@ fn put_party<const N: usize>(list: &[u16], slots: &[u16], party: u16, out: &mut 
     ensures { Placed out.old.bytes (party_line (appts list.now) slots.now party) out.new.bytes }
 {
     let waits = asking::waiting_of(list, slots, party);
-    put_line("party", party as usize, waits, out);
+    put_line("party", usize::from(party), waits, out);
 }
 
 // Puts the lines of all parties.

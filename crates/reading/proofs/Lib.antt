@@ -4,3 +4,4 @@ pub mod BrokenLaws
 pub mod Digits
 pub mod ParsingSteps
 pub mod LinesSteps
+pub mod Pieces

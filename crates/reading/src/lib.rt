@@ -1,15 +1,13 @@
 // What main reads: the line of P, then a line for each appointment.
 #![tactic(auto)]
 
-ghost use Rattle.std.specs.Prelude.{◌≡◌, ◌≢◌, ◌+◌, ◌<◌, ◌≤◌, length, set, slice_index, option_map, EachIndex, MatchOption};
+ghost use Rattle.std.specs.Prelude.{◌≡◌, ◌≢◌, ◌+◌, ◌<◌, ◌≤◌, length, set, take, slice_index, option_map, EachIndex, MatchOption};
 ghost use Rattle.words.specs.Ascii.{line_feed};
 ghost use Rattle.reading.specs.Reading.{parts, digits_value, number, end_of, appointment_of, read_lines, read_text, read_input};
-ghost use Rattle.reading.specs.Told.{FirstAt, ends_of, NextLine, ReadAs};
+ghost use Rattle.reading.specs.Told.{FirstAt, ends_of, ended_line, ReadAs};
 
-use appointments::Refusal;
-
-// The end of a text that is left empty.
-const BLANK: u16 = 65535;
+use appointments::{BLANK, Refusal};
+use std::io::Read;
 
 // The two ends of a line.
 #[derive(Clone, Copy)]
@@ -18,18 +16,32 @@ struct Ends {
     second: u16,
 }
 
-// A line that was read, and where the next one starts.
-#[derive(Clone, Copy)]
-struct Line {
-    ends: Ends,
-    next: usize,
-}
-
 // P, and how many numbers the list has.
 #[derive(Clone, Copy, Debug, PartialEq, Eq)]
 pub struct ReadInput {
     pub parties: u16,
     pub count: usize,
+}
+
+// What came of an input: its bytes, and whether it is broken, that is, reading failed for good before the input ended.
+#[derive(Clone, Copy)]
+pub struct Input<'a> {
+    pub bytes: &'a [u8],
+    pub broken: bool,
+}
+
+// Reads until the buffer is full, the input ends or a read fails: how many bytes came, which stand at the start of the buffer.
+pub fn read_full<R: Read>(reader: &mut R, buffer: &mut [u8]) -> usize
+    ensures { (result ≤ length buffer.new) × (result ≡ length (take result buffer.new)) }
+{
+    let mut count = 0;
+    while count < buffer.len() {
+        match reader.read(&mut buffer[count..]) {
+            Ok(0) | Err(_) => break,
+            Ok(n) => count += n,
+        }
+    }
+    count
 }
 
 // The first place of a separator.
@@ -49,7 +61,7 @@ fn digits_in(bytes: &[u8]) -> Option<usize>
         if !byte.is_ascii_digit() {
             return None;
         }
-        v = 10 * v + (*byte - b'0') as usize;
+        v = 10 * v + usize::from(*byte - b'0');
     }
     Some(v)
 }
@@ -63,7 +75,7 @@ fn number_in(bytes: &[u8]) -> Option<u16>
         return None;
     }
     let v = digits_in(bytes)?;
-    if BLANK as usize <= v {
+    if usize::from(BLANK) <= v {
         return None;
     }
     Some(v as u16)
@@ -94,16 +106,14 @@ fn ends_in(line: &[u8]) -> Option<Ends>
     Some(Ends { first, second })
 }
 
-// The line that starts at a place before the end. A line feed ends it.
-fn next_line(bytes: &[u8], from: usize) -> Option<Line>
-    requires { from < length bytes.now }
-    ensures { NextLine bytes.now from result }
+// The ends of a line that a line feed ends.
+fn ended_line(line: &[u8]) -> Option<Ends>
+    ensures { result ≡ option_map ends_of (ended_line line.now) }
 {
-    let rest = &bytes[from..];
-    let end = find(rest, b'\n')?;
-    let ends = ends_in(&rest[..end])?;
-    let next = from + end + 1;
-    Some(Line { ends, next })
+    match line {
+        [ends @ .., b'\n'] => ends_in(ends),
+        _ => None,
+    }
 }
 
 // The two ends of an appointment go to their places in the list.
@@ -111,8 +121,7 @@ fn put_ends(list: &mut [u16], at: usize, ends: Ends)
     requires { at + 1 < length list.old }
     ensures { list.new ≡ set (set list.old at ends.first) (at + 1) ends.second }
 {
-    list[at] = ends.first;
-    list[at + 1] = ends.second;
+    list[at..at + 2].copy_from_slice(&[ends.first, ends.second]);
 }
 
 // The lines behind the first, into the list.
@@ -120,15 +129,11 @@ fn read_lines(parties: u16, bytes: &[u8], list: &mut [u16]) -> Result<ReadInput,
     requires { length bytes.now ≤ length list.old }
     ensures { ReadAs (read_lines parties 2 (parts line_feed bytes.now)) result list.old list.new }
 {
-    let mut n = 2;
     let mut count = 0;
-    let mut from = 0;
-    while from < bytes.len() {
-        let line = next_line(bytes, from).ok_or(Refusal::MalformedLine(n))?;
-        put_ends(list, count, line.ends);
-        n += 1;
+    for line in bytes.split_inclusive(|byte| *byte == b'\n') {
+        let ends = ended_line(line).ok_or(Refusal::MalformedLine(count / 2 + 2))?;
+        put_ends(list, count, ends);
         count += 2;
-        from = line.next;
     }
     Ok(ReadInput { parties, count })
 }
@@ -144,15 +149,15 @@ fn read_text(input: &[u8], list: &mut [u16]) -> Result<ReadInput, Refusal>
     read_lines(parties, &input[end + 1..], list)
 }
 
-// The same of the bytes that came of an input that may be broken: no list is read of a broken one. Where its lines are all well
-// formed, each but the first gave two numbers of the list, and it broke off in the line behind them.
-pub fn read_input(bytes: &[u8], broken: bool, list: &mut [u16]) -> Result<ReadInput, Refusal>
-    requires { length bytes.now ≤ length list.old }
-    ensures { ReadAs (read_input broken bytes.now) result list.old list.new }
+// The same of what came of an input that may be broken: no list is read of a broken one. Where its lines are all well formed, each
+// but the first gave two numbers of the list, and it broke off in the line behind them.
+pub fn read_input(input: Input<'_>, list: &mut [u16]) -> Result<ReadInput, Refusal>
+    requires { length input.bytes.now ≤ length list.old }
+    ensures { ReadAs (read_input input.entry.broken input.entry.bytes.now) result list.old list.new }
 {
-    let input = read_text(bytes, list)?;
-    if broken {
-        return Err(Refusal::MalformedLine(input.count / 2 + 2));
+    let read = read_text(input.bytes, list)?;
+    if input.broken {
+        return Err(Refusal::MalformedLine(read.count / 2 + 2));
     }
-    Ok(input)
+    Ok(read)
 }

@@ -10,8 +10,7 @@ ghost use Rattle.appointments.specs.Refusals.{refusal_number, refusal_place};
 ghost use Rattle.replay.specs.Stored.{answer_told};
 
 use appointments::Refusal;
-use std::alloc::{AllocError, Global};
-use std::io;
+use arrayvec::{ArrayVec, CapacityError};
 
 // How many lists got the stored answer, and how many another one.
 #[derive(Clone, Copy)]
@@ -25,7 +24,7 @@ fn same_plan(stored: &[u16], d: usize, plan: &[u16]) -> bool
     ensures { IsTrue result ↔ (stored.now ≡ 0 ∷ d ∷ plan.now) }
 {
     match stored {
-        [0, figure, slots @ ..] => *figure as usize == d && slots == plan,
+        [0, figure, slots @ ..] => usize::from(*figure) == d && slots == plan,
         _ => false,
     }
 }
@@ -35,7 +34,8 @@ fn same_refusal(stored: &[u16], refusal: Refusal) -> bool
     ensures { IsTrue result ↔ (stored.now ≡ refusal_number refusal ∷ refusal_place refusal ∷ []) }
 {
     match stored {
-        [number, place] => *number as u32 == refusal.number() && *place as usize == refusal.place(),
+        [number, place] => u32::from(*number) == refusal.number()
+            && usize::from(*place) == refusal.place(),
         _ => false,
     }
 }
@@ -50,39 +50,46 @@ fn agrees(p: u16, list: &[u16], stored: &[u16], slots: &mut [u16], scratch: &mut
     }
 }
 
+// The numbers of a list or of an answer.
+type Numbers = ArrayVec<u16, 256>;
+
 // The value of digits, cut to 16 bits. A digit is the byte 48, which is 3 times 16, and its value.
-fn value(digits: &str) -> u16 {
-    digits.bytes().fold(
-        0,
-        |v: u16, byte| v.wrapping_mul(10).wrapping_add(u16::from(byte % 16)),
-    )
+fn value(digits: &[u8]) -> u16 {
+    digits.iter().fold(0, |v: u16, byte| {
+        v.wrapping_mul(10).wrapping_add(u16::from(byte % 16))
+    })
 }
 
-// Puts the numbers of a text behind those that are there.
-fn push_numbers(text: &str, numbers: &mut Vec<u16>) -> Result<(), AllocError> {
-    for digits in text.split(|c: char| !c.is_ascii_digit()) {
+// Puts the numbers of a text behind those that are there, if there is room for them.
+fn push_numbers(text: &[u8], numbers: &mut Numbers) -> Result<(), CapacityError<u16>> {
+    for digits in text.split(|byte| !byte.is_ascii_digit()) {
         if !digits.is_empty() {
-            numbers.push(value(digits))?;
+            numbers.try_push(value(digits))?;
         }
     }
     Ok(())
 }
 
+// What stands before the first place of a mark, and what from there on.
+fn cut(text: &[u8], mark: u8) -> (&[u8], &[u8]) {
+    let at = text.iter().position(|byte| *byte == mark);
+    text.split_at(at.unwrap_or(text.len()))
+}
+
 // Whether the planning call gives the stored answer of a line. The list stands before the `=`, the answer behind it; as numbers a
-// plan is told as 0, D and its slots, a refusal as its number and place.
+// plan is told as 0, D and its slots, a refusal as its number and place. The word of a plan has a `p`, that of a refusal has none.
 fn line_agrees(
-    alloc: Global,
-    line: &str,
+    line: &[u8],
     slots: &mut [u16],
     scratch: &mut [u32],
-) -> Result<bool, AllocError> {
-    let (line, _remark) = line.split_once('#').unwrap_or((line, ""));
-    let (list, answer) = line.split_once('=').unwrap_or((line, ""));
-    let mut numbers = Vec::new(alloc);
+) -> Result<bool, CapacityError<u16>> {
+    let (line, _remark) = cut(line, b'#');
+    let (list, answer) = cut(line, b'=');
+    let mut numbers = Numbers::new();
     push_numbers(list, &mut numbers)?;
-    let mut stored = Vec::new(alloc);
-    if answer.contains("planned") {
-        stored.push(0)?;
+    let mut stored = Numbers::new();
+    if answer.contains(&b'p') {
+        stored.push(0);
     }
     push_numbers(answer, &mut stored)?;
     match numbers.split_first() {
@@ -91,27 +98,30 @@ fn line_agrees(
     }
 }
 
-// All lines. The slots and the scratch are long enough for every stored list: none has more than 127 appointments, and none needs
-// more than 524,288 words of scratch. A list that they are too short for would count as different.
-fn replay(alloc: Global, input: &str) -> Result<Counts, AllocError> {
-    let mut slots = vec![in alloc; 0u16; 128]?;
-    let mut scratch = vec![in alloc; 0u32; 524_288]?;
-    let lines: Vec<&str> = input.lines().collect(alloc)?;
-    let mut equal: usize = 0;
-    for line in &lines {
-        if line_agrees(alloc, line, &mut slots, &mut scratch)? {
-            equal += 1;
+// All lines. The numbers, the slots and the scratch are long enough for every stored list: none has more than 127 appointments, and
+// none needs more than 524,288 words of scratch. A list that they are too short for counts as different.
+fn replay(input: &[u8]) -> Counts {
+    let mut slots = [0u16; 128];
+    let mut scratch = [0u32; 524_288];
+    let mut counts = Counts {
+        equal: 0,
+        different: 0,
+    };
+    for line in input.split_inclusive(|byte| *byte == b'\n') {
+        if line_agrees(line, &mut slots, &mut scratch).unwrap_or(false) {
+            counts.equal += 1;
+        } else {
+            counts.different += 1;
         }
     }
-    Ok(Counts {
-        equal,
-        different: lines.len() - equal,
-    })
+    counts
 }
 
-fn main(rt: HostRuntime) -> io::Result<()> {
-    let input = io::read_to_string(rt.alloc(), rt.stdin())?;
-    let counts = replay(rt.alloc(), &input)?;
-    println!(rt; "equal {}", counts.equal)?;
-    println!(rt; "different {}", counts.different)
+// The stored lines are fewer than 65,536 bytes; of a longer input no more are read.
+fn main(rt: HostRuntime) {
+    let mut input = [0u8; 65_536];
+    let length = reading::read_full(&mut rt.stdin(), &mut input);
+    let counts = replay(&input[..length]);
+    let _ = println!(rt; "equal {}", counts.equal);
+    let _ = println!(rt; "different {}", counts.different);
 }

@@ -17,11 +17,11 @@ use Rattle.euler.proofs.Odds.{EndsFit}
 
 -- the party at the first end of entry i
 abbrev pub first_at : Rings → List ℕ → ℕ → ℕ
-first_at l s i = word s (l.ends + 2 * word s (l.g + 2 + 2 * i))
+first_at l s i = word s (l.graph.ends + 2 * word s (l.graph.g + 2 + 2 * i))
 
 -- and at its second end
 abbrev pub second_at : Rings → List ℕ → ℕ → ℕ
-second_at l s i = word s (l.ends + 2 * word s (l.g + 2 + 2 * i) + 1)
+second_at l s i = word s (l.graph.ends + 2 * word s (l.graph.g + 2 + 2 * i) + 1)
 
 -- the sides as the code counts them
 abbrev pub side_of : Bool → ℕ
@@ -41,8 +41,8 @@ pub record Laid (l : Rings) (N m k : ℕ) (s : List ℕ) : Type 0 where
   pub few : N ≤ 2048
   pub entries : m < k
   pub short : m * 2048 + 2048 ≤ 4294967296
-  pub graph : l.g + 3 + 2 * m ≤ l.b
-  pub table : (i : ℕ) → i < m → l.ends + 2 * word s (l.g + 2 + 2 * i) + 1 < l.b
+  pub graph : l.graph.g + 3 + 2 * m ≤ l.b
+  pub table : (i : ℕ) → i < m → l.graph.ends + 2 * word s (l.graph.g + 2 + 2 * i) + 1 < l.b
   pub fit : EndsFit N m (first_at l s) (second_at l s)
 
 module _ {l : Rings} {N m k : ℕ} {s₀ : List ℕ} (g : Laid l N m k s₀) where
@@ -69,11 +69,11 @@ module _ {l : Rings} {N m k : ℕ} {s₀ : List ℕ} (g : Laid l N m k s₀) whe
   -- ── the graph as it was ──
 
   -- what stays below the rings: pair numbers and copies
-  pub number_kept : (s : List ℕ) → Keeps l.b s₀ s → (i : ℕ) → i < m → word s (l.g + 2 + 2 * i) ≡ word s₀ (l.g + 2 + 2 * i)
-  number_kept s h i b = h.same (l.g + 2 + 2 * i) (omega (arith, g.graph))
+  pub number_kept : (s : List ℕ) → Keeps l.b s₀ s → (i : ℕ) → i < m → word s (l.graph.g + 2 + 2 * i) ≡ word s₀ (l.graph.g + 2 + 2 * i)
+  number_kept s h i b = h.same (l.graph.g + 2 + 2 * i) (omega (arith, g.graph))
 
   pub copies_kept : (s : List ℕ) → Keeps l.b s₀ s → (i : ℕ) → i < m → copies_m l s i ≡ copies_m l s₀ i
-  copies_kept s h i b = h.same (l.g + 3 + 2 * i) (omega (arith, g.graph))
+  copies_kept s h i b = h.same (l.graph.g + 3 + 2 * i) (omega (arith, g.graph))
 
   module _ (flag : ℕ → ℕ) where
     -- the pair of the rest at a place
@@ -93,10 +93,10 @@ module _ {l : Rings} {N m k : ℕ} {s₀ : List ℕ} (g : Laid l N m k s₀) whe
     pub end_kept :
         (s : List ℕ) → Keeps l.b s₀ s → (d : Bool) (i : ℕ) → i < m → end_m l (side_of d) s i ≡ end P d i
     end_kept s h true i b =
-        let at : l.ends + 2 * word s₀ (l.g + 2 + 2 * i) + 0 ≡ l.ends + 2 * word s₀ (l.g + 2 + 2 * i) = omega arith in
-        ap (λ (e : ℕ). word s (l.ends + 2 * e + 0)) (number_kept s h i b)
+        let at : l.graph.ends + 2 * word s₀ (l.graph.g + 2 + 2 * i) + 0 ≡ l.graph.ends + 2 * word s₀ (l.graph.g + 2 + 2 * i) = omega arith in
+        ap (λ (e : ℕ). word s (l.graph.ends + 2 * e + 0)) (number_kept s h i b)
         ∙ ap (word s) at
-        ∙ h.same (l.ends + 2 * word s₀ (l.g + 2 + 2 * i)) (omega (arith, g.table i b))
+        ∙ h.same (l.graph.ends + 2 * word s₀ (l.graph.g + 2 + 2 * i)) (omega (arith, g.table i b))
     end_kept s h false i b =
-        ap (λ (e : ℕ). word s (l.ends + 2 * e + 1)) (number_kept s h i b)
-        ∙ h.same (l.ends + 2 * word s₀ (l.g + 2 + 2 * i) + 1) (g.table i b)
+        ap (λ (e : ℕ). word s (l.graph.ends + 2 * e + 1)) (number_kept s h i b)
+        ∙ h.same (l.graph.ends + 2 * word s₀ (l.graph.g + 2 + 2 * i) + 1) (g.table i b)

@@ -188,7 +188,7 @@ module _ {l : Rings} {N m k : ℕ} {s₀ : List ℕ} (g : Laid l N m k s₀) (fl
             (ringed_same g R s (put_word s at v) (same_lead g s (not d) i v ik) h));
       }
     where
-      table_low : (d : Bool) (i : ℕ) → i < m → length s ≡ length s₀ → l.ends + 2 * word s₀ (l.g + 2 + 2 * i) + side_of d < length s
+      table_low : (d : Bool) (i : ℕ) → i < m → length s ≡ length s₀ → l.graph.ends + 2 * word s₀ (l.graph.g + 2 + 2 * i) + side_of d < length s
       table_low true i b e = omega (arith, g.table i b, g.room)
       table_low false i b e = omega (arith, g.table i b, g.room)
 

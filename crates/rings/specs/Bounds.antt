@@ -13,21 +13,21 @@ pub record Appends (l : Rings) (s : List ℕ) (v x : ℕ) : Type 0 where
 
 -- entry i can be noted at the place `odd`
 pub record Sifts (l : Rings) (s : List ℕ) (i odd : ℕ) : Type 0 where
-  pub copies : l.g + 3 + 2 * i < length s
+  pub copies : l.graph.g + 3 + 2 * i < length s
   pub mark : l.b + 8 * i + 2 < length s
   pub note : l.col + 2 * odd < length s
 
 -- all of m entries can, at places of which none is above the entry's own number
 pub record SiftsAll (l : Rings) (m : ℕ) (s : List ℕ) : Type 0 where
-  pub copies : l.g + 3 + 2 * m ≤ length s
+  pub copies : l.graph.g + 3 + 2 * m ≤ length s
   pub marks : l.b + 8 * m ≤ length s
   pub notes : l.col + 2 * m ≤ length s
 
 -- the entry noted at the place j can be put into the ring of its end
 pub record RingsEnd (l : Rings) (side : ℕ) (s : List ℕ) (j : ℕ) : Type 0 where
   pub note : l.col + 2 * j < length s
-  pub number : l.g + 2 + 2 * noted_m l s j < length s
-  pub end : l.ends + 2 * word s (l.g + 2 + 2 * noted_m l s j) + side < length s
+  pub number : l.graph.g + 2 + 2 * noted_m l s j < length s
+  pub end : l.graph.ends + 2 * word s (l.graph.g + 2 + 2 * noted_m l s j) + side < length s
   pub words : l.b + 8 * noted_m l s j + 7 < length s
   pub appends :
       Appends l

@@ -12,11 +12,11 @@ pub record Counted : Type 0 where
 
 -- the copies of entry i
 abbrev pub copies_m : Rings → List ℕ → ℕ → ℕ
-copies_m l s i = word s (l.g + 3 + 2 * i)
+copies_m l s i = word s (l.graph.g + 3 + 2 * i)
 
 -- the party at one end of an entry, the first (side 0) or the second (side 1)
 abbrev pub end_m : Rings → ℕ → List ℕ → ℕ → ℕ
-end_m l side s i = word s (l.ends + 2 * word s (l.g + 2 + 2 * i) + side)
+end_m l side s i = word s (l.graph.ends + 2 * word s (l.graph.g + 2 + 2 * i) + side)
 
 -- ── filling the rings ──
 

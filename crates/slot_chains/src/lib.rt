@@ -19,6 +19,9 @@ ghost use Rattle.slot_chains.specs.Steps.{pushed, matching_pushed, all_pushed};
 use multigraph::matching;
 use words::{EdgeIndex, get, put};
 
+// What a slot counts for in a link.
+pub const LINK: usize = 16384;
+
 // Where the matchings of a colouring lie, `d` of them, `n` numbers each, side by side at `out`; and from `links` on a word for each pair,
 // its first link.
 #[derive(Clone, Copy)]
@@ -30,7 +33,7 @@ pub struct Chains {
     pub ghost out_small: { out < word_limit },
     pub ghost links_small: { links < word_limit },
     pub ghost d_small: { d < word_limit },
-    pub ghost few: { n * d < word_limit },
+    pub ghost numbers_small: { n * d < word_limit },
 }
 
 impl Chains {
@@ -38,16 +41,14 @@ impl Chains {
     pub fn first_link(self, s: &[u32], e: EdgeIndex) -> usize
         ensures { result ≡ word s.now (self.links + e.0) }
     {
-        let i = e.0 as usize;
-        get(s, self.links + i)
+        get(s, self.links + e.index())
     }
 
     // Makes `link` the first link of pair `e`.
     pub fn set_first_link(self, s: &mut [u32], e: EdgeIndex, link: usize)
         ensures { s.new ≡ put_word s.old (self.links + e.0) link }
     {
-        let i = e.0 as usize;
-        put(s, self.links + i, link);
+        put(s, self.links + e.index(), link);
     }
 
     // Pair `j` of matching `slot`, read in the stretch of words that holds the matching.
@@ -74,7 +75,7 @@ impl Chains {
         let e = self.pair_in(s, slot, j);
         let next = self.first_link(s, e);
         put(s, self.out + t, next);
-        self.set_first_link(s, e, slot * 16384 + t);
+        self.set_first_link(s, e, slot * LINK + t);
     }
 
     // This slot for each pair of its matching.

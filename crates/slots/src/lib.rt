@@ -12,16 +12,9 @@ ghost use Rattle.words.specs.Words.{word, word_limit};
 ghost use Rattle.slots.specs.Stored.{GivesSlots};
 ghost use Rattle.slot_chains.specs.Steps.{taken_words, taken_slots, given_words, given_slots};
 
-use slot_chains::Chains;
-use words::{EdgeIndex, get, put};
-
-// The number of the pair that stands at `at`.
-fn pair_at(s: &[u32], at: usize) -> EdgeIndex
-    ensures { result.0 ≡ word s.now at }
-{
-    let e = get(s, at);
-    EdgeIndex(e as u32)
-}
+use multigraph::pair_at;
+use slot_chains::{Chains, LINK};
+use words::{get, put};
 
 // The pair whose number stands at `at` gives its first link's slot to appointment `i`, and goes on to its next link.
 #[tactic(auto, using(slot_chains::proofs::StepLaws::take_is, slot_chains::proofs::StepLaws::slot_is))]
@@ -30,8 +23,8 @@ fn take_slot(s: &mut [u32], slots: &mut [u16], chains: Chains, at: usize, i: usi
 {
     let e = pair_at(s, at);
     let link = chains.first_link(s, e);
-    put(slots, i, link / 16384);
-    let next = get(s, chains.out + link % 16384);
+    put(slots, i, link / LINK);
+    let next = get(s, chains.out + link % LINK);
     chains.set_first_link(s, e, next);
 }
 

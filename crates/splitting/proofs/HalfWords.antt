@@ -33,10 +33,10 @@ entry_count : (l : Rings) (h parity : ℕ) (t : Counted) (i : ℕ) → (entry_m 
 unfolding entry_m
 entry_count l h parity t i = omega (arith, many_le (copies_m l t.words i))
 
-module _ {l : Rings} {m k u h n : ℕ} (pairs parity : ℕ) {s₀ s ws : List ℕ} (g : Ready l m k u h n s₀ s ws) (p2 : parity < 2) (apart : ApartAt (λ i. entry s₀ l.ends pairs l.g i) m) where
+module _ {l : Rings} {m k u h n : ℕ} (pairs parity : ℕ) {s₀ s ws : List ℕ} (g : Ready l m k u h n s₀ s ws) (p2 : parity < 2) (apart : ApartAt (λ i. entry s₀ l.graph.ends pairs l.graph.g i) m) where
   -- the graph's entries
   abbrev A : ℕ → Pair
-  A i = entry s₀ l.ends pairs l.g i
+  A i = entry s₀ l.graph.ends pairs l.graph.g i
 
   abbrev C : ℕ → ℕ
   C i = copies_m l s₀ i
@@ -63,9 +63,9 @@ module _ {l : Rings} {m k u h n : ℕ} (pairs parity : ℕ) {s₀ s ws : List �
       entry_m l h parity t i ≡ record { words = put_next pairs g t i (C i / 2 + extra i); count = t.count + many_m (C i) }
   unfolding entry_m
   entry_is i t x f b =
-      let c : copies_m l t.words i ≡ C i = reads pairs g t.words (l.g + 3 + 2 * i) f.only (omega arith) in
-      let num : word t.words (l.g + 2 + 2 * i) ≡ word s₀ (l.g + 2 + 2 * i) =
-      reads pairs g t.words (l.g + 2 + 2 * i) f.only (omega arith) in
+      let c : copies_m l t.words i ≡ C i = reads pairs g t.words (l.graph.g + 3 + 2 * i) f.only (omega arith) in
+      let num : word t.words (l.graph.g + 2 + 2 * i) ≡ word s₀ (l.graph.g + 2 + 2 * i) =
+      reads pairs g t.words (l.graph.g + 2 + 2 * i) f.only (omega arith) in
       let mark : word t.words (l.b + 8 * i + 2) ≡ mark_of i ws =
       f.only.over (l.b + 8 * i + 2) (omega arith) ∙ g.marks i b in
       rw (num, c, mark)
@@ -172,9 +172,9 @@ module _ {l : Rings} {m k u h n : ℕ} (pairs parity : ℕ) {s₀ s ws : List �
   single_is j i t x f e b =
       let at : word t.words (l.col + 2 * (parity + 2 * j) + 1) ≡ i =
       f.only.over (l.col + 2 * (parity + 2 * j) + 1) (omega (arith, g.under, g.behind)) ∙ e in
-      let c : copies_m l t.words i ≡ C i = reads pairs g t.words (l.g + 3 + 2 * i) f.only (omega (arith, g.graph)) in
-      let num : word t.words (l.g + 2 + 2 * i) ≡ word s₀ (l.g + 2 + 2 * i) =
-      reads pairs g t.words (l.g + 2 + 2 * i) f.only (omega (arith, g.graph)) in
+      let c : copies_m l t.words i ≡ C i = reads pairs g t.words (l.graph.g + 3 + 2 * i) f.only (omega (arith, g.graph)) in
+      let num : word t.words (l.graph.g + 2 + 2 * i) ≡ word s₀ (l.graph.g + 2 + 2 * i) =
+      reads pairs g t.words (l.graph.g + 2 + 2 * i) f.only (omega (arith, g.graph)) in
       rw (at, num, c)
 
   single_pushed :
@@ -218,11 +218,11 @@ module _ {l : Rings} {m k u h n : ℕ} (pairs parity : ℕ) {s₀ s ws : List �
   -- A half as it stands in its words.
   pub record HalfDone (t : List ℕ) (x : Graph) : Type 0 where
     pub only : Only h (2 * k) s t
-    pub graph : graph_at t l.ends pairs h ≡ x
+    pub graph : graph_at t l.graph.ends pairs h ≡ x
     pub header : word t h ≡ h
     pub count_le : word t (h + 1) ≤ m
     pub numbers :
-        (j : ℕ) → j < word t (h + 1) → (i : ℕ) × (i < m) × (word t (h + 2 + 2 * j) ≡ word s₀ (l.g + 2 + 2 * i))
+        (j : ℕ) → j < word t (h + 1) → (i : ℕ) × (i < m) × (word t (h + 2 + 2 * j) ≡ word s₀ (l.graph.g + 2 + 2 * i))
 
   -- what it holds: the places of its parity dealt
   parts_are : both_parts full ≡ bigs A (λ i. count i (dealt parity ws)) m ++ map (one A) (small A (dealt parity ws))
@@ -245,24 +245,24 @@ module _ {l : Rings} {m k u h n : ℕ} (pairs parity : ℕ) {s₀ s ws : List �
       let len : length w ≡ length s = f.only.len in
       let len₁ : length w₁ ≡ length w = length_put w h h in
       let cnt : word w₂ (h + 1) ≡ q = here w₁ (h + 1) q (omega arith) (omega arith) in
-      let old : (j : ℕ) → 0 ≤ j → j < 0 + q → SameEntry l.ends h j w w₂ =
+      let old : (j : ℕ) → 0 ≤ j → j < 0 + q → SameEntry l.graph.ends h j w w₂ =
       λ j lo hi.
-      let kj : l.ends + 2 * word w (h + 2 + 2 * j) + 1 < u = known pairs g t x f j (omega arith) in
+      let kj : l.graph.ends + 2 * word w (h + 2 + 2 * j) + 1 < u = known pairs g t x f j (omega arith) in
       record {
         number = away2 w h h (h + 1) q (h + 2 + 2 * j) (λ z. omega arith) (λ z. omega arith);
         copies = away2 w h h (h + 1) q (h + 3 + 2 * j) (λ z. omega arith) (λ z. omega arith);
-        first = away2 w h h (h + 1) q (l.ends + 2 * word w (h + 2 + 2 * j)) (λ z. omega arith) (λ z. omega arith);
-        second = away2 w h h (h + 1) q (l.ends + 2 * word w (h + 2 + 2 * j) + 1) (λ z. omega arith) (λ z. omega arith);
+        first = away2 w h h (h + 1) q (l.graph.ends + 2 * word w (h + 2 + 2 * j)) (λ z. omega arith) (λ z. omega arith);
+        second = away2 w h h (h + 1) q (l.graph.ends + 2 * word w (h + 2 + 2 * j) + 1) (λ z. omega arith) (λ z. omega arith);
       } in
       record {
         only =
             only_put h (2 * k) s w₁ (h + 1) q (only_put h (2 * k) s w h h f.only (omega arith) (omega arith)) (omega arith) (omega arith);
-        graph = rw cnt (entries_same l.ends pairs h 0 q w w₂ old ∙ f.is_held);
+        graph = rw cnt (entries_same l.graph.ends pairs h 0 q w w₂ old ∙ f.is_held);
         header = away w₁ (h + 1) h q (λ z. omega arith) ∙ here w h h (omega arith) (omega arith);
         count_le = rw cnt few;
         numbers = λ j c.
             let y : j < q = rw cnt at c in
-            let r : (i : ℕ) × (i < m) × (word w (h + 2 + 2 * j) ≡ word s₀ (l.g + 2 + 2 * i)) = f.numbers j y in
+            let r : (i : ℕ) × (i < m) × (word w (h + 2 + 2 * j) ≡ word s₀ (l.graph.g + 2 + 2 * i)) = f.numbers j y in
             (r.0, r.1, (old j (omega arith) (omega arith)).number ∙ r.2);
       }
 

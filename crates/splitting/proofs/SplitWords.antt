@@ -281,7 +281,7 @@ module _ {s : List ℕ} {u ends g n width : ℕ} (q : Splits s u ends g n width)
     stored = splits_into ∙ rw (← first_graph, ← second_done.graph)
 
   -- Module 4 of document 01, on words.
-  split_stored : HalvesStored s (split_m l u h₂ m N s) u (u + 4 * k) ends g n width
+  split_stored : HalvesStored s (split_m l u 0 h₂ 1 m N s) u (u + 4 * k) ends g n width
   unfolding split_m
   split_stored =
       record {
@@ -305,7 +305,7 @@ module _ {s : List ℕ} {u ends g n width : ℕ} (q : Splits s u ends g n width)
       }
 
   -- every place that it touches is one
-  split_fits : SplitFits l u h₂ m N s
+  split_fits : SplitFits l u 0 h₂ 1 m N s
   split_fits =
       record {
         fills = fills_on grounds (λ i. 0);
@@ -326,22 +326,22 @@ width_small s u ends g n width q =
 pub split_asks :
     {s : List ℕ} {u ends g n width m : ℕ} → Splits s u ends g n width → (f : Fits u (n * (width + 1)) ends g m (2 * n)) →
     ((i : ℕ) → word s i < 4294967296) → m ≡ word s (g + 1) →
-    SplitFits (laid u (n * (width + 1)) ends g m (2 * n) f) u (u + 2 * (n * (width + 1))) m (2 * n) s
+    SplitFits (laid u (n * (width + 1)) ends g m (2 * n) f) u 0 (u + 2 * (n * (width + 1))) 1 m (2 * n) s
 split_asks {s = s} {u = u} {ends = ends} {g = g} {n = n} {width = width} q f words em =
     let k = n * (width + 1) in
-    subst (λ (x : ℕ). (f : Fits u k ends g x (2 * n)) → SplitFits (laid u k ends g x (2 * n) f) u (u + 2 * k) x (2 * n) s) (sym em)
+    subst (λ (x : ℕ). (f : Fits u k ends g x (2 * n)) → SplitFits (laid u k ends g x (2 * n) f) u 0 (u + 2 * k) 1 x (2 * n) s) (sym em)
     (λ f. rw (same_fits u k ends g (word s (g + 1)) (2 * n) f (fits q)) (split_fits q words))
     f
 
 pub split_gives :
     {s t : List ℕ} {u ends g n width m : ℕ} → Splits s u ends g n width → (f : Fits u (n * (width + 1)) ends g m (2 * n)) →
     ((i : ℕ) → word s i < 4294967296) → m ≡ word s (g + 1) →
-    t ≡ split_m (laid u (n * (width + 1)) ends g m (2 * n) f) u (u + 2 * (n * (width + 1))) m (2 * n) s →
+    t ≡ split_m (laid u (n * (width + 1)) ends g m (2 * n) f) u 0 (u + 2 * (n * (width + 1))) 1 m (2 * n) s →
     HalvesStored s t u (u + 4 * (n * (width + 1))) ends g n width
 split_gives {s = s} {t = t} {u = u} {ends = ends} {g = g} {n = n} {width = width} q f words em et =
     let k = n * (width + 1) in
     subst
-    (λ (x : ℕ). (f : Fits u k ends g x (2 * n)) → t ≡ split_m (laid u k ends g x (2 * n) f) u (u + 2 * k) x (2 * n) s → HalvesStored s t u (u + 4 * k) ends g n width)
+    (λ (x : ℕ). (f : Fits u k ends g x (2 * n)) → t ≡ split_m (laid u k ends g x (2 * n) f) u 0 (u + 2 * k) 1 x (2 * n) s → HalvesStored s t u (u + 4 * k) ends g n width)
     (sym em)
     (λ f et. rw (et, same_fits u k ends g (word s (g + 1)) (2 * n) f (fits q)) (split_stored q words))
     f et

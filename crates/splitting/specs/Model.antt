@@ -20,7 +20,7 @@ entry_m l h parity t i =
     let c = copies_m l s i in
     record {
       words =
-          push_m h s t.count (word s (l.g + 2 + 2 * i)) (c / 2 + more_m (word s (l.b + 8 * i + 2)) parity);
+          push_m h s t.count (word s (l.graph.g + 2 + 2 * i)) (c / 2 + more_m (word s (l.b + 8 * i + 2)) parity);
       count = t.count + many_m c;
     }
 
@@ -35,7 +35,7 @@ single_m l h t j =
     let s = t.words in
     let i = word s (l.col + 2 * j + 1) in
     record {
-      words = push_m h s t.count (word s (l.g + 2 + 2 * i)) 1;
+      words = push_m h s t.count (word s (l.graph.g + 2 + 2 * i)) 1;
       count = t.count + (1 - many_m (copies_m l s i));
     }
 
@@ -66,28 +66,31 @@ pub record Fits (u k ends g m N : ℕ) : Type 0 where
 abbrev pub laid : (u k ends g m N : ℕ) → Fits u k ends g m N → Rings
 laid u k ends g m N fits =
     record {
-      g = g;
-      m = m;
-      parties = N;
-      ends = ends;
+      graph =
+          record {
+            g = g;
+            m = m;
+            parties = N;
+            ends = ends;
+            graph_small = fits.graph;
+            entries_few = fits.entries;
+            parties_few = fits.few;
+            ends_small = fits.table;
+          };
       b = u + 2 * k + 2 * k;
       top = 4 * k;
       col = u + 2 * k + 2 * k + 10 * k;
-      graph = fits.graph;
-      entries = fits.entries;
-      few = fits.few;
-      table = fits.table;
-      rings = fits.rings;
-      own_nodes = fits.own_nodes;
-      columns = fits.columns;
+      rings_small = fits.rings;
+      own_nodes_small = fits.own_nodes;
+      columns_small = fits.columns;
     }
 
 -- the words and the walk once it has ended
 abbrev pub walked : Rings → ℕ → ℕ → List ℕ → Stage
 walked l m parties s = walk_m l parties (2 * m + parties) (begun (fill_m l m parties s))
 
--- both halves of a graph
-unfoldable pub split_m : Rings → ℕ → ℕ → ℕ → ℕ → List ℕ → List ℕ
-split_m l h₁ h₂ m parties s =
+-- both halves of a graph, each of the places of its parity
+unfoldable pub split_m : Rings → ℕ → ℕ → ℕ → ℕ → ℕ → ℕ → List ℕ → List ℕ
+split_m l h₁ parity₁ h₂ parity₂ m parties s =
     let t = walked l m parties s in
-    half_m l h₂ 1 m t.walk.written (half_m l h₁ 0 m t.walk.written t.words)
+    half_m l h₂ parity₂ m t.walk.written (half_m l h₁ parity₁ m t.walk.written t.words)

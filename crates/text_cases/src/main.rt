@@ -4,118 +4,155 @@
 // at the end how many were right and how many there were.
 #![tactic(auto)]
 
-use std::alloc::{AllocError, Global};
-use std::io;
+ghost use Rattle.std.specs.Prelude.{◌≡◌, ◌↔◌, ◌<◌, ◌≤◌, IsTrue, IfSome, length};
+ghost use Rattle.text.specs.Text.{text_output};
 
-// An input, broken or not, and what main prints of it.
+use reading::Input;
+use std::io::Write;
+
+// An input, and what main prints of it.
 #[derive(Clone, Copy)]
 struct Case<'a> {
-    name: &'a str,
-    input: &'a str,
-    broken: bool,
-    expected: &'a str,
+    name: &'a [u8],
+    input: Input<'a>,
+    expected: &'a [u8],
 }
 
 impl Case<'_> {
     // Whether main prints the bytes expected.
-    fn is_right(&self) -> bool {
-        text::text_output(self.input.as_bytes(), self.broken).as_str() == self.expected
+    fn is_right(&self) -> bool
+        ensures { IsTrue result ↔ (text_output self.now.input.broken self.now.input.bytes.now ≡ self.now.expected.now) }
+    {
+        text::text_output(self.input).as_bytes() == self.expected
     }
 }
 
-// An input that begins with some line, goes on with lines `0,1` and has a length.
-fn filled(alloc: Global, first: &str, length: usize) -> Result<String, AllocError> {
-    let lines = "0,1\n".repeat(alloc, 1024)?;
-    first
-        .chars()
-        .chain(lines.chars())
-        .take(length)
-        .collect(alloc)
+// How many cases there were, and how many were right.
+#[derive(Clone, Copy)]
+struct Tally {
+    cases: usize,
+    right: usize,
 }
 
-// The cases of the table. What stands behind the last bar is no field, and fewer than three fields are no case.
-fn listed<'a>(alloc: Global, table: &'a str) -> Result<Vec<Case<'a>>, AllocError> {
-    let mut fields: Vec<&str> = table.split('|').collect(alloc)?;
-    let _behind = fields.pop();
-    let (cases, _unfinished) = fields.as_chunks::<3>();
-    let mut listed = Vec::new(alloc);
-    for [name, input, expected] in cases {
-        listed.push(Case {
-            name: name.trim_start(),
-            input,
+// Writes the line of a case, and gives whether it is right.
+fn tell<W: Write>(out: &mut W, case: Case) -> bool {
+    let is_right = case.is_right();
+    let _ = out.write_all(case.name);
+    let _ = out.write_all(if is_right { b": ok\n" } else { b": differs\n" });
+    is_right
+}
+
+// The field that the next bar ends, and what stands behind the bar.
+fn next_field(table: &[u8]) -> Option<(&[u8], &[u8])>
+    ensures { IfSome result (λ r. length r.1.now < length table.now) }
+{
+    let bar = table.iter().position(|byte| *byte == b'|')?;
+    Some((&table[..bar], &table[bar + 1..]))
+}
+
+// The first case of a table, and what stands behind its line feed. A table that breaks off has no further case.
+fn next_case(table: &[u8]) -> Option<(Case<'_>, &[u8])>
+    ensures { IfSome result (λ r. length r.1.now < length table.now) }
+{
+    let (name, behind) = next_field(table)?;
+    let (bytes, behind) = next_field(behind)?;
+    let (expected, behind) = next_field(behind)?;
+    let case = Case {
+        name,
+        input: Input {
+            bytes,
             broken: false,
-            expected,
-        })?;
-    }
-    Ok(listed)
+        },
+        expected,
+    };
+    Some((case, behind.get(1..).unwrap_or(&[])))
 }
 
-fn main(rt: HostRuntime) -> io::Result<()> {
-    let alloc = rt.alloc();
-    let table = io::read_to_string(alloc, rt.stdin())?;
-    let malformed = "x".repeat(alloc, 4096)?;
-    let malformed_long = "x".repeat(alloc, 4097)?;
-    let long = filled(alloc, "0002\n", 4097)?;
-    let most = filled(alloc, "002\n", 4096)?;
-    let unended = filled(alloc, "2\n", 4096)?;
-    let mut cases = listed(alloc, &table)?;
-    // name, input, whether it is broken, expected: 4,097 bytes give 11, whatever they are, and 4,096 don't; a broken input gives the
-    // first malformed line among those that ended, or else 1 plus the number of line feeds
-    let made = [
-        (
-            "4097 bytes, malformed",
-            malformed_long.as_str(),
-            false,
-            "refused 11 0\n",
-        ),
-        (
-            "4096 bytes, malformed",
-            malformed.as_str(),
-            false,
-            "refused 10 1\n",
-        ),
-        ("4097 bytes", long.as_str(), false, "refused 11 0\n"),
-        ("4096 bytes", most.as_str(), false, "refused 8 0\n"),
-        (
-            "4096 bytes, line 1025 unended",
-            unended.as_str(),
-            false,
-            "refused 10 1025\n",
-        ),
-        ("broken, no bytes", "", true, "refused 10 1\n"),
-        ("broken in parties", "3", true, "refused 10 1\n"),
-        ("broken, no appointment", "3\n", true, "refused 10 2\n"),
-        ("broken behind a line", "3\n0,1\n", true, "refused 10 3\n"),
-        ("broken in a line", "3\n0,1\n1,2", true, "refused 10 3\n"),
-        (
-            "broken, a line malformed",
-            "3\n0 1\n1,2\n",
-            true,
-            "refused 10 2\n",
-        ),
-        (
-            "broken, 4097 bytes",
-            malformed_long.as_str(),
-            true,
-            "refused 11 0\n",
-        ),
-    ];
-    for (name, input, broken, expected) in made {
-        cases.push(Case {
-            name,
-            input,
-            broken,
-            expected,
-        })?;
+// The cases of the table, one after the other.
+fn listed_cases<W: Write>(out: &mut W, table: &[u8]) -> Tally
+    ensures { (result.right ≤ result.cases) × (result.cases ≤ length table.now) }
+{
+    let mut tally = Tally { cases: 0, right: 0 };
+    let mut rest = table;
+    while let Some((case, behind)) = next_case(rest) {
+        if tell(out, case) {
+            tally.right += 1;
+        }
+        tally.cases += 1;
+        rest = behind;
     }
-    let mut right: usize = 0;
-    for case in &cases {
-        if case.is_right() {
-            println!(rt; "{}: ok", case.name)?;
+    tally
+}
+
+// An input that begins with some line, goes on with lines `0,1` and fills an array.
+fn filled<const N: usize>(first: &[u8]) -> [u8; N] {
+    let mut bytes = [0u8; N];
+    let line = first.iter().chain(b"0,1\n".iter().cycle());
+    for (byte, from) in bytes.iter_mut().zip(line) {
+        *byte = *from;
+    }
+    bytes
+}
+
+// The cases made here: 4,097 bytes give 11, whatever they are, and 4,096 don't; a broken input gives the first malformed line among
+// those that ended, or else 1 plus the number of line feeds. Gives how many are right.
+fn made_cases<W: Write>(out: &mut W) -> usize
+    ensures { result ≤ 12 }
+{
+    let most_x = [b'x'; 4096];
+    let long_x = [b'x'; 4097];
+    let long: [u8; 4097] = filled(b"0002\n");
+    let most: [u8; 4096] = filled(b"002\n");
+    let unended: [u8; 4096] = filled(b"2\n");
+    // name, input, whether it is broken, expected
+    let made: [(&[u8], &[u8], bool, &[u8]); 12] = [
+        (b"4097 bytes, malformed", &long_x, false, b"refused 11 0\n"),
+        (b"4096 bytes, malformed", &most_x, false, b"refused 10 1\n"),
+        (b"4097 bytes", &long, false, b"refused 11 0\n"),
+        (b"4096 bytes", &most, false, b"refused 8 0\n"),
+        (
+            b"4096 bytes, line 1025 unended",
+            &unended,
+            false,
+            b"refused 10 1025\n",
+        ),
+        (b"broken, no bytes", b"", true, b"refused 10 1\n"),
+        (b"broken in parties", b"3", true, b"refused 10 1\n"),
+        (b"broken, no appointment", b"3\n", true, b"refused 10 2\n"),
+        (
+            b"broken behind a line",
+            b"3\n0,1\n",
+            true,
+            b"refused 10 3\n",
+        ),
+        (b"broken in a line", b"3\n0,1\n1,2", true, b"refused 10 3\n"),
+        (
+            b"broken, a line malformed",
+            b"3\n0 1\n1,2\n",
+            true,
+            b"refused 10 2\n",
+        ),
+        (b"broken, 4097 bytes", &long_x, true, b"refused 11 0\n"),
+    ];
+    let mut right = 0;
+    for (name, bytes, broken, expected) in made {
+        let case = Case {
+            name,
+            input: Input { bytes, broken },
+            expected,
+        };
+        if tell(out, case) {
             right += 1;
-        } else {
-            println!(rt; "{}: differs", case.name)?;
         }
     }
-    println!(rt; "{right} of {} ok", cases.len())
+    right
+}
+
+fn main(rt: HostRuntime) {
+    let mut table = [0u8; 65_536];
+    let length = reading::read_full(&mut rt.stdin(), &mut table);
+    let out = &mut rt.stdout();
+    let listed = listed_cases(out, &table[..length]);
+    let made = made_cases(out);
+    let _ = println!(rt; "{} of {} ok", listed.right + made, listed.cases + 12);
 }

@@ -7,6 +7,7 @@ use native.Mathlib.Omega.{arith}
 use lib.ListN.{length, length-append}
 use Rattle.words.specs.Words.{word, put_word, region}
 use Rattle.words.proofs.Frames.{here, away, length_put}
+use Rattle.words.specs.Appending.{appended}
 use Rattle.two_color_steps.specs.Model.{row_count, row_start, row_place, append_m}
 use Rattle.words.proofs.Regions.{Same, region_same}
 
@@ -44,7 +45,7 @@ pub record Appended (k a n w : ℕ) (s t : List ℕ) : Type 0 where
   pub other : (i : ℕ) → (i ≡ k → ⊥) → (i ≡ a + n → ⊥) → word t i ≡ word s i
 
 pub append_does : (k a n w : ℕ) (s : List ℕ) → word s k ≡ n → k < length s → a + n < length s → (k ≡ a + n → ⊥) → n + 1 < 4294967296 → w < 4294967296 → Appended k a n w s (append_m k a w s)
-unfolding append_m
+unfolding appended
 append_does k a n w s e hk ha ne hn hw =
     rw e
     (record {

@@ -12,7 +12,8 @@ use Rattle.words.proofs.Frames.{here, away, length_put}
 use Rattle.words.proofs.Sums.{all_map}
 use Rattle.bipartition.specs.TwoColor.{ColouredParty, Colouring, coloured, colour_of, Search, going, refused, side}
 use Rattle.two_color_steps.specs.Model.{Small, right_place, stack_place, colour_place, refused_place, next_place, stack_count, left_count, right_count, append_m, stacked, color_party_m}
-use Rattle.two_color_steps.specs.Bounds.{CanAppend, CanColorParty}
+use Rattle.words.specs.Appending.{CanAppend}
+use Rattle.two_color_steps.specs.Bounds.{CanColorParty}
 use Rattle.two_color_steps.proofs.ModelLaws.{color_left, color_right}
 use Rattle.bipartition.proofs.Colouring.{colour_new, colour_other, still_coloured, EachOnce, side_same, side_other, sides_length, coloured_le}
 use Rattle.words.proofs.Regions.{Same}

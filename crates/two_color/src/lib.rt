@@ -14,16 +14,15 @@ use mark::Mark;
 use two_color_steps::Layout;
 
 // `two_color` by numbers, without the mark: how many parties are on the left, or none where some closed round of appointments has odd
-// length. The left side is at `u` and the right side p words above it. Everything below `u` stays.
-fn color_at(s: &mut [u32], u: usize, p: usize, d: usize, list: &[u16]) -> Option<usize>
-    requires { CanColor p d u list.now s.old }
-    ensures { Colored p list.now u s.old (u + 2 * p) s.new result }
+// length. The left side is at `at.u` and the right side p words above it. Everything below `at.u` stays.
+fn color_at(s: &mut [u32], at: Layout, list: &[u16]) -> Option<usize>
+    requires { CanColor at.p at.d at.u list.now s.old }
+    ensures { Colored at.p list.now at.u s.old (at.u + 2 * at.p) s.new result }
 {
-    if p == 0 {
+    if at.p == 0 {
         return Some(0);
     }
-    let at = Layout { u, p };
-    at.prepare(s, d, list);
+    at.prepare(s, list);
     at.all_steps(s);
     let refused = words::get(s, at.refused_place());
     if refused != 0 {
@@ -36,12 +35,12 @@ fn color_at(s: &mut [u32], u: usize, p: usize, d: usize, list: &[u16]) -> Option
 // Takes the words that it needs (the five words of state count as 5·p), and gives back all but the two sides, also where it
 // refuses: the left side is at the old mark and the right side p words above it. Everything below the old mark stays.
 pub fn two_color(s: &mut [u32], m: &mut Mark, p: usize, d: usize, list: &[u16]) -> Option<usize>
-    requires { CanColor p d m.old.taken list.now s.old × (m.old.taken + (11 * p + d * p) ≤ m.old.there) }
+    requires { CanColor p d m.old.taken list.now s.old }
     ensures { Colored p list.now m.old.taken s.old m.new.taken s.new result × (m.new ≡ taken_more (2 * p) m.old) }
 {
     let n = 11 * p + d * p;
     let u = m.take(n);
-    let r = color_at(s, u, p, d, list);
+    let r = color_at(s, Layout { u, p, d }, list);
     let top = u + 2 * p;
     m.give_back(top);
     r
@@ -52,9 +51,6 @@ pub fn two_sides(s: &mut [u32], p: usize, d: usize, list: &[u16]) -> Option<usiz
     requires { CanColor p d 0 list.now s.old }
     ensures { Colored p list.now 0 s.old (2 * p) s.new result }
 {
-    let mut m = Mark {
-        taken: 0,
-        there: s.len(),
-    };
+    let mut m = Mark { taken: 0 };
     two_color(s, &mut m, p, d, list)
 }

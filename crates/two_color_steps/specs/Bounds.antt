@@ -1,12 +1,8 @@
 -- What the functions that read and write without a test ask of the words: that each place they touch is one. Assumes nothing.
 use Rattle.std.specs.Prelude.{ℕ, zero, suc, ◌+◌, ◌*◌, ◌-◌, ◌/◌, ◌%◌, ◌<◌, ◌≡◌, List, length}
 use Rattle.words.specs.Words.{word, put_word}
+use Rattle.words.specs.Appending.{CanAppend}
 use Rattle.two_color_steps.specs.Model.{right_place, stack_place, colour_place, refused_place, next_place, stack_count, left_count, right_count, row_count, row_start, clear_state_m, start_parties_m, push_end_m, fill_rows_m, stacked, looks_m, steps_m}
-
--- the list whose length stands at k and whose words start at a can get one word more
-pub record CanAppend (k a : ℕ) (s : List ℕ) : Type 0 where
-  pub count : k < length s
-  pub next : a + word s k < length s
 
 -- the row of the party v can
 pub record CanPush (u p v : ℕ) (s : List ℕ) : Type 0 where

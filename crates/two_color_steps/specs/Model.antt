@@ -3,6 +3,7 @@
 use Rattle.std.specs.Prelude.{ℕ, zero, suc, ◌+◌, ◌*◌, ◌-◌, ◌/◌, ◌%◌, ◌<◌, ◌≤◌, List, eqb, ltb, length}
 use Rattle.words.specs.Basics.{pick}
 use Rattle.words.specs.Words.{word, put_word}
+use Rattle.words.specs.Appending.{appended}
 
 -- ── where things lie ──
 --
@@ -54,8 +55,8 @@ row_place u p d v = u + 6 * p + 5 + d * v
 -- ── preparing ──
 
 -- w at the end of the list whose length stands at k and whose words start at a
-unfoldable pub append_m : ℕ → ℕ → ℕ → List ℕ → List ℕ
-append_m k a w s = put_word (put_word s (a + word s k) w) k (word s k + 1)
+abbrev pub append_m : ℕ → ℕ → ℕ → List ℕ → List ℕ
+append_m k a w s = appended k a w s
 
 unfoldable pub clear_state_m : ℕ → ℕ → List ℕ → List ℕ
 clear_state_m u p s =

@@ -15,36 +15,28 @@
 // Ported from rustworkx-core, `two_color` in coloring.rs (Apache License 2.0, see NOTICE).
 #![tactic(auto)]
 
-ghost use Rattle.std.specs.Prelude.{◌≡◌, ◌+◌, ◌*◌, ◌/◌, ◌<◌, ◌≤◌, length};
+ghost use Rattle.std.specs.Prelude.{◌≡◌, ◌+◌, ◌*◌, ◌-◌, ◌/◌, ◌<◌, ◌≤◌, length};
+ghost use Rattle.words.specs.Sides.{offset_of};
 ghost use Rattle.words.specs.Words.{word, word_limit};
 ghost use Rattle.two_color_steps.specs.Model.{right_place, stack_place, colour_place, refused_place, next_place, stack_count, left_count, right_count, row_count, row_start, row_place};
-ghost use Rattle.two_color_steps.specs.Model.{append_m, clear_state_m, start_party_m, start_parties_m, push_end_m, fill_rows_m, color_party_m, touch_m, look_m, touch_all_m, take_off_m, next_party_m, step_m, steps_m, prepare_m};
-ghost use Rattle.two_color_steps.specs.Bounds.{CanAppend, CanPush, CanFill, CanPrepare, CanColorParty, CanTouch, CanLook, CanLookAll, CanTakeOff, CanGoOn, CanStep, CanStepAll};
+ghost use Rattle.two_color_steps.specs.Model.{clear_state_m, start_party_m, start_parties_m, push_end_m, fill_rows_m, color_party_m, touch_m, look_m, touch_all_m, take_off_m, next_party_m, step_m, steps_m, prepare_m};
+ghost use Rattle.two_color_steps.specs.Bounds.{CanPush, CanFill, CanPrepare, CanColorParty, CanTouch, CanLook, CanLookAll, CanTakeOff, CanGoOn, CanStep, CanStepAll};
 
-use words::{NodeIndex, set_word, word_at};
+use words::{NodeIndex, Side, append, set_word, word_at};
 
 // What stands in a colour's place while the party has none.
 const NO_COLOUR: usize = 2;
 
-// Where the words of a search start, and how many parties it colours. Both are small, so that sums of addresses are numbers.
+// Where the words of a search start, how many parties it colours, and how many words each party's row has. They are small, so that
+// sums of addresses are numbers.
 #[derive(Clone, Copy)]
 pub struct Layout {
     pub u: usize,
     pub p: usize,
+    pub d: usize,
     pub ghost low: { u < 2147483648 },
     pub ghost few: { p ≤ 1024 },
-}
-
-// Puts `w` at the end of the list whose length stands at `k` and whose words start at `a`. Rows, stack and sides are such lists.
-#[tactic(auto, unfolding(crate::specs::Model::append_m))]
-fn append(s: &mut [u32], k: usize, a: usize, w: usize)
-    requires a_bound { a < 1099511627776 }
-    requires can_append { CanAppend k a s.old }
-    ensures { s.new ≡ append_m k a w s.old }
-{
-    let n = word_at(s, k);
-    set_word(s, a + n, w);
-    set_word(s, k, n + 1);
+    pub ghost narrow: { d * p ≤ 8192 },
 }
 
 impl Layout {
@@ -65,8 +57,7 @@ impl Layout {
     fn colour_place(self, w: NodeIndex) -> usize
         ensures { result ≡ colour_place self.u self.p w.0 }
     {
-        let v = w.0 as usize;
-        self.u + 3 * self.p + v
+        self.u + 3 * self.p + w.index()
     }
 
     // Is it refused?
@@ -105,8 +96,7 @@ impl Layout {
     fn row_count(self, w: NodeIndex) -> usize
         ensures { result ≡ row_count self.u self.p w.0 }
     {
-        let v = w.0 as usize;
-        self.refused_place() + 5 + 2 * v
+        self.refused_place() + 5 + 2 * w.index()
     }
 
     // The word that says where a party's row lies.
@@ -116,13 +106,12 @@ impl Layout {
         self.row_count(w) + 1
     }
 
-    // A party's row, of `d` words.
-    fn row_place(self, d: usize, w: NodeIndex) -> usize
-        requires { d * w.0 < word_limit }
-        ensures { result ≡ row_place self.u self.p d w.0 }
+    // A party's row.
+    fn row_place(self, w: NodeIndex) -> usize
+        requires { w.0 < self.p }
+        ensures { result ≡ row_place self.u self.p self.d w.0 }
     {
-        let v = w.0 as usize;
-        self.u + 6 * self.p + 5 + d * v
+        self.u + 6 * self.p + 5 + self.d * w.index()
     }
 
     // Nothing is refused, party 0 is next, and the stack and both sides are empty.
@@ -139,23 +128,22 @@ impl Layout {
 
     // A party without a colour and with an empty row.
     #[tactic(auto, unfolding(crate::specs::Model::start_party_m))]
-    fn start_party(self, s: &mut [u32], d: usize, w: NodeIndex)
-        requires { d * w.0 < word_limit }
-        ensures { s.new ≡ start_party_m self.u self.p d w.0 s.old }
+    fn start_party(self, s: &mut [u32], w: NodeIndex)
+        requires { w.0 < self.p }
+        ensures { s.new ≡ start_party_m self.u self.p self.d w.0 s.old }
     {
         words::put(s, self.colour_place(w), NO_COLOUR);
         words::put(s, self.row_count(w), 0);
-        words::put(s, self.row_start(w), self.row_place(d, w));
+        words::put(s, self.row_start(w), self.row_place(w));
     }
 
     // All parties so.
     #[tactic(auto, unfolding(crate::specs::Model::start_parties_m))]
-    fn start_parties(self, s: &mut [u32], d: usize)
-        requires { d * self.p ≤ 8192 }
-        ensures { s.new ≡ start_parties_m self.u self.p d self.p s.old }
+    fn start_parties(self, s: &mut [u32])
+        ensures { s.new ≡ start_parties_m self.u self.p self.d self.p s.old }
     {
         for v in 0..self.p {
-            self.start_party(s, d, NodeIndex(v as u32));
+            self.start_party(s, NodeIndex::new(v));
         }
     }
 
@@ -166,22 +154,22 @@ impl Layout {
         requires can_push { CanPush self.u self.p (word list.now i) s.old }
         ensures { s.new ≡ push_end_m self.u self.p list.now i j s.old }
     {
-        let v = NodeIndex(word_at(list, i) as u32);
+        let v = NodeIndex::new(word_at(list, i));
         let w = word_at(list, j);
         let row = word_at(s, self.row_start(v));
         append(s, self.row_count(v), row, w);
     }
 
-    // Each appointment, from the newest down: its end `far` goes into the row of its end `near` (0 the first end, 1 the second).
+    // Each appointment, from the newest down: its other end goes into the row of its end on the side `near`.
     #[tactic(auto, unfolding(crate::specs::Model::fill_rows_m))]
-    fn fill_rows(self, s: &mut [u32], list: &[u16], near: usize, far: usize)
-        requires list_len_bound { length list.now ≤ 8192 }
-        requires near_bound { (near ≤ 1) × (far ≤ 1) }
-        requires can_fill { CanFill self.u self.p list.now near far (length list.now / 2) s.old }
-        ensures { s.new ≡ fill_rows_m self.u self.p list.now near far (length list.now / 2) s.old }
+    fn fill_rows(self, s: &mut [u32], list: &[u16], near: Side)
+        requires { CanFill self.u self.p list.now (offset_of near) (1 - offset_of near) (length list.now / 2) s.old }
+        ensures { s.new ≡ fill_rows_m self.u self.p list.now (offset_of near) (1 - offset_of near) (length list.now / 2) s.old }
     {
+        let own = near.offset();
+        let other = 1 - own;
         for i in (0..list.len() / 2).rev() {
-            self.push_end(s, list, 2 * i + near, 2 * i + far);
+            self.push_end(s, list, 2 * i + own, 2 * i + other);
         }
     }
 
@@ -191,7 +179,7 @@ impl Layout {
         requires { CanColorParty self.u self.p w.0 color s.old }
         ensures { s.new ≡ color_party_m self.u self.p w.0 color s.old }
     {
-        let v = w.0 as usize;
+        let v = w.index();
         set_word(s, self.colour_place(w), color);
         append(s, self.stack_count(), self.stack_place(), v);
         if color == 0 {
@@ -229,7 +217,7 @@ impl Layout {
         ensures { s.new ≡ look_m self.u self.p other at s.old }
     {
         let w = word_at(s, at);
-        self.touch(s, other, NodeIndex(w as u32));
+        self.touch(s, other, NodeIndex::new(w));
     }
 
     // All neighbours of a party, in the order of its row.
@@ -256,7 +244,7 @@ impl Layout {
     {
         let v = words::get(s, self.stack_place() + (h - 1));
         words::put(s, self.stack_count(), h - 1);
-        self.touch_all(s, NodeIndex(v as u32));
+        self.touch_all(s, NodeIndex::new(v));
     }
 
     // On to the next party, which gets 1 if it has no colour. After the last there is none, and nothing happens.
@@ -269,7 +257,7 @@ impl Layout {
         if v >= self.p {
             return;
         }
-        let w = NodeIndex(v as u32);
+        let w = NodeIndex::new(v);
         let have = words::get(s, self.colour_place(w));
         words::put(s, self.next_place(), v + 1);
         if have == NO_COLOUR {
@@ -310,15 +298,13 @@ impl Layout {
     // The words before the first step. In its row a party's appointments where it is first end come before those where it is
     // second end, each newest first: document 01's order of neighbours.
     #[tactic(auto, unfolding(crate::specs::Model::prepare_m))]
-    pub fn prepare(self, s: &mut [u32], d: usize, list: &[u16])
-        requires list_len_bound { length list.now ≤ 8192 }
-        requires p_bound { d * self.p ≤ 8192 }
-        requires can_prepare { CanPrepare self.u self.p d list.now s.old }
-        ensures { s.new ≡ prepare_m self.u self.p d list.now s.old }
+    pub fn prepare(self, s: &mut [u32], list: &[u16])
+        requires { CanPrepare self.u self.p self.d list.now s.old }
+        ensures { s.new ≡ prepare_m self.u self.p self.d list.now s.old }
     {
         self.clear_state(s);
-        self.start_parties(s, d);
-        self.fill_rows(s, list, 0, 1);
-        self.fill_rows(s, list, 1, 0);
+        self.start_parties(s);
+        self.fill_rows(s, list, Side::First);
+        self.fill_rows(s, list, Side::Second);
     }
 }

@@ -35,12 +35,8 @@ impl<'a> Viewer<'a> {
         ensures answer { opened result ≡ viewer_answer list.now slots.now }
         ensures viewer { IfOk result (λ v. (v.list ≡ list.entry) × (v.slots ≡ slots.entry) × (v.at ≡ 0)) }
     {
-        if list.len() % 2 == 1 {
-            return Err(Refusal::OddLength);
-        }
-        if slots.len() < list.len() / 2 {
-            return Err(Refusal::FewSlots);
-        }
+        checking::check_even(list)?;
+        checking::check_slots(slots.len(), list.len() / 2)?;
         Ok(Viewer::over(list, slots))
     }
 
@@ -50,9 +46,11 @@ impl<'a> Viewer<'a> {
         ensures seen { result ≡ view_step party self.old.list.now self.old.slots.now self.old.at }
         ensures stands { self.new ≡ stepped party self.old }
     {
-        let count = self.list.len() / 2;
+        let appointments = self.list.as_chunks::<2>().0;
+        let count = appointments.len();
         for i in self.at..count {
-            if naming::named(self.list[2 * i], self.list[2 * i + 1], party) {
+            let [first, second] = appointments[i];
+            if naming::named(first, second, party) {
                 self.at = i + 1;
                 return Some(Seen {
                     position: i,

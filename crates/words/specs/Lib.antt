@@ -1,6 +1,9 @@
 pub mod Basics
 pub mod Words
+pub mod Sides
 pub mod PowersOfTwo
 pub mod Frames
 pub mod Ascii
 pub mod Computing
+pub mod Appending
+pub mod Clearing

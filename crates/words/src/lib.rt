@@ -1,18 +1,60 @@
-// Words in lent slices: reading and writing, with a test (total) or without (at a place that is one), and clearing; and the
+// Words in lent slices: reading and writing, with a test (total) or without (at a place that is one), clearing and appending; and the
 // numbers of parties and pairs, two kinds. Everything above stands on these.
 #![tactic(auto)]
 
-ghost use Rattle.std.specs.Prelude.{◌≡◌, ◌++◌, ℕ, ◌%◌, ◌<◌, ◌≤◌, length, refl, replicate, drop, set, slice_index_or};
+ghost use Rattle.std.specs.Prelude.{◌≡◌, ◌+◌, ℕ, ◌%◌, ◌<◌, ◌≤◌, length, refl, set, slice_index_or};
 ghost use Rattle.std.proofs.Common.{rules};
 ghost use Rattle.words.specs.Words.{word_limit};
+ghost use Rattle.words.specs.Appending.{CanAppend, appended};
+ghost use Rattle.words.specs.Clearing.{Cleared};
+
+mod side; // side.rt: the two ends of an appointment or a pair
+
+pub use side::Side;
 
 // A party's number.
 #[derive(Clone, Copy)]
 pub struct NodeIndex(pub u32);
 
+impl NodeIndex {
+    // The party of this number.
+    pub fn new(x: usize) -> NodeIndex
+        requires { x < word_limit }
+        ensures { result.0 ≡ x }
+    {
+        NodeIndex(x as u32)
+    }
+
+    // The number, to reckon places with.
+    pub fn index(self) -> usize
+        ensures { result ≡ self.0 }
+    {
+        let v = self.0;
+        v as usize
+    }
+}
+
 // A pair's number: its row in the table of ends.
 #[derive(Clone, Copy)]
 pub struct EdgeIndex(pub u32);
+
+impl EdgeIndex {
+    // The pair of this number.
+    pub fn new(x: usize) -> EdgeIndex
+        requires { x < word_limit }
+        ensures { result.0 ≡ x }
+    {
+        EdgeIndex(x as u32)
+    }
+
+    // The number, to reckon places with.
+    pub fn index(self) -> usize
+        ensures { result ≡ self.0 }
+    {
+        let e = self.0;
+        e as usize
+    }
+}
 
 // A word of a lent slice, which reads as a number: the 32 bits of a word of scratch, or the 16 of an end, a slot or an output.
 pub trait Word: Copy {
@@ -73,7 +115,7 @@ impl Word for u16 {
     ghost reads_what_was_cut = { λ x. refl };
 
     fn number(self) -> usize {
-        self as usize
+        usize::from(self)
     }
 
     fn cut(x: usize) -> u16 {
@@ -116,10 +158,21 @@ pub fn set_word<T: Word>(s: &mut [T], i: usize, x: usize)
     s[i] = T::cut(x);
 }
 
-// Sets the first `n` words to 0.
-pub fn clear(s: &mut [u32], n: usize)
-    requires { n ≤ length s.old }
-    ensures { s.new ≡ replicate n 0 ++ drop n s.old }
+// Sets the `n` words from `from` on to 0.
+pub fn clear(s: &mut [u32], from: usize, n: usize)
+    requires { from + n ≤ length s.old }
+    ensures { Cleared from n s.old s.new }
 {
-    s[..n].fill(0);
+    s[from..from + n].fill(0);
+}
+
+// Puts `w` at the end of the list whose length stands at `k` and whose words start at `a`: a row, a stack or a side.
+#[tactic(auto, unfolding(crate::specs::Appending::appended))]
+pub fn append(s: &mut [u32], k: usize, a: usize, w: usize)
+    requires { CanAppend k a s.old }
+    ensures { s.new ≡ appended k a w s.old }
+{
+    let n = word_at(s, k);
+    set_word(s, a + n, w);
+    set_word(s, k, n + 1);
 }

@@ -8,14 +8,14 @@ pub returns-in_err-check_with_slots-clause-answer : goal.returns-in_err-check_wi
 returns-in_err-check_with_slots-clause-answer c =
     let a = c.args in
     handed_on c.from_residual.result _ _ c.from_residual.ensures.1
-    (asked_refused a.p a.list.now a.slots.now a.party _ _ c.in_err-check_with_slots.ensures)
+    (asked_refused a.p a.list.now a.slots.now a.party _ _ (rw c.from.ensures at c.in_err-check_with_slots.ensures))
 
 pub returns-then-p-party-clause-answer : goal.returns-then-p-party-clause-answer
 returns-then-p-party-clause-answer c =
     let a = c.args in
-    asked_5 a.p a.list.now a.slots.now a.party c.in_ok-check_with_slots.ensures c.if-p-party.true
+    asked_5 a.p a.list.now a.slots.now a.party (rw c.from.ensures at c.in_ok-check_with_slots.ensures) c.if-p-party.true
 
 pub returns-clause-answer : goal.returns-clause-answer
 returns-clause-answer c =
     let a = c.args in
-    asked_waits a.p a.list.now a.slots.now a.party c.in_ok-check_with_slots.ensures _ c.if-p-party.false c.waiting_of.ensures.waiting
+    asked_waits a.p a.list.now a.slots.now a.party (rw c.from.ensures at c.in_ok-check_with_slots.ensures) _ c.if-p-party.false c.waiting_of.ensures.waiting

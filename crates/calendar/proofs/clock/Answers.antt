@@ -13,4 +13,4 @@ pub returns : goal.returns
 returns c =
     let t = c.time_at-time.result in
     let high : t / 256 % 256 ≡ t / 256 = omega arith in
-    rw (c.to_be_bytes.ensures, high) (clock_moment c.args.slot t c.if-slot-gt4095.false c.time_at-time.ensures)
+    rw (c.to_be_bytes.ensures, high) (clock_moment c.args.slot t c.if-slot-gt4095.false (rw c.from.ensures at c.time_at-time.ensures))

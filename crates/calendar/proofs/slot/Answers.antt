@@ -21,4 +21,5 @@ pub returns : goal.returns
 returns c =
     let a = c.args in
     let whole : c.from_be_bytes.result ≡ in_bytes a.hours a.minutes = omega arith in
-    slot_number a.day a.hours a.minutes c.in-Some.k (omega arith) (c.in-Some.ensures.0 ∙ ap (number_in times) whole) c.in-Some.ensures.1
+    rw c.from.ensures
+    (slot_number a.day a.hours a.minutes c.in-Some.k (omega arith) (c.in-Some.ensures.0 ∙ ap (number_in times) whole) c.in-Some.ensures.1)

@@ -1,8 +1,18 @@
 -- `bimtsure_clock` meets its contract: the place of a refusal fits 32 bits. Assumes nothing.
-use mathlib.Core.Path.{sym}
+use Prim.Native.Nat.{ℕ, ◌<◌}
+use mathlib.Core.Path.{◌≡◌}
 use native.Mathlib.Omega.{arith}
+use Rattle.appointments.specs.Answers.{refused}
+use Rattle.appointments.proofs.AnswerLaws.{place_below}
+use Rattle.calendar.specs.Calendar.{clock_answer}
 use Rattle.calendar.proofs.Telling.{clock_refusal}
 use Rattle.calendar_c.proofs.bimtsure_clock.Goals as goal
 
-pub overflow_cast-result-in-Err : goal.overflow_cast-result-in-Err
-overflow_cast-result-in-Err c = omega (arith, clock_refusal _ _ _ (sym c.in-Err.ensures))
+refusal_fits : (s n i : ℕ) → clock_answer s ≡ refused n i → i < 4294967296
+refusal_fits s n i e = omega (arith, clock_refusal s n i e)
+
+pub overflow_cast-result : goal.overflow_cast-result
+overflow_cast-result c =
+    let small : c.of-clock.result.place < 4294967296 =
+    rw (c.of-clock.ensures.place, c.clock.ensures) (place_below _ 4294967296 (omega arith) (refusal_fits _)) in
+    omega arith

@@ -1,11 +1,27 @@
 -- `bimtsure_slot` meets its contract: a slot and the place of a refusal fit 32 bits. Assumes nothing.
-use mathlib.Core.Path.{sym}
+use Prim.Native.Nat.{ℕ, ◌<◌}
+use mathlib.Core.Path.{◌≡◌, refl}
 use native.Mathlib.Omega.{arith}
+use Rattle.appointments.specs.Answers.{accepted, refused}
+use Rattle.appointments.proofs.AnswerLaws.{place_below, figure_below, figures_say}
+use Rattle.calendar.specs.Calendar.{slot_answer}
 use Rattle.calendar.proofs.Telling.{slot_small, slot_refusal}
 use Rattle.calendar_c.proofs.bimtsure_slot.Goals as goal
 
-pub overflow_cast-result : goal.overflow_cast-result
-overflow_cast-result c = omega (arith, slot_small _ _ _ _ (sym c.in-Ok.ensures))
+slot_fits : (day hours minutes s : ℕ) → slot_answer day hours minutes ≡ accepted s → s < 4294967296
+slot_fits day hours minutes s e = omega (arith, slot_small day hours minutes s e)
 
-pub overflow_cast-result-in-Err : goal.overflow_cast-result-in-Err
-overflow_cast-result-in-Err c = omega (arith, slot_refusal _ _ _ _ _ (sym c.in-Err.ensures))
+refusal_fits : (day hours minutes n i : ℕ) → slot_answer day hours minutes ≡ refused n i → i < 4294967296
+refusal_fits day hours minutes n i e = omega (arith, slot_refusal day hours minutes n i e)
+
+pub overflow_cast-result : goal.overflow_cast-result
+overflow_cast-result c =
+    let small : c.of-slot.result.place < 4294967296 =
+    rw (c.of-slot.ensures.place, c.slot.ensures) (place_below _ 4294967296 (omega arith) (refusal_fits _ _ _)) in
+    omega arith
+
+pub overflow_cast-result-2 : goal.overflow_cast-result-2
+overflow_cast-result-2 c =
+    let small : c.of-slot.result.figures < 4294967296 =
+    rw (c.of-slot.ensures.figures, c.slot.ensures, figures_say (λ (n : ℕ). n) _ _ refl) (figure_below (λ (n : ℕ). n) _ 4294967296 (omega arith) (slot_fits _ _ _)) in
+    omega arith

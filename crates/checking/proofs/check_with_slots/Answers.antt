@@ -1,8 +1,8 @@
--- `checking::check_with_slots` meets its contract: check 7 after the list's own, each refusal by the tests that led to it.
--- Assumes nothing.
+-- `checking::check_with_slots` meets its contract: check 7 after the list's own. Assumes nothing.
 use Rattle.appointments.specs.Checks.{passed, checks_1_to_5}
 use Rattle.appointments.proofs.AnswerLaws.{handed_on}
-use Rattle.checking.proofs.Answering.{checked_passed, checked_number, refuses_listed, refuses_short, passes_long}
+use Rattle.appointments.proofs.Flat.{appts_count}
+use Rattle.checking.proofs.Answering.{checked_passed, checked_number, refuses_listed, listed_goes_on}
 use Rattle.checking.proofs.check_with_slots.Goals as goal
 
 pub returns-in_err-check_list : goal.returns-in_err-check_list
@@ -11,12 +11,8 @@ returns-in_err-check_list c =
     handed_on c.from_residual.result _ _ c.from_residual.ensures.1
     (rw (refuses_listed a.p a.list.now a.slots _ _ (checked_number (checks_1_to_5 a.p a.list.now passed) _ _ c.in_err-check_list.ensures)))
 
-pub returns-then-slots-list : goal.returns-then-slots-list
-returns-then-slots-list c =
-    let a = c.args in
-    rw (refuses_short a.p a.list.now a.slots (checked_passed (checks_1_to_5 a.p a.list.now passed) c.in_ok-check_list.ensures) c.if-slots-list.true)
-
 pub returns : goal.returns
 returns c =
     let a = c.args in
-    rw (passes_long a.p a.list.now a.slots (checked_passed (checks_1_to_5 a.p a.list.now passed) c.in_ok-check_list.ensures) c.if-slots-list.false)
+    rw (listed_goes_on a.p a.list.now a.slots (checked_passed (checks_1_to_5 a.p a.list.now passed) c.in_ok-check_list.ensures), appts_count a.list.now)
+    c.check_slots.ensures

@@ -20,7 +20,7 @@ loop-v-preserved c =
     let i = c.loop-v.v-index in
     let s = c.loop-v.loads in
     let inv = c.loop-v.invariant in
-    let e : c.add_load.new.loads ≡ put_word s (word l i) (word s (word l i) + 1) = cc c.add_load.ensures in (
+    let e : c.put.new.s ≡ put_word s (word l i) (word s (word l i) + 1) = cc (c.put.ensures, c.get-load.ensures.0, c.from-v.ensures) in (
       ap length e ∙ length_put s (word l i) (word s (word l i) + 1) ∙ inv.0,
       rw e
           (counted_more (length c.args.loads.now) s l i c.requires.list_len_bound (omega arith) inv.0 inv.1),

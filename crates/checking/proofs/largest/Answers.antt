@@ -1,17 +1,13 @@
--- `checking::largest` meets its contract: the number so far is the largest of the counters passed. Assumes nothing.
-use mathlib.Core.Path.{refl, sym, ◌∙◌}
-use Rattle.words.proofs.Extremes.{max_is}
-use Rattle.checking.specs.Checked.{largest_word}
-use Rattle.checking.proofs.Answering.{largest_more}
+-- `checking::largest` meets its contract: `max` gives the largest of them. Assumes nothing.
+use mathlib.Core.Path.{◌∙◌, ap}
+use Rattle.std.specs.Option.{unwrap_or}
+use Rattle.std.proofs.lemmas.Iterator.{YieldsList-from_slice}
+use Rattle.std.proofs.lemmas.Iterator.Consumers.{max_from_yields_List}
+use Rattle.checking.proofs.Answering.{largest_of}
 use Rattle.checking.proofs.largest.Goals as goal
 
-pub loop-v-init : goal.loop-v-init
-unfolding largest_word
-loop-v-init c = refl
-
-pub loop-v-preserved : goal.loop-v-preserved
-loop-v-preserved c =
-    let in-loop = c.loop-v in
-    c.max-d.ensures
-    ∙ max_is in-loop.d c.get.result
-    ∙ rw (in-loop.invariant, c.get.ensures.0) (sym (largest_more in-loop.v c.args.loads.now))
+pub returns : goal.returns
+returns c =
+    c.unwrap_or.ensures
+    ∙ ap (λ o. unwrap_or o 0) (c.copied.ensures ∙ max_from_yields_List _ c.max.result c.max.ensures.ran (YieldsList-from_slice c.args.loads.now (cc)))
+    ∙ largest_of c.args.loads.now

@@ -2,4 +2,4 @@
 use Rattle.edge_color.proofs.+rbmg_edge_color.Given as goal
 
 abbrev pub decreases-rbmg_edge_color : goal.decreases-rbmg_edge_color
-decreases-rbmg_edge_color l = l.d
+decreases-rbmg_edge_color l = l.graph.d

@@ -2,4 +2,4 @@
 use Rattle.edge_color.proofs.+rbmg_edge_color_when_power_of_two.Given as goal
 
 abbrev pub decreases-rbmg_edge_color_when_power_of_two : goal.decreases-rbmg_edge_color_when_power_of_two
-decreases-rbmg_edge_color_when_power_of_two l = l.d
+decreases-rbmg_edge_color_when_power_of_two l = l.graph.d

@@ -3,5 +3,5 @@ use native.Mathlib.Omega.{arith}
 use Rattle.words.proofs.PowersOfTwo.{log_up_law}
 use Rattle.edge_color.proofs.move_earliest.Goals as goal
 
-pub overflow_sub-r : goal.overflow_sub-r
-overflow_sub-r c = omega (arith, c.next_power_of_two-r.ensures, (log_up_law c.args.h).reaches)
+pub overflow_sub-earliest : goal.overflow_sub-earliest
+overflow_sub-earliest c = omega (arith, c.next_power_of_two-r.ensures, (log_up_law c.args.h).reaches)

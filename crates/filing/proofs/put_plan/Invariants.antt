@@ -7,4 +7,4 @@ use Prim.Native.Nat.{◌+◌, ◌*◌}
 use Rattle.filing.proofs.put_plan.Given as goal
 
 abbrev pub invariant-loop-i : goal.invariant-loop-i
-invariant-loop-i l = (length l.output ≡ length l.initial.output) × (l.output ≡ filled (filed_bytes l.p l.list l.slots) (6 * l.i + 4) l.initial.output)
+invariant-loop-i l = (length l.output ≡ length l.initial.output) × (l.output ≡ filled (filed_bytes l.p l.list l.slots) (6 * length l.yielded + 4) l.fn.output)

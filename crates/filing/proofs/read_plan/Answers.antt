@@ -1,7 +1,11 @@
--- `read_plan` meets its contract: each refusal by the tests that led to it, and the plan read. Assumes nothing.
+-- `read_plan` meets its contract: each refusal by the test or check that led to it, and the plan read. Assumes nothing.
 use Rattle.filing.proofs.ReadingSteps.{short_12, barred_12, barred_1, barred_3, Barred, short_13, was_read}
 use mathlib.Core.Path.{◌∙◌}
 use mathlib.Core.Logic.{inl, inr}
+use Prim.Native.Nat.{◌≤◌}
+use borrow.Author.Tests.{ltb-true, ltb-false}
+use Rattle.appointments.proofs.AnswerLaws.{handed_on}
+use Rattle.checking.proofs.Answering.{bar_refused, bar_accepted}
 use Rattle.filing.proofs.read_plan.Goals as goal
 use Rattle.filing.proofs.read_plan.Goals.{then-list-appointments-via-then-list-appointments, then-list-appointments-via-else-list-appointments+then-slots-appointments}
 
@@ -14,26 +18,31 @@ returns-then-bytes-lt4 c =
 pub returns-then-bytes-appointments : goal.returns-then-bytes-appointments
 returns-then-bytes-appointments c =
     let a = c.args in
-    let barred = barred_12 a.bytes.now a.list.now a.slots.now _ _ c.if-bytes-lt4.false c.number_at-parties.ensures c.number_at-appointments.ensures c.if-bytes-appointments.true in
+    let barred = barred_12 a.bytes.now a.list.now a.slots.now _ _ c.if-bytes-lt4.false c.number_at-parties.ensures (c.from-appointments.ensures ∙ c.number_at.ensures) c.if-bytes-appointments.true in
     record { answer = barred.0; list = barred.1.0; slots = barred.1.1 }
 
-pub returns-then-parties-gt1024 : goal.returns-then-parties-gt1024
-returns-then-parties-gt1024 c =
+pub returns-in_err-check_parties : goal.returns-in_err-check_parties
+returns-in_err-check_parties c =
     let a = c.args in
-    let barred = barred_1 a.bytes.now a.list.now a.slots.now _ _ c.if-bytes-lt4.false c.number_at-parties.ensures c.number_at-appointments.ensures c.if-bytes-appointments.false c.if-parties-gt1024.true in
-    record { answer = barred.0; list = barred.1.0; slots = barred.1.1 }
+    let told = bar_refused _ 1 _ _ c.in_err-check_parties.ensures in
+    let barred = barred_1 a.bytes.now a.list.now a.slots.now _ _ c.if-bytes-lt4.false c.number_at-parties.ensures (c.from-appointments.ensures ∙ c.number_at.ensures) c.if-bytes-appointments.false (rw c.from.ensures at (ltb-true 1024 _ told.0)) in
+    record { answer = handed_on c.from_residual.result _ _ c.from_residual.ensures.1 (rw (told.1, told.2) barred.0); list = barred.1.0; slots = barred.1.1 }
 
-pub returns-then-appointments-gt4096 : goal.returns-then-appointments-gt4096
-returns-then-appointments-gt4096 c =
+pub returns-in_err-check_count : goal.returns-in_err-check_count
+returns-in_err-check_count c =
     let a = c.args in
-    let barred = barred_3 a.bytes.now a.list.now a.slots.now _ _ c.if-bytes-lt4.false c.number_at-parties.ensures c.number_at-appointments.ensures c.if-bytes-appointments.false c.if-parties-gt1024.false c.if-appointments-gt4096.true in
-    record { answer = barred.0; list = barred.1.0; slots = barred.1.1 }
+    let told = bar_refused _ 3 _ _ c.in_err-check_count.ensures in
+    let few : c.number_at-parties.result ≤ 1024 = rw c.from.ensures at (ltb-false 1024 _ (bar_accepted _ 1 c.in_ok-check_parties.ensures)) in
+    let barred = barred_3 a.bytes.now a.list.now a.slots.now _ _ c.if-bytes-lt4.false c.number_at-parties.ensures (c.from-appointments.ensures ∙ c.number_at.ensures) c.if-bytes-appointments.false few (ltb-true 4096 _ told.0) in
+    record { answer = handed_on c.from_residual-in_err-check_count.result _ _ c.from_residual-in_err-check_count.ensures.1 (rw (told.1, told.2) barred.0); list = barred.1.0; slots = barred.1.1 }
 
 pub returns-then-list-appointments : goal.returns-then-list-appointments
 returns-then-list-appointments c =
     let a = c.args in
+    let few : c.number_at-parties.result ≤ 1024 = rw c.from.ensures at (ltb-false 1024 _ (bar_accepted _ 1 c.in_ok-check_parties.ensures)) in
+    let count = ltb-false 4096 _ (bar_accepted _ 3 c.in_ok-check_count.ensures) in
     let short =
-    short_13 a.bytes.now a.list.now a.slots.now _ _ c.if-bytes-lt4.false c.number_at-parties.ensures c.number_at-appointments.ensures c.if-bytes-appointments.false c.if-parties-gt1024.false c.if-appointments-gt4096.false in
+    short_13 a.bytes.now a.list.now a.slots.now _ _ c.if-bytes-lt4.false c.number_at-parties.ensures (c.from-appointments.ensures ∙ c.number_at.ensures) c.if-bytes-appointments.false few count in
     let barred : Barred a.bytes.now a.list.now a.slots.now 13 = elim c.then-list-appointments.branch [
       | then-list-appointments-via-then-list-appointments w ↦ short (inl w.if-list-appointments.true)
       | then-list-appointments-via-else-list-appointments+then-slots-appointments w ↦ short (inr w.if-slots-appointments.true)
@@ -43,5 +52,7 @@ returns-then-list-appointments c =
 pub returns : goal.returns
 returns c =
     let a = c.args in
-    let w = was_read a.bytes.now a.list.now a.slots.now _ _ c.if-bytes-lt4.false c.number_at-parties.ensures c.number_at-appointments.ensures c.if-bytes-appointments.false c.if-parties-gt1024.false c.if-appointments-gt4096.false c.if-list-appointments.false c.if-slots-appointments.false in
+    let few : c.number_at-parties.result ≤ 1024 = rw c.from.ensures at (ltb-false 1024 _ (bar_accepted _ 1 c.in_ok-check_parties.ensures)) in
+    let count = ltb-false 4096 _ (bar_accepted _ 3 c.in_ok-check_count.ensures) in
+    let w = was_read a.bytes.now a.list.now a.slots.now _ _ c.if-bytes-lt4.false c.number_at-parties.ensures (c.from-appointments.ensures ∙ c.number_at.ensures) c.if-bytes-appointments.false few count c.if-list-appointments.false c.if-slots-appointments.false in
     record { answer = w.0; list = c.take_plan.ensures.list ∙ w.1.0; slots = c.take_plan.ensures.slots ∙ w.1.1 }

@@ -7,7 +7,7 @@ use Rattle.given_partition.proofs.bipartite_edge_color_given_partition.Goals as 
 pub invariant_of-chains : goal.invariant_of-chains
 invariant_of-chains c =
     let small = few c.requires.sided c.prepare-n.ensures.0 _ (omega arith) in
-    record { out_small = small.out; links_small = small.links; d_small = small.matchings; few = small.numbers }
+    record { out_small = small.out; links_small = small.links; d_small = small.matchings; numbers_small = small.numbers }
 
 pub give_slots-requires : goal.give_slots-requires
 give_slots-requires c =

@@ -6,6 +6,6 @@ pub returns : goal.returns
 returns c =
     let a = c.args in
     let found = c.searches.ensures in (
-      matching_found a.t a.g a.n a.k a.out a.m.now.taken c.searches.new.m.taken a.s.now c.searches.new.s c.requires.0 found.0 c.read_matching.new.s c.read_matching.ensures,
+      matching_found a.t a.graph.g a.graph.n a.graph.d a.out a.m.now.taken c.searches.new.m.taken a.s.now c.searches.new.s c.requires found.0 c.read_matching.new.s c.read_matching.ensures,
       found.1,
     )

@@ -8,7 +8,7 @@ pub loop-i-preserved : goal.loop-i-preserved
 loop-i-preserved c =
     let a = c.args in
     let lp = c.loop-i in
-    let words : c.put.new.s ≡ put_word lp.s (a.out + lp.i) (word lp.s (a.h + 2 + 2 * lp.i)) = rw c.get-e.ensures.0 at c.put.ensures in
+    let words : c.put.new.s ≡ put_word lp.s (a.out + lp.i) (word lp.s (a.h + 2 + 2 * lp.i)) = rw (c.index.ensures, c.pair_at-e.ensures) at c.put.ensures in
     λ ends rows can. reading_more ends rows a.h a.n a.out lp.i a.s.now lp.s c.put.new.s can c.loop-i-test.true (lp.invariant ends rows can) words
 
 pub returns : goal.returns

@@ -7,20 +7,20 @@ pub returns-then-flagged-eq0 : goal.returns-then-flagged-eq0
 returns-then-flagged-eq0 c =
     let a = c.args in
     let first = c.search-flagged.ensures in
-    (one_search a.t a.g a.n a.k a.m.now.taken c.search-flagged.new.m.taken c.search-flagged.result a.s.now c.search-flagged.new.s first.0 c.if-flagged-eq0.true, first.1)
+    (one_search a.t a.graph.g a.graph.n a.graph.d a.m.now.taken c.search-flagged.new.m.taken c.search-flagged.result a.s.now c.search-flagged.new.s first.0 c.if-flagged-eq0.true, first.1)
 
 pub search-requires : goal.search-requires
 search-requires c =
     let a = c.args in
     let first = c.search-flagged.ensures in
-    rw first.1 (can_search_again a.t a.g a.n a.k a.m.now.taken a.s.now c.search-flagged.new.s c.requires.0 first.0.stays, c.requires.1)
+    rw first.1 (can_search_again a.t a.graph.g a.graph.n a.graph.d a.m.now.taken a.s.now c.search-flagged.new.s c.requires first.0.stays)
 
 pub returns : goal.returns
 returns c =
     let a = c.args in
     let first = c.search-flagged.ensures in
     let second = c.search.ensures in (
-      two_searches a.t a.g a.n a.k a.m.now.taken c.search-flagged.new.m.taken c.search.new.m.taken c.search-flagged.result c.search.result a.s.now
-          c.search-flagged.new.s c.search.new.s c.requires.0 first.0 c.if-flagged-eq0.false second.0,
+      two_searches a.t a.graph.g a.graph.n a.graph.d a.m.now.taken c.search-flagged.new.m.taken c.search.new.m.taken c.search-flagged.result c.search.result a.s.now
+          c.search-flagged.new.s c.search.new.s c.requires first.0 c.if-flagged-eq0.false second.0,
       second.1 ∙ first.1,
     )

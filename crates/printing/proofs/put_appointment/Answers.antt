@@ -1,30 +1,41 @@
 -- `put_appointment` meets its contract: four numbers, each with its space or line feed. Assumes nothing.
 use native.Mathlib.Omega.{arith}
 use borrow.Author.Rules.{rules}
-use Rattle.printing.proofs.PlacingSteps.{room_first, room_then, room_as, placed_then, placed_as, appointment_fields}
+use Rattle.printing.specs.Printing.{decimal}
+use Rattle.printing.proofs.PlacingSteps.{room_first, room_then, room_as, placed_then, placed_as, line_4}
 use Rattle.printing.proofs.put_appointment.Goals as goal
 
 pub put_field-requires : goal.put_field-requires
 put_field-requires g c =
-    let room = room_as (appointment_fields _ _ c.args.i _ _ _ c.get-first.ensures.0 c.get-second.ensures.0 c.get-slot.ensures.0) c.requires.room in
+    let a = c.args in
+    let room = room_as (line_4 (decimal a.i) (decimal a.first) (decimal a.second) (decimal a.slot)) c.requires in
     (search rules, (room_first _ room, omega arith))
 
 pub put_field-requires-2 : goal.put_field-requires-2
 put_field-requires-2 g c =
-    let room = room_as (appointment_fields _ _ c.args.i _ _ _ c.get-first.ensures.0 c.get-second.ensures.0 c.get-slot.ensures.0) c.requires.room in
-    (search rules, (room_first _ (room_then _ room c.put_field.ensures), omega arith))
+    let a = c.args in
+    let room = room_as (line_4 (decimal a.i) (decimal a.first) (decimal a.second) (decimal a.slot)) c.requires in
+    rw c.from.ensures (search rules, (room_first _ (room_then _ room c.put_field.ensures), omega arith))
 
 pub put_field-requires-3 : goal.put_field-requires-3
 put_field-requires-3 g c =
-    let room = room_as (appointment_fields _ _ c.args.i _ _ _ c.get-first.ensures.0 c.get-second.ensures.0 c.get-slot.ensures.0) c.requires.room in
-    (search rules, (room_first _ (room_then _ (room_then _ room c.put_field.ensures) c.put_field-2.ensures), omega arith))
+    let a = c.args in
+    let room = room_as (line_4 (decimal a.i) (decimal a.first) (decimal a.second) (decimal a.slot)) c.requires in
+    let second = rw c.from.ensures at c.put_field-2.ensures in
+    rw c.from-2.ensures (search rules, (room_first _ (room_then _ (room_then _ room c.put_field.ensures) second), omega arith))
 
 pub put_field-requires-4 : goal.put_field-requires-4
 put_field-requires-4 g c =
-    let room = room_as (appointment_fields _ _ c.args.i _ _ _ c.get-first.ensures.0 c.get-second.ensures.0 c.get-slot.ensures.0) c.requires.room in
-    (search rules, (room_then _ (room_then _ (room_then _ room c.put_field.ensures) c.put_field-2.ensures) c.put_field-3.ensures, omega arith))
+    let a = c.args in
+    let room = room_as (line_4 (decimal a.i) (decimal a.first) (decimal a.second) (decimal a.slot)) c.requires in
+    let second = rw c.from.ensures at c.put_field-2.ensures in
+    let third = rw c.from-2.ensures at c.put_field-3.ensures in
+    (search rules, (room_then _ (room_then _ (room_then _ room c.put_field.ensures) second) third, omega arith))
 
 pub returns : goal.returns
 returns g c =
-    placed_as (appointment_fields _ _ c.args.i _ _ _ c.get-first.ensures.0 c.get-second.ensures.0 c.get-slot.ensures.0)
-    (placed_then c.put_field.ensures (placed_then c.put_field-2.ensures (placed_then c.put_field-3.ensures c.put_field-4.ensures)))
+    let a = c.args in
+    let second = rw c.from.ensures at c.put_field-2.ensures in
+    let third = rw c.from-2.ensures at c.put_field-3.ensures in
+    placed_as (line_4 (decimal a.i) (decimal a.first) (decimal a.second) (decimal a.slot))
+    (placed_then c.put_field.ensures (placed_then second (placed_then third c.put_field-4.ensures)))

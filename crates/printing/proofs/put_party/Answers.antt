@@ -5,8 +5,8 @@ use Rattle.printing.proofs.put_party.Goals as goal
 
 pub put_line-requires : goal.put_line-requires
 unfolding ascii
-put_line-requires g c = (search rules, rw c.waiting_of-waits.ensures.waiting c.requires)
+put_line-requires g c = (search rules, rw (c.from.ensures, c.waiting_of-waits.ensures.waiting) c.requires)
 
 pub returns : goal.returns
 unfolding ascii
-returns g c = rw c.waiting_of-waits.ensures.waiting at c.put_line.ensures
+returns g c = rw (c.from.ensures, c.waiting_of-waits.ensures.waiting) at c.put_line.ensures

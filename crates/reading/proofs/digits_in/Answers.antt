@@ -7,7 +7,7 @@ pub returns-then-not-is_ascii_digit : goal.returns-then-not-is_ascii_digit
 returns-then-not-is_ascii_digit c = digits_other c.loop-byte.invariant (omega arith) (grind arith)
 
 pub loop-byte-preserved : goal.loop-byte-preserved
-loop-byte-preserved c = digits_more c.loop-byte.invariant (omega arith) (grind arith) (grind arith)
+loop-byte-preserved c = rw c.from.ensures (digits_more c.loop-byte.invariant (omega arith) (grind arith) (grind arith))
 
 pub returns : goal.returns
 returns c = digits_all c.loop-byte.invariant (omega arith)

@@ -2,6 +2,7 @@
 use Rattle.std.proofs.Common.{rules}
 use Rattle.splitting.proofs.SplitWords.{split_asks, split_gives}
 use Rattle.circuits.proofs.CircuitSplit.{split_two_asks, split_two_gives}
+use Rattle.circuits.proofs.CircuitBegun.{any_lies}
 use Rattle.splitting.proofs.split_at.Goals as goal
 
 pub split_two-requires : goal.split_two-requires
@@ -10,11 +11,11 @@ split_two-requires c =
 
 pub returns-then-eq : goal.returns-then-eq
 returns-then-eq c =
-    split_two_gives c.requires _ c.get-m.ensures.0 c.copies_sum.ensures (search rules)
-    c.split_two.ensures
+    split_two_gives c.requires c.get-m.ensures.0 c.copies_sum.ensures (search rules)
+    (any_lies _ _ _ c.split_two.ensures)
 
-pub split_words-requires-clause-split_fits : goal.split_words-requires-clause-split_fits
-split_words-requires-clause-split_fits c = split_asks c.requires _ (λ i. search rules) c.get-m.ensures.0
+pub split_words-requires : goal.split_words-requires
+split_words-requires c = split_asks c.requires _ (λ i. search rules) c.get-m.ensures.0
 
 pub returns : goal.returns
 returns c =

@@ -5,24 +5,24 @@ use Rattle.text.proofs.Main.{report_long, report_malformed, report_refused, repo
 use Rattle.text.proofs.plan_output.Goals as goal
 
 pub returns-then-input-gt4096 : goal.returns-then-input-gt4096
-returns-then-input-gt4096 c = report_long c.args.broken c.args.input.now c.if-input-gt4096.true
+returns-then-input-gt4096 c = report_long c.args.input.broken c.args.input.bytes.now c.if-input-gt4096.true
 
 pub returns-in_err-read : goal.returns-in_err-read
 returns-in_err-read c =
     let p = err_from_is_err_and c.from_residual.result c.from_residual.ensures.1 in
-    rw (p.1, p.2) (report_malformed c.args.broken c.args.input.now c.if-input-gt4096.false _ _ _ c.in_err-read.ensures)
+    rw (p.1, p.2) (report_malformed c.args.input.broken c.args.input.bytes.now c.if-input-gt4096.false _ _ _ c.in_err-read.ensures)
 
 pub returns-in_err-d : goal.returns-in_err-d
 returns-in_err-d c =
     let p = err_from_is_err_and c.from_residual-in_err-d.result c.from_residual-in_err-d.ensures.1 in
-    rw (p.1, p.2) (report_refused c.args.broken c.args.input.now c.if-input-gt4096.false _ _ _ c.in_ok-read.ensures _ c.in_err-d.ensures.answer)
+    rw (p.1, p.2) (report_refused c.args.input.broken c.args.input.bytes.now c.if-input-gt4096.false _ _ _ c.in_ok-read.ensures _ c.in_err-d.ensures.answer)
 
 pub put_plan-requires : goal.put_plan-requires
 put_plan-requires c =
-    let report = report_planned c.args.broken c.args.input.now c.if-input-gt4096.false _ _ _ c.in_ok-read.ensures _ _ c.in_ok-d.ensures.answer c.in_ok-d.ensures.slots in
+    let report = report_planned c.args.input.broken c.args.input.bytes.now c.if-input-gt4096.false _ _ _ c.in_ok-read.ensures _ _ c.in_ok-d.ensures.answer c.in_ok-d.ensures.slots in
     (search rules, output_room _ _ _ report _ c.new-lines.ensures)
 
 pub returns : goal.returns
 returns c =
-    let report = report_planned c.args.broken c.args.input.now c.if-input-gt4096.false _ _ _ c.in_ok-read.ensures _ _ c.in_ok-d.ensures.answer c.in_ok-d.ensures.slots in
+    let report = report_planned c.args.input.broken c.args.input.bytes.now c.if-input-gt4096.false _ _ _ c.in_ok-read.ensures _ _ c.in_ok-d.ensures.answer c.in_ok-d.ensures.slots in
     output_placed _ _ _ report _ _ c.new-lines.ensures c.put_plan.ensures

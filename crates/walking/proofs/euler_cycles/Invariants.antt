@@ -8,5 +8,5 @@ abbrev pub invariant-loop : goal.invariant-loop
 invariant-loop l = record {
   words : (i : ℕ) → word l.s i < 4294967296;
   small : Small l.counter l.w;
-  walked : record { words = l.s; walk = l.w } ≡ walk_m l.l l.l.parties l.counter (begun l.initial.s);
+  walked : record { words = l.s; walk = l.w } ≡ walk_m l.l l.l.graph.parties l.counter (begun l.initial.s);
 }

@@ -7,7 +7,7 @@ use Rattle.evening.proofs.filling.even_at.Goals as goal
 pub fill_rows-requires : goal.fill_rows-requires
 fill_rows-requires c =
     let a = c.args in
-    fit_cleared c.clear_words.ensures (rows_fit_even a.list.now a.d a.n a.at a.u a.s.now c.requires)
+    fit_cleared c.clear.ensures (rows_fit_even a.list.now a.d a.n a.at a.u a.s.now c.requires)
 
 pub loop-init : goal.loop-init
 loop-init c =
@@ -19,7 +19,7 @@ even_step-passed-requires c =
     let a = c.args in
     let h = c.requires in
     let lp = c.loop in
-    let x = filled_cleared (omega arith) c.clear_words.ensures c.fill_rows.ensures in
+    let x = filled_cleared (omega arith) c.clear.ensures c.fill_rows.ensures in
     λ below. at_place a.list.now a.d a.n a.at a.u a.s.now h c.fill_rows.new.s x lp.counter lp.passed.l lp.passed.r lp.s (lp.invariant h x) (omega arith)
 
 pub loop-preserved : goal.loop-preserved
@@ -33,6 +33,6 @@ returns c =
     let a = c.args in
     let h = c.requires in
     let lp = c.loop in
-    let x = filled_cleared (omega arith) c.clear_words.ensures c.fill_rows.ensures in
+    let x = filled_cleared (omega arith) c.clear.ensures c.fill_rows.ensures in
     let e : lp.counter ≡ 2 * (a.n + a.n) = omega arith in
     evened_out a.list.now a.d a.n a.at a.u a.s.now h c.fill_rows.new.s x lp.passed.l lp.passed.r lp.s (rw e at (lp.invariant h x))

@@ -16,5 +16,5 @@ returns c =
     let h = c.requires.building in
     let inside = c.requires.i_in_bounds in
     let fit = fits a.list.now at a.i a.s.now h inside (omega (arith, ex)) (omega (arith, ey)) in
-    let add : PairAdded at.ends at.g (pair_of at.g at.apair a.i a.s.now) (first_of a.list.now a.i) (second_of a.list.now a.i) 1 a.s.now c.add_pair.new.s = (rw (ee, ex, ey) at c.add_pair.ensures) fit in
-    built a.list.now at a.i a.s.now h inside fit c.add_pair.new.s c.set_word.new.s add (rw ee at c.set_word.ensures)
+    let add : PairAdded at.ends at.g (pair_of at.g at.apair a.i a.s.now) (first_of a.list.now a.i) (second_of a.list.now a.i) 1 a.s.now c.add_pair.new.s = (rw (ee, c.new.ensures, c.new-2.ensures, ex, ey) at c.add_pair.ensures) fit in
+    built a.list.now at a.i a.s.now h inside fit c.add_pair.new.s c.set_word.new.s add (rw (c.index.ensures, ee) at c.set_word.ensures)

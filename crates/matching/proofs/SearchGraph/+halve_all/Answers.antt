@@ -8,13 +8,13 @@ pub returns-then-degree-lt2 : goal.returns-then-degree-lt2
 returns-then-degree-lt2 t c =
     let a = c.args in
     let x = a.self in
-    (halving_stops x.t x.h x.n x.width a.degree a.m.now.taken x.count a.s.now c.requires.0 (omega arith), refl)
+    (halving_stops x.t x.graph.g x.graph.n x.graph.d a.degree a.m.now.taken x.count a.s.now c.requires (omega arith), refl)
 
 pub halve_once-requires : goal.halve_once-requires
 halve_once-requires t c =
     let a = c.args in
     let x = a.self in
-    (halving_first x.t x.h x.n x.width a.degree a.m.now.taken x.count a.s.now c.requires.0 (omega arith), c.requires.1)
+    halving_first x.t x.graph.g x.graph.n x.graph.d a.degree a.m.now.taken x.count a.s.now c.requires (omega arith)
 
 pub halve_all-requires : goal.halve_all-requires
 halve_all-requires t c =
@@ -23,7 +23,7 @@ halve_all-requires t c =
     let first = c.halve_once.ensures in (
       omega (arith, c.decreases),
       rw first.1
-          (halving_rest x.t x.h x.n x.width a.degree a.m.now.taken x.count a.s.now c.requires.0 (omega arith) c.halve_once.new.m.taken c.halve_once.new.s first.0, c.requires.1),
+          (halving_rest x.t x.graph.g x.graph.n x.graph.d a.degree a.m.now.taken x.count a.s.now c.requires (omega arith) c.halve_once.new.m.taken c.halve_once.new.s first.0),
     )
 
 pub returns : goal.returns
@@ -33,7 +33,7 @@ returns t c =
     let first = c.halve_once.ensures in
     let rest = c.halve_all.ensures in
     let back : c.halve_all.new.m ≡ a.m.now = rest.1 ∙ first.1 in (
-      halving_ends x.t x.h x.n x.width a.degree a.m.now.taken x.count a.s.now c.requires.0 (omega arith) c.halve_once.new.m.taken c.halve_once.new.s first.0
+      halving_ends x.t x.graph.g x.graph.n x.graph.d a.degree a.m.now.taken x.count a.s.now c.requires (omega arith) c.halve_once.new.m.taken c.halve_once.new.s first.0
           c.halve_once.new.m.taken c.halve_all.new.m.taken c.halve_all.new.s (ap (λ (m : Mark). m.taken) back) rest.0,
       back,
     )

@@ -5,4 +5,4 @@ use Rattle.matching.proofs.DiagonalWords.{Extending}
 use Rattle.matching.proofs.SearchGraph.add_diagonal.Given as goal
 
 abbrev pub invariant-loop-i : goal.invariant-loop-i
-invariant-loop-i l = (most : ℕ) → DiagonalFits most l.self.t l.self.h l.self.n l.beta l.fn.s → Extending most l.self.t l.self.h l.self.n l.beta l.i l.fn.s l.s
+invariant-loop-i l = (most : ℕ) → DiagonalFits most l.self.t l.self.graph.g l.self.graph.n l.beta l.fn.s → Extending most l.self.t l.self.graph.g l.self.graph.n l.beta l.i l.fn.s l.s

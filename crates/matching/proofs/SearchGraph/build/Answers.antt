@@ -5,4 +5,4 @@ use Rattle.matching.proofs.SearchGraph.build.Goals as goal
 pub returns : goal.returns
 returns c =
     let a = c.args in
-    builds_graph a.self.t a.g a.self.h a.self.n a.alpha a.beta a.s.now c.copy_times.new.s c.add_diagonal.new.s c.copy_times.ensures c.add_diagonal.ensures
+    builds_graph a.self.t a.g a.self.graph.g a.self.graph.n a.alpha a.beta a.s.now c.copy.new.s c.add_diagonal.new.s c.copy.ensures c.add_diagonal.ensures

@@ -10,16 +10,15 @@ pub rbmg_split_into_two-requires : goal.rbmg_split_into_two-requires
 rbmg_split_into_two-requires c =
     let a = c.args in
     let x = a.self in
-    (splits x.t x.h x.n x.width a.m.now.taken a.s.now c.requires.0, c.requires.1)
+    splits x.t x.graph.g x.graph.n x.graph.d a.m.now.taken a.s.now c.requires
 
 pub go_on-requires : goal.go_on-requires
 go_on-requires c =
     let a = c.args in
     let x = a.self in
-    let ok = c.requires.0 in (
-      omega (arith, mul-le-mul_right (x.width + 1) ok.laid.some),
-      omega (arith, mul-le-mul_right (x.width + 1) ok.laid.some, ok.laid.behind, ok.laid.room, ok.laid.short),
-      side_by_side x.t x.h x.n x.width a.m.now.taken a.s.now ok c.rbmg_split_into_two.new.s c.rbmg_split_into_two.new.m.taken c.rbmg_split_into_two.ensures.0,
+    let ok = c.requires in (
+      omega (arith, mul-le-mul_right (x.graph.d + 1) ok.laid.some, ok.laid.behind, ok.laid.room, ok.laid.short),
+      side_by_side x.t x.graph.g x.graph.n x.graph.d a.m.now.taken a.s.now ok c.rbmg_split_into_two.new.s c.rbmg_split_into_two.new.m.taken c.rbmg_split_into_two.ensures.0,
     )
 
 pub returns : goal.returns
@@ -29,6 +28,6 @@ returns c =
     let split = c.rbmg_split_into_two.ensures in
     let chosen = c.go_on.ensures in
     let back : c.give_back.new.self ≡ a.m.now = c.give_back.ensures ∙ ap (given_back a.m.now.taken) split.1 in (
-      halved x.t x.h x.n x.width a.m.now.taken a.s.now c.requires.0 x.count c.rbmg_split_into_two.new.s c.go_on.new.s c.rbmg_split_into_two.new.m.taken chosen.from c.give_back.new.self.taken split.0 chosen.chosen chosen.copied (ap (λ (m : Mark). m.taken) back),
+      halved x.t x.graph.g x.graph.n x.graph.d a.m.now.taken a.s.now c.requires x.count c.rbmg_split_into_two.new.s c.go_on.new.s c.rbmg_split_into_two.new.m.taken chosen.from c.give_back.new.self.taken split.0 chosen.chosen chosen.copied (ap (λ (m : Mark). m.taken) back),
       back,
     )

@@ -6,8 +6,8 @@ use Rattle.two_color_steps.proofs.Layout.fill_rows.Given as goal
 
 abbrev pub invariant-loop-i : goal.invariant-loop-i
 invariant-loop-i l = record {
-  can_fill : CanFill l.self.u l.self.p l.list l.near l.far l.i l.s;
+  can_fill : CanFill l.self.u l.self.p l.list l.own l.other l.i l.s;
   filled :
-      fill_rows_m l.self.u l.self.p l.list l.near l.far l.i l.s
-      ≡ fill_rows_m l.self.u l.self.p l.list l.near l.far (length l.list / 2) l.initial.s;
+      fill_rows_m l.self.u l.self.p l.list l.own l.other l.i l.s
+      ≡ fill_rows_m l.self.u l.self.p l.list l.own l.other (length l.list / 2) l.initial.s;
 }

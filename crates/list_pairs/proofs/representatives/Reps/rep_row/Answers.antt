@@ -8,12 +8,13 @@ pub loop-t-preserved : goal.loop-t-preserved
 loop-t-preserved c =
     let r = c.args.self in
     let lp = c.loop-t in
-    going_on c.args.list.now r.rows r.map r.apair c.args.s.now c.requires.reps_fit c.args.w.0 c.requires.w_lt_parties lp.t lp.s (omega (arith, c.word_at-n.ensures.0)) lp.invariant
-    c.word_at-h.result c.word_at-h.ensures.0 c.find_rep.new.s c.find_rep.ensures
+    let len : c.word_at-n.result ≡ counter c.args.s.now r.rows c.args.w.0 = rw c.index-v.ensures at c.word_at-n.ensures.0 in
+    going_on c.args.list.now r.rows r.map r.apair c.args.s.now c.requires.reps_fit c.args.w.0 c.requires.w_lt_parties lp.t lp.s (omega (arith, len)) lp.invariant
+    c.word_at-h.result (rw c.index-v.ensures at c.word_at-h.ensures.0) c.find_rep.new.s c.find_rep.ensures
 
 pub returns : goal.returns
 returns c =
     let r = c.args.self in
     let lp = c.loop-t in
-    let e : lp.t ≡ counter c.args.s.now r.rows c.args.w.0 = omega (arith, c.word_at-n.ensures.0) in
+    let e : lp.t ≡ counter c.args.s.now r.rows c.args.w.0 = omega (arith, rw c.index-v.ensures at c.word_at-n.ensures.0) in
     row_done c.args.list.now r.rows r.map r.apair c.args.s.now c.requires.reps_fit c.args.w.0 c.requires.w_lt_parties lp.s (rw e at lp.invariant)

@@ -3,4 +3,4 @@ use Rattle.list_pairs.proofs.RepsLaws.{Going}
 use Rattle.list_pairs.proofs.representatives.Reps.rep_row.Given as goal
 
 abbrev pub invariant-loop-t : goal.invariant-loop-t
-invariant-loop-t l = Going l.list l.self.rows l.self.map l.self.apair l.v l.t l.fn.s l.s
+invariant-loop-t l = Going l.list l.self.rows l.self.map l.self.apair l.fn.w.0 l.t l.fn.s l.s

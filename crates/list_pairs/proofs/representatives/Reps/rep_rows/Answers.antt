@@ -12,4 +12,4 @@ pub loop-v-preserved : goal.loop-v-preserved
 loop-v-preserved c =
     let a = c.args in
     let lp = c.loop-v in
-    reps_more a.list.now a.self.rows a.self.map a.self.apair a.s.now c.requires lp.v lp.s c.rep_row.new.s (omega arith) lp.invariant c.rep_row.ensures
+    reps_more a.list.now a.self.rows a.self.map a.self.apair a.s.now c.requires lp.v lp.s c.rep_row.new.s (omega arith) lp.invariant (rw c.new.ensures at c.rep_row.ensures)

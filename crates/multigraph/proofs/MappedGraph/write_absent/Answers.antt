@@ -1,0 +1,14 @@
+-- One key more is written.
+use Rattle.std.proofs.Common.{◌≡◌, ℕ, ◌+◌, arith}
+use Rattle.multigraph.proofs.Mapping.{writing_more}
+use Rattle.multigraph.proofs.MappedGraph.write_absent.Goals as goal
+
+pub loop-i-preserved : goal.loop-i-preserved
+loop-i-preserved c =
+    let a = c.args in
+    writing_more (λ (j : ℕ). a.keys.at + j) (λ (j : ℕ). 0) a.keys.n c.loop-i.i a.self.places a.s.now c.loop-i.s c.write_place.new.s (omega arith) c.write_place.ensures c.loop-i.invariant
+
+pub returns : goal.returns
+returns c =
+    let e : c.loop-i.i ≡ c.args.keys.n = omega arith in
+    rw e at c.loop-i.invariant

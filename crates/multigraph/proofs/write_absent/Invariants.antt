@@ -1,7 +1,0 @@
--- The keys before i are written.
-use Rattle.std.proofs.Common.{ℕ, ◌+◌}
-use Rattle.multigraph.proofs.Mapping.{Writing}
-use Rattle.multigraph.proofs.write_absent.Given as goal
-
-abbrev pub invariant-loop-i : goal.invariant-loop-i
-invariant-loop-i l = Writing (λ (j : ℕ). l.from + j) (λ (j : ℕ). 0) l.n l.i l.places l.initial.s l.s
