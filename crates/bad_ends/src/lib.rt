@@ -17,8 +17,14 @@ pub struct BadEnds {
     pub unlisted: Option<usize>,
 }
 
-// Notes an end of the appointment at position `i`. An end below P is neither blank nor unlisted, any other is one of the two. What was found before
-// stays.
+// What is kept once an end at position `i` is noted: `i` if the end passes the test and there is none yet. What was found before stays.
+fn noted(i: usize, passes: bool, kept: Option<usize>) -> Option<usize>
+    ensures { result ≡ noted i passes kept }
+{
+    if passes { kept.or(Some(i)) } else { kept }
+}
+
+// Notes an end of the appointment at position `i`. An end below P is neither blank nor unlisted, any other is one of the two.
 fn note_end(seen: BadEnds, i: usize, p: u16, end: u16) -> BadEnds
     ensures blank { result.blank ≡ noted i (eqb end blank) seen.blank }
     ensures unlisted { result.unlisted ≡ noted i (unlisted p end) seen.unlisted }
@@ -26,16 +32,9 @@ fn note_end(seen: BadEnds, i: usize, p: u16, end: u16) -> BadEnds
     if end < p {
         return seen;
     }
-    if end == BLANK {
-        BadEnds {
-            blank: seen.blank.or(Some(i)),
-            ..seen
-        }
-    } else {
-        BadEnds {
-            unlisted: seen.unlisted.or(Some(i)),
-            ..seen
-        }
+    BadEnds {
+        blank: noted(i, end == BLANK, seen.blank),
+        unlisted: noted(i, end != BLANK, seen.unlisted),
     }
 }
 

@@ -8,5 +8,8 @@ ghost use Rattle.appointments.specs.Appointments.{appt, named};
 pub fn named(first: u16, second: u16, party: u16) -> bool
     ensures { result ≡ named party (appt first second) }
 {
-    first == party || second == party
+    if first == party {
+        return true;
+    }
+    second == party
 }
