@@ -6,11 +6,10 @@ use mathlib.Core.List.{List, ◌++◌}
 use native.Mathlib.Omega.{arith}
 use lib.ListN.{length, drop}
 use Rattle.std.specs.Prelude.{Result, Ok, Err, IsErrAnd}
-use Rattle.std.proofs.lemmas.Result.{err_from_is_err_and}
 use Rattle.appointments.specs.Checks.{Check}
 use Rattle.appointments.specs.Refusals.{refusal_number, refusal_place, told}
 use Rattle.appointments.specs.declared.Refusal.{Refusal}
-use Rattle.appointments.specs.Answers.{Answer, accepted, refused, answer, number_of, place_of, figures_of, figure, figure_of, after}
+use Rattle.appointments.specs.Answers.{Answer, accepted, refused, answer, number_of, place_of, figures_of, figure_of, after}
 
 module _ {F : Type 0} where
   -- no answer accepts and refuses; figures, number and place are those of the answer
@@ -52,19 +51,22 @@ module _ {F : Type 0} where
   pub barred_says : (a : Answer F) (n i : ℕ) → a ≡ refused n i → (n ≡ number_of a) × (i ≡ place_of a)
   barred_says a n i e = rw e (refl, refl)
 
-  -- a bound of its place or of a figure
-  pub place_below : (a : Answer F) (m : ℕ) → 0 < m → ((n i : ℕ) → a ≡ refused n i → i < m) → place_of a < m
-  place_below (accepted f) m some h = some
-  place_below (refused n i) m some h = h n i refl
+  -- What an exported call tells fits 32 bits: p is the place of an answer, and x its figures, where a refusal has figures of 0.
+  place_below : (a : Answer F) → ((n i : ℕ) → a ≡ refused n i → i < 4294967296) → place_of a < 4294967296
+  place_below (accepted f) h = omega arith
+  place_below (refused n i) h = h n i refl
 
-  pub figure_below : (which : F → ℕ) (a : Answer F) (m : ℕ) → 0 < m → ((f : F) → a ≡ accepted f → which f < m) → figure which a < m
-  figure_below which (accepted f) m some h = h f refl
-  figure_below which (refused n i) m some h = some
+  pub place_fits : {a b : Answer F} {p : ℕ} → p ≡ place_of a → a ≡ b → ((n i : ℕ) → b ≡ refused n i → i < 4294967296) → p < 4294967296
+  place_fits {a} {b} {p} is e h = rw (is, e) (place_below b h)
 
-  -- a figure of the figures, where a refusal has figures of 0
-  pub figures_say : (which : F → ℕ) (none : F) (a : Answer F) → which none ≡ 0 → which (figures_of none a) ≡ figure which a
-  figures_say which none (accepted f) e = refl
-  figures_say which none (refused n i) e = e
+  figures_below : (which : F → ℕ) (none : F) (a : Answer F) → which none ≡ 0 → ((f : F) → a ≡ accepted f → which f < 4294967296) → which (figures_of none a) < 4294967296
+  figures_below which none (accepted f) z h = h f refl
+  figures_below which none (refused n i) z h = omega (arith, z)
+
+  pub figure_fits :
+      (which : F → ℕ) {none x : F} {a b : Answer F} →
+      x ≡ figures_of none a → a ≡ b → which none ≡ 0 → ((f : F) → b ≡ accepted f → which f < 4294967296) → which x < 4294967296
+  figure_fits which {none} {x} {a} {b} is e z h = rw (is, e) (figures_below which none b z h)
 
 -- ── an answer of one figure ──
 
@@ -93,11 +95,13 @@ one_refusal = refusal_told
 pub no_figure : (r : Result Unit Refusal) (a : Answer Unit) → told r ≡ a → r ≡ Ok tt → a ≡ accepted tt
 no_figure r a e k = figures_told r a tt e k
 
-pub no_figure_refusal : (r : Result Unit Refusal) (a : Answer Unit) (d : Refusal) → told r ≡ a → r ≡ Err d → a ≡ refused (refusal_number d) (refusal_place d)
-no_figure_refusal = refusal_told
-
 -- ── an answer that a `?` hands on ──
 
--- What the exit of a `?` returns is told as the refusal that came.
+-- what the exit of a `?` returns
+pub err_is : {T E : Type 0} (r : Result T E) (e : E) → IsErrAnd r (λ d. d ≡ e) → r ≡ Err e
+err_is (Ok x) e h = absurd h
+err_is (Err d) e h = ap Err h
+
+-- It is told as the refusal that came.
 pub handed_on : {F : Type 0} (r : Result F Refusal) (e : Refusal) (a : Answer F) → IsErrAnd r (λ d. d ≡ e) → refused (refusal_number e) (refusal_place e) ≡ a → told r ≡ a
-handed_on r e a h k = let p = err_from_is_err_and r h in rw (p.1, p.2) k
+handed_on r e a h k = rw (err_is r e h) k

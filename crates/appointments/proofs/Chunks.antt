@@ -13,6 +13,10 @@ use Rattle.appointments.specs.declared.TheConstants.{BLANK}
 pub blank_mark : BLANK ≡ blank
 blank_mark = refl
 
+-- the list taken by two, as code takes it
+abbrev pub chunks_of : List ℕ → List (List ℕ)
+chunks_of list = first_chunks 2 (length list / 2) list
+
 -- as many chunks as asked for
 pub chunks_count : (k : ℕ) (list : List ℕ) → length (first_chunks 2 k list) ≡ k
 chunks_count zero list = refl
@@ -31,10 +35,13 @@ chunk_at (suc k) (a ∷ b ∷ rest) (suc i) d h l =
     let second : suc (suc (2 * i)) + 1 ≡ suc (suc (2 * i + 1)) = omega arith in
     rw (first, second) (chunk_at k rest i d (omega arith) (omega arith))
 
+-- What the chunk of the appointment at position i is: that appointment is in the list, and the chunk is its ends.
+pub record ChunkSeen (list : List ℕ) (i : ℕ) (chunk : List ℕ) : Type 0 where
+  pub inside : i < length list / 2
+  pub ends : chunk ≡ word list (2 * i) ∷ word list (2 * i + 1) ∷ []
+
 -- and so in the chunks that code takes
-pub chunk_ends :
-    (chunks : List (List ℕ)) (list : List ℕ) (i : ℕ) →
-    chunks ≡ first_chunks 2 (length list / 2) list → i < length list / 2 →
-    get_or chunks i [] ≡ word list (2 * i) ∷ word list (2 * i + 1) ∷ []
-chunk_ends chunks list i e h =
-    ap (λ (c : List (List ℕ)). get_or c i []) e ∙ chunk_at (length list / 2) list i [] h (omega arith)
+pub chunk_seen : (chunks : List (List ℕ)) (list : List ℕ) (i : ℕ) → chunks ≡ chunks_of list → i < length chunks → ChunkSeen list i (get_or chunks i [])
+chunk_seen chunks list i front within =
+    let inside : i < length list / 2 = omega (arith, within, ap length front, chunks_count (length list / 2) list) in
+    record { inside = inside; ends = ap (λ (c : List (List ℕ)). get_or c i []) front ∙ chunk_at (length list / 2) list i [] inside (omega arith) }

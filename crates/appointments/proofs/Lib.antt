@@ -9,5 +9,6 @@ pub mod Causes
 pub mod Enough
 pub mod Flat
 pub mod Chunks
+pub mod ChunkWalks
 pub mod AnswerLaws
 pub mod LentLaws

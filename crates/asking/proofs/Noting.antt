@@ -19,7 +19,7 @@ use Rattle.asking.specs.Noted.{Noted, unflagged}
 use Rattle.asking.proofs.PartySlots.{slots_count, lowest_more, highest_more}
 use Rattle.asking.proofs.Between.{free_le, between_whole}
 
--- over flags that are 0
+-- over flags that are all false
 pub noted_none : Noted [] (replicate 65536 false) 65535 0 0
 unfolding lowest highest different count is
 noted_none =

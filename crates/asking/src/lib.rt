@@ -72,9 +72,10 @@ fn note_all(list: &[u16], slots: &[u16], party: u16, flags: &mut [bool; 65536]) 
         span: Span::none(),
         different: 0,
     };
-    for (&[first, second], &slot) in list.as_chunks::<2>().0.iter().zip(slots) {
-        if naming::named(first, second, party) {
-            kept.note(slot, flags);
+    let count = slots.len().min(list.len() / 2);
+    for i in 0..count {
+        if naming::named(list[2 * i], list[2 * i + 1], party) {
+            kept.note(slots[i], flags);
         }
     }
     kept

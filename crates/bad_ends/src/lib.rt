@@ -11,7 +11,7 @@ ghost use Rattle.bad_ends.specs.Noted.{noted};
 use appointments::BLANK;
 
 // What the walk remembers: the first position for 4 and the first for 5.
-#[derive(Clone, Copy)]
+#[derive(Clone, Copy, Default)]
 pub struct BadEnds {
     pub blank: Option<usize>,
     pub unlisted: Option<usize>,
@@ -24,17 +24,16 @@ fn noted(i: usize, passes: bool, kept: Option<usize>) -> Option<usize>
     if passes { kept.or(Some(i)) } else { kept }
 }
 
-// Notes an end of the appointment at position `i`. An end below P is neither blank nor unlisted, any other is one of the two.
-fn note_end(seen: BadEnds, i: usize, p: u16, end: u16) -> BadEnds
-    ensures blank { result.blank ≡ noted i (eqb end blank) seen.blank }
-    ensures unlisted { result.unlisted ≡ noted i (unlisted p end) seen.unlisted }
-{
-    if end < p {
-        return seen;
-    }
-    BadEnds {
-        blank: noted(i, end == BLANK, seen.blank),
-        unlisted: noted(i, end != BLANK, seen.unlisted),
+impl BadEnds {
+    // Notes an end of the appointment at position `i`. An end below P is neither blank nor unlisted, any other is one of the two.
+    fn note(&mut self, i: usize, p: u16, end: u16)
+        ensures blank { self.new.blank ≡ noted i (eqb end blank) self.old.blank }
+        ensures unlisted { self.new.unlisted ≡ noted i (unlisted p end) self.old.unlisted }
+    {
+        if p <= end {
+            self.blank = noted(i, end == BLANK, self.blank);
+            self.unlisted = noted(i, end != BLANK, self.unlisted);
+        }
     }
 }
 
@@ -42,14 +41,10 @@ fn note_end(seen: BadEnds, i: usize, p: u16, end: u16) -> BadEnds
 pub fn first_bad_ends(p: u16, list: &[u16]) -> BadEnds
     ensures { FirstBadEnds p (appts list.now) (first_of result.blank) (first_of result.unlisted) }
 {
-    let mut seen = BadEnds {
-        blank: None,
-        unlisted: None,
-    };
+    let mut seen = BadEnds::default();
     for (i, &[first, second]) in list.as_chunks::<2>().0.iter().enumerate() {
-        let between = note_end(seen, i, p, first);
-        let after = note_end(between, i, p, second);
-        seen = after;
+        seen.note(i, p, first);
+        seen.note(i, p, second);
     }
     seen
 }

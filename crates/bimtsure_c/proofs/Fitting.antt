@@ -1,6 +1,6 @@
 -- The figures of the answers and the places of the refusals fit 32 bits. Assumes nothing.
 use Prim.Native.Nat.{ℕ, ◌*◌, ◌%◌, ◌<◌, ◌≤◌}
-use mathlib.Core.Path.{◌≡◌, refl}
+use mathlib.Core.Path.{◌≡◌}
 use mathlib.Core.Bool.{Bool, not, ◌||◌}
 use mathlib.Core.List.{List}
 use native.Mathlib.Omega.{arith}
@@ -11,10 +11,10 @@ use Rattle.appointments.specs.Appointments.{appts}
 use Rattle.appointments.specs.Checks.{at, Check, first_from, has_blank, has_unlisted, bar, checks_1_to_5, checks_with_slots}
 use Rattle.appointments.specs.Needed.{needing, needs_answer}
 use Rattle.checking.proofs.Answering.{needs_small, needs_refusal_small}
-use Rattle.appointments.proofs.AnswerLaws.{refused_checked, figure_below, figures_say}
+use Rattle.appointments.proofs.AnswerLaws.{refused_checked, accepted_refused}
 use Rattle.appointments.proofs.Causes.{bar_cause, bar_at_cause, never_refused}
 use Rattle.appointments.proofs.FirstFrom.{found_is_first}
-use Rattle.appointments.specs.Answers.{Answer, accepted, refused, place_of, figures_of}
+use Rattle.appointments.specs.Answers.{Answer, accepted, refused}
 use Rattle.asking.specs.Waiting.{waiting, waiting_checks, waiting_answer}
 use Rattle.asking_many.specs.Many.{many_checks, many_answer}
 use Rattle.filing.specs.Filed.{filed_length, writing_checks, writing_answer, header_of, header, reading_checks, reading_answer}
@@ -26,10 +26,6 @@ use Rattle.filing.proofs.FiledLaws.{accepted_writable, accepted_readable}
 -- a refusal's place below 2^32, whatever its number is
 abbrev pub PlaceFits : ℕ → ℕ → Type 0
 PlaceFits n i = i < 4294967296
-
--- a figure of the figures, where a refusal has figures of 0
-pub figures_fit : {F : Type 0} (which : F → ℕ) (none : F) (a : Answer F) → which none ≡ 0 → ((f : F) → a ≡ accepted f → which f < 4294967296) → which (figures_of none a) < 4294967296
-figures_fit which none a e h = rw (figures_say which none a e) (figure_below which a 4294967296 (omega arith) h)
 
 -- one check with place 0
 bar_fits : (t : Bool) (k : ℕ) (next : Check) (n i : ℕ) → (next ≡ Check.refused n i → PlaceFits n i) → bar t k next ≡ Check.refused n i → PlaceFits n i
@@ -118,14 +114,17 @@ module _ (bytes list slots : List ℕ) where
 
 -- ── the viewer ──
 
-pub viewer_refusal_fits : (list slots : List ℕ) (n i : ℕ) → viewer_answer list slots ≡ refused n i → PlaceFits n i
+viewer_refusal_fits : (list slots : List ℕ) (n i : ℕ) → viewer_answer list slots ≡ refused n i → PlaceFits n i
 unfolding viewer_answer
 viewer_refusal_fits list slots n i e =
     bar_fits (eqb (length list % 2) 1) 2 _ n i
     (bar_fits (ltb (length slots) (length (appts list))) 7 _ n i (never_refused n i))
     (refused_checked (viewer_checks list slots) tt n i e)
 
--- a step has the place of opening
-pub place_shown : (a : Answer Unit) (s : Shown) → place_of (shown a s) ≡ place_of a
-place_shown (accepted u) s = refl
-place_shown (refused n i) s = refl
+-- a step is refused as opening is
+shown_refused : (a : Answer Unit) (s : Shown) (n i : ℕ) → shown a s ≡ refused n i → a ≡ refused n i
+shown_refused (accepted u) s n i e = accepted_refused s n i e
+shown_refused (refused k j) s n i e = cc
+
+pub shown_refusal_fits : (list slots : List ℕ) (s : Shown) (n i : ℕ) → shown (viewer_answer list slots) s ≡ refused n i → PlaceFits n i
+shown_refusal_fits list slots s n i e = viewer_refusal_fits list slots n i (shown_refused (viewer_answer list slots) s n i e)

@@ -127,10 +127,7 @@ pub extern "C" fn bimtsure_needs(p: u16, list: &[u16]) -> BimtsureNeeds
     ensures d { result.d ≡ d_of (needs_answer p list.now) }
     ensures words { result.words ≡ words_of (needs_answer p list.now) }
 {
-    let needs = Numbers::of(
-        checking::needs(usize::from(p), list),
-        Needs { d: 0, words: 0 },
-    );
+    let needs = Numbers::of(checking::needs(usize::from(p), list), Needs::default());
     BimtsureNeeds {
         number: needs.number,
         place: needs.place as u32,

@@ -56,13 +56,6 @@ first_number (x ∷ xs) t zero h e none = number_here x t xs e
 first_number (x ∷ xs) t (suc k) h e none =
     number_later x t xs (none 0 (omega arith)) ∙ ap suc (first_number xs t k (omega arith) e (none_later x t k xs none))
 
--- and with none at all, the number is that of a time that isn't there
-pub no_number : (xs : List ℕ) (t : ℕ) → NoneBefore xs t (length xs) → number_in xs t ≡ length xs
-unfolding number_in
-no_number [] t none = refl
-no_number (x ∷ xs) t none =
-    number_later x t xs (none 0 (omega arith)) ∙ ap suc (no_number xs t (none_later x t (length xs) xs none))
-
 -- In a list that rises each entry's number is its place.
 pub rising_number : (xs : List ℕ) → Rising xs → (k : ℕ) → k < length xs → number_in xs (get_or xs k 0) ≡ k
 rising_number xs rises k h = first_number xs (get_or xs k 0) k h refl (λ i l e. omega (arith, rises i k l h))

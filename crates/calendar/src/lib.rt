@@ -54,14 +54,13 @@ pub fn clock(slot: u16) -> Result<Moment, Refusal>
 }
 
 // The way back. 24: a time not among the sixteen, or a day above 255.
-pub fn slot(day: u16, hours: u8, minutes: u8) -> Result<usize, Refusal>
-    ensures { told result ≡ slot_answer day hours minutes }
+pub fn slot(moment: Moment) -> Result<usize, Refusal>
+    ensures { told result ≡ slot_answer moment.day moment.hours moment.minutes }
 {
-    if day > 255 {
+    if moment.day > 255 {
         return Err(Refusal::UnknownTime);
     }
-    let Some(k) = number_of(u16::from_be_bytes([hours, minutes])) else {
-        return Err(Refusal::UnknownTime);
-    };
-    Ok(16 * usize::from(day) + k)
+    let time = u16::from_be_bytes([moment.hours, moment.minutes]);
+    let k = number_of(time).ok_or(Refusal::UnknownTime)?;
+    Ok(16 * usize::from(moment.day) + k)
 }

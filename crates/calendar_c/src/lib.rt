@@ -55,7 +55,12 @@ pub extern "C" fn bimtsure_slot(day: u16, hours: u8, minutes: u8) -> BimtsureSlo
     ensures place { result.place ≡ place_of (slot_answer day hours minutes) }
     ensures slot { result.slot ≡ figure_of (slot_answer day hours minutes) }
 {
-    let slot = Numbers::of(calendar::slot(day, hours, minutes), 0);
+    let moment = Moment {
+        day,
+        hours,
+        minutes,
+    };
+    let slot = Numbers::of(calendar::slot(moment), 0);
     BimtsureSlot {
         number: slot.number,
         place: slot.place as u32,

@@ -5,7 +5,7 @@ use mathlib.Core.Bool.{Bool, true, false}
 use mathlib.Core.List.{List, [], ◌∷◌}
 use native.Mathlib.Omega.{arith}
 use native.Mathlib.Nat.{le_trans, mul-le-mul_left}
-use borrow.Author.Tests.{eq-eqb, ne_eqb, lt-ltb, le-ltb, ltb-false}
+use borrow.Author.Tests.{lt-ltb, le-ltb, ltb-false}
 use lib.Dec.{eqb, ltb}
 use Rattle.std.specs.Option.{unwrap_or}
 use Rattle.std.specs.List.{fold, reduce}
@@ -13,7 +13,7 @@ use lib.ListN.{length}
 use Rattle.words.specs.Words.{word}
 use Rattle.words.proofs.Sums.{count_le}
 use Rattle.appointments.specs.Appointments.{Appt, appts, load, largest_load, scratch_words}
-use Rattle.appointments.specs.Checks.{First, at, nowhere, first_from, has_blank, has_unlisted, Check, passed, refused, bar, bar_at, check_slots, checks_1_to_5, checks_with_slots, checks_1_to_6, checks_1_to_8, checks, check_ends}
+use Rattle.appointments.specs.Checks.{First, at, nowhere, first_from, has_blank, has_unlisted, Check, passed, refused, bar, bar_at, check_parties, check_even, check_count, check_slots, checks_1_to_5, checks_with_slots, checks_1_to_6, checks_1_to_8, checks, check_ends}
 use Rattle.appointments.specs.Answers.{Answer, accepted}
 use Rattle.appointments.specs.Answers as answers
 use Rattle.appointments.specs.Needed.{needing, needs_answer, scratch_enough}
@@ -48,34 +48,6 @@ unfolding largest_word largest_load
 largest_is zero s xs h = refl
 largest_is (suc p) s xs h = rw (largest_is p s xs (λ v k. h v (omega arith)), h p (omega arith))
 
--- a code's early answer to checks 1 to 5, and what goes on
-module _ (P : ℕ) (list : List ℕ) where
-  pub refuses_1 : 1024 < P → checks_1_to_5 P list passed ≡ refused 1 0
-  unfolding checks_1_to_5
-  refuses_1 h = rw (lt-ltb 1024 P h)
-
-  pub refuses_2 : P ≤ 1024 → length list % 2 ≡ 1 → checks_1_to_5 P list passed ≡ refused 2 0
-  unfolding checks_1_to_5
-  refuses_2 h e = rw (le-ltb 1024 P h, eq-eqb (length list % 2) 1 e)
-
-  pub refuses_3 : P ≤ 1024 → (length list % 2 ≡ 1 → ⊥) → 8192 < length list → checks_1_to_5 P list passed ≡ refused 3 0
-  unfolding checks_1_to_5
-  refuses_3 h e l =
-      rw (
-        le-ltb 1024 P h,
-        ne_eqb (length list % 2) 1 e,
-        lt-ltb 4096 (length (appts list)) (omega (arith, appts_count list)),
-      )
-
-  pub goes_on : P ≤ 1024 → (length list % 2 ≡ 1 → ⊥) → length list ≤ 8192 → checks_1_to_5 P list passed ≡ check_ends P list passed
-  unfolding checks_1_to_5
-  goes_on h e l =
-      rw (
-        le-ltb 1024 P h,
-        ne_eqb (length list % 2) 1 e,
-        le-ltb 4096 (length (appts list)) (omega (arith, appts_count list)),
-      )
-
 -- what was told is what the checks came to, without a figure
 pub checked_passed : (c : Check) → accepted tt ≡ checked c → c ≡ passed
 checked_passed c h = (accepted_passed c tt tt (sym h)).0
@@ -84,11 +56,11 @@ pub checked_number : (c : Check) (n i : ℕ) → answers.refused n i ≡ checked
 checked_number c n i h = refused_checked c tt n i (sym h)
 
 -- and with D
-pub answered_passed : (c : Check) (d e : ℕ) → answered c d ≡ accepted e → c ≡ passed
-answered_passed c d e h = (accepted_passed c d e h).0
+pub answered_passed : (c : Check) (d e : ℕ) → accepted e ≡ answered c d → c ≡ passed
+answered_passed c d e h = (accepted_passed c d e (sym h)).0
 
-pub answered_figure : (c : Check) (d e : ℕ) → answered c d ≡ accepted e → e ≡ d
-answered_figure c d e h = sym (accepted_passed c d e h).1
+pub answered_figure : (c : Check) (d e : ℕ) → accepted e ≡ answered c d → e ≡ d
+answered_figure c d e h = sym (accepted_passed c d e (sym h)).1
 
 pub answered_number : (c : Check) (d n i : ℕ) → answers.refused n i ≡ answered c d → c ≡ refused n i
 answered_number c d n i h = refused_checked c d n i (sym h)
@@ -101,6 +73,48 @@ bar_refused false k n i e = accepted_refused tt n i (sym e)
 pub bar_accepted : (t : Bool) (k : ℕ) → accepted tt ≡ checked (bar t k passed) → t ≡ false
 bar_accepted true k e = accepted_refused tt k 0 e
 bar_accepted false k e = refl
+
+-- and what is known of its numbers where it passed
+pub few_parties : (P : ℕ) → accepted tt ≡ checked (check_parties P passed) → P ≤ 1024
+few_parties P e = ltb-false 1024 P (bar_accepted _ 1 e)
+
+pub few_appointments : (A : ℕ) → accepted tt ≡ checked (check_count A passed) → A ≤ 4096
+few_appointments A e = ltb-false 4096 A (bar_accepted _ 3 e)
+
+pub enough_slots : (slots A : ℕ) → accepted tt ≡ checked (check_slots slots A passed) → A ≤ slots
+enough_slots slots A e = ltb-false slots A (bar_accepted _ 7 e)
+
+bar_first : (t : Bool) (k : ℕ) (next : Check) (n i : ℕ) → bar t k passed ≡ refused n i → bar t k next ≡ refused n i
+bar_first true k next n i h = h
+bar_first false k next n i h = never_refused n i h
+
+-- what one check told, in every sequence of checks that begins with it: its refusal stays, and where it passed the others go on
+module _ (t : Bool) (k : ℕ) (next : Check) where
+  pub bar_stays : (n i : ℕ) → answers.refused n i ≡ checked (bar t k passed) → bar t k next ≡ refused n i
+  bar_stays n i e = bar_first t k next n i (checked_number (bar t k passed) n i e)
+
+  pub bar_goes_on : accepted tt ≡ checked (bar t k passed) → bar t k next ≡ next
+  bar_goes_on e = rw (bar_accepted t k e)
+
+-- checks 1 to 5 by what checks 1 to 3 told
+module _ (P : ℕ) (list : List ℕ) where
+  pub refuses_1 : (n i : ℕ) → answers.refused n i ≡ checked (check_parties P passed) → checks_1_to_5 P list passed ≡ refused n i
+  unfolding checks_1_to_5
+  refuses_1 n i e = bar_stays _ 1 _ n i e
+
+  module _ (parties : accepted tt ≡ checked (check_parties P passed)) where
+    pub refuses_2 : (n i : ℕ) → answers.refused n i ≡ checked (check_even list passed) → checks_1_to_5 P list passed ≡ refused n i
+    unfolding checks_1_to_5
+    refuses_2 n i e = bar_goes_on _ 1 _ parties ∙ bar_stays _ 2 _ n i e
+
+    module _ (even : accepted tt ≡ checked (check_even list passed)) where
+      pub refuses_3 : (n i : ℕ) → answers.refused n i ≡ checked (check_count (length list / 2) passed) → checks_1_to_5 P list passed ≡ refused n i
+      unfolding checks_1_to_5
+      refuses_3 n i e = bar_goes_on _ 1 _ parties ∙ bar_goes_on _ 2 _ even ∙ rw (appts_count list) (bar_stays _ 3 _ n i e)
+
+      pub goes_on : accepted tt ≡ checked (check_count (length list / 2) passed) → checks_1_to_5 P list passed ≡ check_ends P list passed
+      unfolding checks_1_to_5
+      goes_on e = bar_goes_on _ 1 _ parties ∙ bar_goes_on _ 2 _ even ∙ rw (appts_count list) (bar_goes_on _ 3 _ e)
 
 five_bars :
     (t u w : Bool) (f g : First) (own next : Check) (n i : ℕ) → (own ≡ refused n i → next ≡ refused n i) →
@@ -121,10 +135,6 @@ unfolding checks_1_to_5
 refused_first P list next n i h =
     five_bars (ltb 1024 P) (eqb (length list % 2) 1) (ltb 4096 (length (appts list)))
     (first_from 0 has_blank (appts list)) (first_from 0 (has_unlisted P) (appts list)) passed next n i (never_refused n i) h
-
-bar_first : (t : Bool) (k : ℕ) (next : Check) (n i : ℕ) → bar t k passed ≡ refused n i → bar t k next ≡ refused n i
-bar_first true k next n i h = h
-bar_first false k next n i h = never_refused n i h
 
 -- and with one check more
 refused_bar :
@@ -211,27 +221,19 @@ module _ (P : ℕ) (list : List ℕ) (slots scratch : ℕ) where
   unfolding checks_1_to_8
   all_go_on h = let c = passed_sized P list passed h in sized_goes_on P list checks_7_and_8 c.0 c.1
 
-  module _ (D : ℕ) (e : D ≡ largest_load P (appts list)) (ok : checks_1_to_6 P list passed ≡ passed) where
-    pub refuses_7 : slots < length list / 2 → checks P list slots scratch ≡ refused 7 0
-    refuses_7 k = all_go_on ok ∙ rw (lt-ltb slots (length (appts list)) (omega (arith, appts_count list)))
+  module _ (ok : checks_1_to_6 P list passed ≡ passed) where
+    pub refuses_7 : (n i : ℕ) → answers.refused n i ≡ checked (check_slots slots (length list / 2) passed) → checks P list slots scratch ≡ refused n i
+    refuses_7 n i k = all_go_on ok ∙ rw (appts_count list) (bar_stays _ 7 _ n i k)
 
-    pub refuses_8 : length list / 2 ≤ slots → scratch < scratch_words P D → checks P list slots scratch ≡ refused 8 0
-    refuses_8 k l =
-        all_go_on ok
-        ∙ rw (
-          ← e,
-          le-ltb slots (length (appts list)) (omega (arith, appts_count list)),
-          lt-ltb scratch (scratch_words P D) l,
-        )
+    module _ (room : accepted tt ≡ checked (check_slots slots (length list / 2) passed)) (D : ℕ) (e : D ≡ largest_load P (appts list)) where
+      only_8 : checks P list slots scratch ≡ bar (ltb scratch (scratch_words P D)) 8 passed
+      only_8 = all_go_on ok ∙ rw (← e, appts_count list) (bar_goes_on _ 7 _ room)
 
-    pub passes_all : length list / 2 ≤ slots → scratch_words P D ≤ scratch → checks P list slots scratch ≡ passed
-    passes_all k l =
-        all_go_on ok
-        ∙ rw (
-          ← e,
-          le-ltb slots (length (appts list)) (omega (arith, appts_count list)),
-          le-ltb scratch (scratch_words P D) l,
-        )
+      pub refuses_8 : scratch < scratch_words P D → checks P list slots scratch ≡ refused 8 0
+      refuses_8 l = only_8 ∙ rw (lt-ltb scratch (scratch_words P D) l)
+
+      pub passes_all : scratch_words P D ≤ scratch → checks P list slots scratch ≡ passed
+      passes_all l = only_8 ∙ rw (le-ltb scratch (scratch_words P D) l)
 
 -- a code's answer to how much scratch a list needs
 module _ (P : ℕ) (list : List ℕ) where
@@ -272,8 +274,8 @@ pub record Sized (P : ℕ) (list : List ℕ) (D : ℕ) : Type 0 where
 pub sized :
     (P : ℕ) (list : List ℕ) (D : ℕ) → accepted D ≡ answered (checks_1_to_6 P list passed) (largest_load P (appts list)) → Sized P list D
 sized P list D e =
-    let ok = answered_passed (checks_1_to_6 P list passed) (largest_load P (appts list)) D (sym e) in
-    let figure = answered_figure (checks_1_to_6 P list passed) (largest_load P (appts list)) D (sym e) in
+    let ok = answered_passed (checks_1_to_6 P list passed) (largest_load P (appts list)) D e in
+    let figure = answered_figure (checks_1_to_6 P list passed) (largest_load P (appts list)) D e in
     let c = passed_sized P list passed ok in
     let product : D * P ≤ 8192 = rw figure c.1 in
     let small : D ≤ 8192 = omega (arith, d_small P list (good_goes_on P list passed c.0)) in

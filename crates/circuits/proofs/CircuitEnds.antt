@@ -11,12 +11,12 @@ use borrow.Author.Tests.{eq-eqb, ne_eqb}
 use lib.Dec.{eqb}
 use lib.ListN.{length}
 use Rattle.words.specs.Basics.{pick, is, total, count, All}
+use Rattle.words.specs.Sides.{mate}
 use Rattle.words.proofs.Sums.{is_eq, is_ne, is_pos, is_cases, total_append, total_reverse, total_map, total_add, total_mul, total_const, total_cong, total_le_all, count_total, count_le, all_map}
 use Rattle.multigraph.specs.Multigraph.{Pair, pair}
 use Rattle.multigraph.specs.Regular.{between, pairs_between}
 use Rattle.multigraph.proofs.Ends.{between_self}
 use Rattle.euler.specs.Euler.{take_by, first_pair}
-use Rattle.circuits.specs.Model.{other_m}
 use Rattle.euler.proofs.Taken.{ends, Leads}
 use Rattle.euler.proofs.Places.{keep, keep_append}
 use Rattle.circuits.proofs.Leading.{lead, lead_cons, either_lead, or_lead}
@@ -210,19 +210,19 @@ module _ (E flag : ℕ → ℕ) (es : List ℕ) where
 
   -- ── all of it ──
 
-  leads_pair : (y : ℕ) → Leads (pr y) (E y) (E (other_m y))
+  leads_pair : (y : ℕ) → Leads (pr y) (E y) (E (mate y))
   leads_pair y =
       elim (ℕ_discrete (y % 2) 0) [
         | yes e ↦
             let a : 2 * (y / 2) ≡ y = omega arith in
-            let b : 2 * (y / 2) + 1 ≡ other_m y = omega arith in
+            let b : 2 * (y / 2) + 1 ≡ mate y = omega arith in
             record { same = λ w s. ap (λ (z : ℕ). w (E z) (E (2 * (y / 2) + 1))) a ∙ ap (λ (z : ℕ). w (E y) (E z)) b }
         | no n ↦
-            let a : 2 * (y / 2) ≡ other_m y = omega arith in
+            let a : 2 * (y / 2) ≡ mate y = omega arith in
             let b : 2 * (y / 2) + 1 ≡ y = omega arith in
             record {
               same = λ w s.
-                  ap (λ (z : ℕ). w (E z) (E (2 * (y / 2) + 1))) a ∙ ap (λ (z : ℕ). w (E (other_m y)) (E z)) b ∙ s (E (other_m y)) (E y);
+                  ap (λ (z : ℕ). w (E z) (E (2 * (y / 2) + 1))) a ∙ ap (λ (z : ℕ). w (E (mate y)) (E z)) b ∙ s (E (mate y)) (E y);
             }
       ]
 
@@ -289,14 +289,14 @@ module _ (E flag : ℕ → ℕ) (es : List ℕ) where
             ]
 
     -- so the pairs form circuits
-    pub two_ended : TwoEnded r other_m E pr early late Half
+    pub two_ended : TwoEnded r mate E pr early late Half
     unfolding count
     two_ended =
         record {
           few = t.few;
-          mate_half = λ x i. let e : other_m x / 2 ≡ x / 2 = omega arith in rw e i;
+          mate_half = λ x i. let e : mate x / 2 ≡ x / 2 = omega arith in rw e i;
           mate_mate = λ x i. omega arith;
-          mate_pair = λ x i. let e : other_m x / 2 ≡ x / 2 = omega arith in ap pn e;
+          mate_pair = λ x i. let e : mate x / 2 ≡ x / 2 = omega arith in ap pn e;
           leads = λ x i. leads_pair x;
           one_of = λ x i.
               let c : 0 < is x (early (E x)) + is x (late (E x)) =

@@ -10,6 +10,7 @@ use lib.ListN.{length}
 use Rattle.words.specs.Basics.{pick, total, All, ran}
 use Rattle.words.specs.Words.{word, put_word}
 use Rattle.words.specs.Frames.{Keeps}
+use Rattle.words.specs.Sides.{mate}
 use Rattle.words.proofs.Sums.{total_reverse, total_map, all_right}
 use Rattle.words.proofs.Frames.{length_put, keeps_then_put}
 use Rattle.multigraph.specs.Multigraph.{Pair, Graph}
@@ -20,7 +21,7 @@ use Rattle.euler.specs.Euler.{Tour}
 use Rattle.euler.specs.Split.{add_halves, rest, every_other, add_pairs, rbmg_split_into_two}
 use Rattle.euler.specs.Room.{Splits, NumbersFrom, HalvesStored}
 use Rattle.euler.specs.Entries.{head_m}
-use Rattle.circuits.specs.Model.{Lies, Told, ApartSoFar, two_fill_m, two_filled_m, two_walk_m, split_two_m, copies_sum_m, few_sum_m, two_laid, other_m}
+use Rattle.circuits.specs.Model.{Lies, Told, ApartSoFar, two_fill_m, two_filled_m, two_walk_m, split_two_m, copies_sum_m, few_sum_m, two_laid}
 use Rattle.circuits.specs.Bounds.{TwoFills, TwoWalks, TwoSplits}
 use Rattle.euler.proofs.Trail.{aslant}
 use Rattle.euler.proofs.Straight.{along, along_total, split_along}
@@ -197,7 +198,7 @@ module _ {s : List ℕ} {u table graph n width : ℕ} (q : Splits s u table grap
         record {
           tour = record { cycles = []; left = reverse r };
           ordered =
-              Tours.begun r other_m E (Ends.pr E flag es) (Ends.early E flag es) (Ends.late E flag es) (Ends.Half E flag es)
+              Tours.begun r mate E (Ends.pr E flag es) (Ends.early E flag es) (Ends.late E flag es) (Ends.Half E flag es)
               (Steps.ended ground flag r two) q.side slant two.even (Ends.first_is E flag es r two);
           firsts = ps;
           seconds = ps;

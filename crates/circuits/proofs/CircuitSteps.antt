@@ -13,11 +13,12 @@ use lib.ListN.{length}
 use Rattle.words.specs.Basics.{pick, is, total}
 use Rattle.words.specs.Words.{word, put_word}
 use Rattle.words.specs.Frames.{Keeps}
+use Rattle.words.specs.Sides.{mate}
 use Rattle.words.proofs.Sums.{is_eq, is_ne, all_counted}
 use Rattle.words.proofs.Frames.{here, away, length_put}
 use Rattle.multigraph.specs.Multigraph.{Pair}
 use Rattle.circuits.specs.declared.Two.{Two}
-use Rattle.circuits.specs.Model.{Told, push_one_m, other_m, two_step_m, two_pair_m}
+use Rattle.circuits.specs.Model.{Told, push_one_m, two_step_m, two_pair_m}
 use Rattle.circuits.specs.Bounds.{TwoSteps}
 use Rattle.euler.proofs.Taken.{ends}
 use Rattle.circuits.proofs.CircuitTrails as Trails
@@ -56,11 +57,11 @@ module _ {l : Two} {N m k u : ℕ} {s₀ : List ℕ} (g : Ground l N m k u s₀)
 
   -- the party to which a half-edge leads
   abbrev pub leads_to : ℕ → ℕ
-  leads_to y = E (other_m y)
+  leads_to y = E (mate y)
 
   -- the half-edge that goes on from there
   abbrev pub next : ℕ → ℕ
-  next y = Trails.next r other_m E (Ends.pr E flag es) early late Half y
+  next y = Trails.next r mate E (Ends.pr E flag es) early late Half y
 
   -- the marks with those of visited parties wiped out
   abbrev pub wiped : ℕ → (ℕ → ℕ) → ℕ → ℕ
@@ -109,7 +110,7 @@ module _ {l : Two} {N m k u : ℕ} {s₀ : List ℕ} (g : Ground l N m k u s₀)
 
   module _ (two : Ends.Twos E flag es r) where
     -- the circuits' law holds of these half-edges
-    pub ended : Trails.TwoEnded r other_m E (Ends.pr E flag es) early late Half
+    pub ended : Trails.TwoEnded r mate E (Ends.pr E flag es) early late Half
     ended = Ends.two_ended E flag es r two
 
     -- a half-edge's words are where they should be
@@ -136,27 +137,27 @@ module _ {l : Two} {N m k u : ℕ} {s₀ : List ℕ} (g : Ground l N m k u s₀)
       half : Half (next y)
 
     step_words :
-        (h : ℕ) (s : List ℕ) (at y v : ℕ) → word (push_one_m h s at (y / 2)) (l.graph.ends + other_m y) ≡ v →
+        (h : ℕ) (s : List ℕ) (at y v : ℕ) → word (push_one_m h s at (y / 2)) (l.graph.ends + mate y) ≡ v →
         (two_step_m l h s at y).words ≡ put_word (push_one_m h s at (y / 2)) (l.b + 2 * v) 0
     unfolding two_step_m
     step_words h s at y v e = rw e
 
     step_number :
-        (h : ℕ) (s : List ℕ) (at y v sum : ℕ) → word (push_one_m h s at (y / 2)) (l.graph.ends + other_m y) ≡ v →
+        (h : ℕ) (s : List ℕ) (at y v sum : ℕ) → word (push_one_m h s at (y / 2)) (l.graph.ends + mate y) ≡ v →
         word (push_one_m h s at (y / 2)) (l.b + 2 * v + 1) ≡ sum →
-        (two_step_m l h s at y).number ≡ (sum + 4294967296 - other_m y) % 4294967296
+        (two_step_m l h s at y).number ≡ (sum + 4294967296 - mate y) % 4294967296
     unfolding two_step_m
     step_number h s at y v sum e f = rw (e, f)
 
-    number_next : (y : ℕ) → Half y → ((early (leads_to y) + late (leads_to y)) % 4294967296 + 4294967296 - other_m y) % 4294967296 ≡ next y
+    number_next : (y : ℕ) → Half y → ((early (leads_to y) + late (leads_to y)) % 4294967296 + 4294967296 - mate y) % 4294967296 ≡ next y
     unfolding Trails.next
     number_next y i =
         let v : ℕ = leads_to y in
-        let j : Half (other_m y) = ended.mate_half y i in
-        let s : 0 < total (ends v) r = ended.some (other_m y) j in
+        let j : Half (mate y) = ended.mate_half y i in
+        let s : 0 < total (ends v) r = ended.some (mate y) j in
         let a : early v < 4294967296 = half_small (early v) (ended.early_half v s).0 in
         let b : late v < 4294967296 = half_small (late v) (ended.late_half v s).0 in
-        other (early v) (late v) (other_m y) a b (ended.one_of (other_m y) j)
+        other (early v) (late v) (mate y) a b (ended.one_of (mate y) j)
       where
         other :
             (a b c : ℕ) → a < 4294967296 → b < 4294967296 → (c ≡ a) ⊎ (c ≡ b) →
@@ -180,18 +181,18 @@ module _ {l : Two} {N m k u : ℕ} {s₀ : List ℕ} (g : Ground l N m k u s₀)
       high_word a b =
           push_one_away h s at (y / 2) a (λ x. omega (arith, g.parties, g.entries)) (λ x. omega (arith, g.parties, g.entries))
 
-      led : Fill.Fine g (other_m y)
-      led = fine (other_m y) (ended.mate_half y i)
+      led : Fill.Fine g (mate y)
+      led = fine (mate y) (ended.mate_half y i)
 
       stepped : Stepped h s at y
       stepped =
           let v : ℕ = leads_to y in
           let lt : length t ≡ length s = push_one_length h s at (y / 2) in
-          let ev : word t (l.graph.ends + other_m y) ≡ v =
-          push_one_away h s at (y / 2) (l.graph.ends + other_m y) (λ x. omega (arith, led.table)) (λ x. omega (arith, led.table))
-          ∙ q.keeps.same (l.graph.ends + other_m y) led.table in
+          let ev : word t (l.graph.ends + mate y) ≡ v =
+          push_one_away h s at (y / 2) (l.graph.ends + mate y) (λ x. omega (arith, led.table)) (λ x. omega (arith, led.table))
+          ∙ q.keeps.same (l.graph.ends + mate y) led.table in
           let sum : word t (l.b + 2 * v + 1) ≡ (early v + late v) % 4294967296 =
-          high_word (l.b + 2 * v + 1) (omega arith) ∙ q.sums v led.party (ended.some (other_m y) (ended.mate_half y i)) in
+          high_word (l.b + 2 * v + 1) (omega arith) ∙ q.sums v led.party (ended.some (mate y) (ended.mate_half y i)) in
           record {
             fits =
                 record {
@@ -201,7 +202,7 @@ module _ {l : Two} {N m k u : ℕ} {s₀ : List ℕ} (g : Ground l N m k u s₀)
                 };
             is_words = step_words h s at y v ev;
             is_next = step_number h s at y v ((early v + late v) % 4294967296) ev sum ∙ number_next y i;
-            half = Trails.next_half r other_m E (Ends.pr E flag es) early late Half ended y i;
+            half = Trails.next_half r mate E (Ends.pr E flag es) early late Half ended y i;
           }
 
       wiped_marks : (x : ℕ) → x < N → word (dealt_to h s at y) (l.b + 2 * x) ≡ wiped y M x

@@ -10,12 +10,13 @@ use lib.Dec.{eqb}
 use lib.ListN.{length, length-map, length-append, length-reverse}
 use Rattle.words.specs.Basics.{is, total, iterate, All}
 use Rattle.words.specs.Words.{word}
+use Rattle.words.specs.Sides.{mate}
 use Rattle.words.proofs.Sums.{total_const, all_counted}
 use Rattle.multigraph.specs.Multigraph.{Pair}
 use Rattle.circuits.specs.declared.Two.{Two}
 use Rattle.euler.specs.Euler.{Tour}
 use Rattle.euler.specs.Split.{every_other}
-use Rattle.circuits.specs.Model.{Told, two_pair_m, two_circuit_m, two_from_m, two_walk_m, other_m}
+use Rattle.circuits.specs.Model.{Told, two_pair_m, two_circuit_m, two_from_m, two_walk_m}
 use Rattle.circuits.specs.Bounds.{TwoCircuits, TwoFroms, TwoWalks}
 use Rattle.euler.proofs.Taken.{ends}
 use Rattle.euler.proofs.Trail.{aslant}
@@ -119,7 +120,7 @@ module _ {l : Two} {N m k u : ℕ} {s₀ : List ℕ} (g : Ground l N m k u s₀)
 
     abbrev TourOrdered : ℕ → Tour → Type 0
     TourOrdered v t =
-        Tours.TourOrdered r other_m E pr early late Half (Steps.ended g flag r two) side slant two.even
+        Tours.TourOrdered r mate E pr early late Half (Steps.ended g flag r two) side slant two.even
         (Ends.first_is E flag es r two) v t
 
     abbrev Num : ℕ → Type 0
@@ -200,22 +201,22 @@ module _ {l : Two} {N m k u : ℕ} {s₀ : List ℕ} (g : Ground l N m k u s₀)
     -- the tour's next party
     abbrev Turned : ℕ → Tour → Type 0
     Turned v t =
-        Tours.Turned r other_m E pr early late Half (Steps.ended g flag r two) side slant two.even
+        Tours.Turned r mate E pr early late Half (Steps.ended g flag r two) side slant two.even
         (Ends.first_is E flag es r two) v t
 
     turned : (v : ℕ) (t : Tour) → TourOrdered v t → Turned v t
     turned v t h =
-        Tours.turned r other_m E pr early late Half (Steps.ended g flag r two) side slant two.even
+        Tours.turned r mate E pr early late Half (Steps.ended g flag r two) side slant two.even
         (Ends.first_is E flag es r two) v t h
 
     abbrev Passed : Tour → Tour → Type 0
     Passed t t' =
-        Tours.Passed r other_m E pr early late Half (Steps.ended g flag r two) side slant two.even
+        Tours.Passed r mate E pr early late Half (Steps.ended g flag r two) side slant two.even
         (Ends.first_is E flag es r two) t t'
 
     abbrev OneMore : ℕ → Tour → Tour → Type 0
     OneMore v t t' =
-        Tours.OneMore r other_m E pr early late Half (Steps.ended g flag r two) side slant two.even
+        Tours.OneMore r mate E pr early late Half (Steps.ended g flag r two) side slant two.even
         (Ends.first_is E flag es r two) v t t'
 
     -- what the outer loop needs at the party v

@@ -1,6 +1,5 @@
 -- the model's cases, for the code's proofs
 pub mod ModelLaws
-pub mod Mates
 -- the definition's walk at degree 2, circuit by circuit
 pub mod Leading
 pub mod CircuitTrails

@@ -2,9 +2,10 @@
 -- Assumes nothing.
 use Rattle.std.specs.Prelude.{ℕ, zero, suc, ◌+◌, ◌*◌, ◌-◌, ◌/◌, ◌<◌, ◌≤◌, ◌≡◌, List, length}
 use Rattle.words.specs.Words.{word, word_limit}
+use Rattle.words.specs.Sides.{mate}
 use Rattle.circuits.specs.declared.Two.{Two}
 use Rattle.circuits.specs.declared.Sifted.{Sifted}
-use Rattle.circuits.specs.Model.{Told, push_one_m, half_edge_m, two_note_m, two_start_m, two_sift_all_m, two_fill_m, two_filled_m, other_m, two_step_m, two_pair_m, two_walk_m}
+use Rattle.circuits.specs.Model.{Told, push_one_m, half_edge_m, two_note_m, two_start_m, two_sift_all_m, two_fill_m, two_filled_m, two_step_m, two_pair_m, two_walk_m}
 
 -- entry i can be sifted
 pub record TwoSifts (l : Two) (s : List ℕ) (n : Sifted) (i : ℕ) : Type 0 where
@@ -34,8 +35,8 @@ TwoFills l side (suc j) s = TwoNotes l side s j × TwoFills l side j (two_note_m
 -- a step can be made
 pub record TwoSteps (l : Two) (h : ℕ) (s : List ℕ) (at y : ℕ) : Type 0 where
   pub place : h + 3 + 2 * at < length s
-  pub end : l.graph.ends + other_m y < length s
-  pub party : l.b + 2 * word (push_one_m h s at (y / 2)) (l.graph.ends + other_m y) + 1 < length s
+  pub end : l.graph.ends + mate y < length s
+  pub party : l.b + 2 * word (push_one_m h s at (y / 2)) (l.graph.ends + mate y) + 1 < length s
 
 -- n times two steps, or fewer
 abbrev pub TwoCircuits : Two → ℕ → ℕ → List ℕ → ℕ → ℕ → Type 0

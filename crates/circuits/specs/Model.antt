@@ -3,6 +3,7 @@
 use Rattle.std.specs.Prelude.{ℕ, zero, suc, ◌+◌, ◌*◌, ◌-◌, ◌/◌, ◌%◌, ◌<◌, List, Option, None, Some, eqb, ltb}
 use Rattle.words.specs.Basics.{pick}
 use Rattle.words.specs.Words.{word, put_word, word_limit}
+use Rattle.words.specs.Sides.{mate}
 use Rattle.circuits.specs.declared.Two.{Two}
 use Rattle.circuits.specs.declared.Sifted.{Sifted}
 use Rattle.euler.specs.Entries.{push_m, many_m, head_m}
@@ -65,18 +66,14 @@ two_fill_m l side (suc j) s = two_fill_m l side j (two_note_m l side s j)
 
 -- ── the circuits ──
 
--- the other half-edge of the same pair
-abbrev pub other_m : ℕ → ℕ
-other_m y = y + 1 - 2 * (y % 2)
-
 -- The pair of the half-edge y goes to the half h; the party to which it leads is visited, and its other half-edge is next.
 unfoldable pub two_step_m : Two → ℕ → List ℕ → ℕ → ℕ → Told
 two_step_m l h s at y =
     let t = push_one_m h s at (y / 2) in
-    let z = l.b + 2 * word t (l.graph.ends + other_m y) in
+    let z = l.b + 2 * word t (l.graph.ends + mate y) in
     record {
       words = put_word t z 0;
-      number = (word t (z + 1) + word_limit - other_m y) % word_limit;
+      number = (word t (z + 1) + word_limit - mate y) % word_limit;
     }
 
 -- two steps, one for each half

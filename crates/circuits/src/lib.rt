@@ -13,7 +13,7 @@ ghost use Rattle.words.specs.Sides.{offset_of};
 
 use euler::{StoredGraph, head, many, push};
 use multigraph::end_of;
-use words::{EdgeIndex, NodeIndex, Side, set_word, word_at};
+use words::{EdgeIndex, NodeIndex, Side, other_half, set_word, word_at};
 
 mod copies; // copies.rt: the copies of a graph, by which its degree is told
 
@@ -121,14 +121,14 @@ impl Two {
     }
 
     // The pair of the half-edge y goes to the half h. The party to which y leads is visited, and its other half-edge is next.
-    #[tactic(auto, using(crate::proofs::Mates::other_flips), unfolding(crate::specs::Model::two_step_m))]
+    #[tactic(auto, unfolding(crate::specs::Model::two_step_m))]
     fn two_step(self, s: &mut [u32], h: usize, at: usize, y: usize) -> usize
         requires y_bound { y < word_limit }
         requires steps { TwoSteps self h s.old at y }
         ensures { (record { words = s.new; number = result } ≡ two_step_m self h s.old at y) × (result < word_limit) }
     {
         push(s, h, at, y / 2, 1);
-        let other = y ^ 1;
+        let other = other_half(y);
         let p = end_of(
             s,
             self.graph.ends,

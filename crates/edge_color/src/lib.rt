@@ -30,7 +30,8 @@ pub fn rbmg_edge_color_when_power_of_two(
 {
     let RegularGraph { g, n, d } = graph;
     if d == 1 {
-        matching::read_matching(s, g, n, out);
+        let numbers = PairNumbers { at: out, n };
+        matching::read_matching(s, g, numbers);
         return;
     }
     let u = m.taken;
@@ -98,7 +99,8 @@ pub fn rbmg_edge_color(s: &mut [u32], m: &mut Mark, t: Table, graph: RegularGrap
         return;
     }
     if d == 1 {
-        matching::read_matching(s, g, n, out);
+        let numbers = PairNumbers { at: out, n };
+        matching::read_matching(s, g, numbers);
         return;
     }
     let u = m.taken;

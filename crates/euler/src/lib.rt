@@ -23,7 +23,7 @@ pub fn many(copies: usize) -> usize
     usize::from(copies >= 2)
 }
 
-// An entry of a half, at its place `at`.
+// Writes an entry of the graph at `h`, at its place `at`.
 pub fn push(s: &mut [u32], h: usize, at: usize, e: usize, copies: usize)
     requires { h + 3 + 2 * at < length s.old }
     ensures { s.new ≡ push_m h s.old at e copies }

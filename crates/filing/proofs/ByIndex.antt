@@ -1,13 +1,12 @@
 -- Bytes, 16-bit numbers and rows of a filed plan by index. Assumes nothing.
-use Prim.Native.Nat.{ℕ, zero, suc, ◌+◌, ◌*◌, ◌%◌, ◌/◌, ◌<◌, ◌≤◌}
-use mathlib.Core.Path.{◌≡◌, refl, sym}
+use Prim.Native.Nat.{ℕ, zero, suc, ◌+◌, ◌*◌, ◌%◌, ◌/◌, ◌<◌}
+use mathlib.Core.Path.{◌≡◌, refl}
 use mathlib.Core.List.{List, [], ◌∷◌}
 use native.Mathlib.Omega.{arith}
-use lib.ListN.{length, get_or, get_or-eq_default}
+use lib.ListN.{length, get_or}
 use Rattle.appointments.specs.Appointments.{appts}
 use Rattle.words.proofs.Filling.{RowAt, row_on}
 use Rattle.filing.specs.Filed.{bytes_of, numbers_of, rows, rows_list, rows_slots}
-use Rattle.filing.proofs.Bytes.{words_length}
 
 -- ── numbers and their bytes ──
 
@@ -36,12 +35,6 @@ word_at (low ∷ high ∷ bytes) (suc k) h =
     let on : 2 * suc k ≡ suc (suc (2 * k)) = omega arith in
     let off : 2 * suc k + 1 ≡ suc (suc (2 * k + 1)) = omega arith in
     rw (off, on) (word_at bytes k (omega arith))
-
--- past the last there is none
-pub word_past : (bytes : List ℕ) (k : ℕ) → length bytes / 2 ≤ k → 0 ≡ get_or (numbers_of bytes) k 0
-word_past bytes k h =
-    let past : length (numbers_of bytes) ≤ k = omega (arith, words_length bytes) in
-    sym (get_or-eq_default (numbers_of bytes) 0 past)
 
 -- ── rows ──
 

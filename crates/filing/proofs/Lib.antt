@@ -4,4 +4,3 @@ pub mod RoundTrip
 pub mod ByIndex
 pub mod WritingSteps
 pub mod ReadingSteps
-pub mod Turns

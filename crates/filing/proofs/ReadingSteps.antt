@@ -12,11 +12,14 @@ use lib.ListN.{length, get_or, drop, set, length-drop}
 use lib.Seq.{get_or-drop}
 use Rattle.words.specs.Words.{filled}
 use Rattle.words.proofs.Filling.{filled_more, filled_all, RowAt}
+use Rattle.appointments.specs.Checks.{Check, passed, bar, check_parties, check_count}
 use Rattle.appointments.specs.Answers.{accepted, refused}
-use Rattle.filing.specs.Filed.{numbers_of, rows_list, rows_slots, header_of, header, filed_rows, reading_answer, reading_list, reading_slots}
+use Rattle.checking.specs.Checked.{checked}
+use Rattle.checking.proofs.Answering.{bar_stays, bar_goes_on}
+use Rattle.filing.specs.Filed.{numbers_of, rows_list, rows_slots, header_of, header, filed_rows, reading_checks, reading_answer, reading_list, reading_slots}
 use Rattle.filing.specs.Buffers.{take_row, take_slot}
 use Rattle.filing.proofs.Bytes.{words_length, rows_list_length, rows_slots_length}
-use Rattle.filing.proofs.FiledLaws.{Readable, readable_accepted, reading_refused_list, reading_refused_slots, reading_list_read, reading_slots_read}
+use Rattle.filing.proofs.FiledLaws.{Readable, accepted_readable, reading_refused_list, reading_refused_slots, reading_list_read, reading_slots_read}
 use Rattle.filing.proofs.ByIndex.{read_at}
 
 -- ── the entries, step by step ──
@@ -68,60 +71,54 @@ or_true true = refl
 or_true false = refl
 
 module _ (bytes list slots : List ℕ) where
-  -- refused with a number, place 0, list and slots as they were
-  abbrev pub Barred : ℕ → Type 0
-  Barred number =
-      (refused number 0 ≡ reading_answer bytes list slots)
+  -- refused with a number and a place, list and slots as they were
+  abbrev pub Barred : ℕ → ℕ → Type 0
+  Barred n i =
+      (refused n i ≡ reading_answer bytes list slots)
       × ((list ≡ reading_list bytes list slots) × (slots ≡ reading_slots bytes list slots))
 
-  barred : (number : ℕ) → reading_answer bytes list slots ≡ refused number 0 → Barred number
-  barred number e = (rw e, (sym (reading_refused_list bytes list slots number 0 e), sym (reading_refused_slots bytes list slots number 0 e)))
-
-  pub short_12 : length bytes < 4 → Barred 12
+  barred : (n i : ℕ) → reading_checks bytes list slots ≡ Check.refused n i → Barred n i
   unfolding reading_answer
-  short_12 h = barred 12 (rw (lt-ltb (length bytes) 4 h))
+  barred n i e =
+      let told : reading_answer bytes list slots ≡ refused n i = rw e in
+      (sym told, (sym (reading_refused_list bytes list slots n i told), sym (reading_refused_slots bytes list slots n i told)))
+
+  pub short_12 : length bytes < 4 → Barred 12 0
+  unfolding reading_checks
+  short_12 h = barred 12 0 (rw (lt-ltb (length bytes) 4 h))
 
   module _ (p count : ℕ) (h : 4 ≤ length bytes) (e : p ≡ get_or (numbers_of bytes) 0 0) (f : count ≡ get_or (numbers_of bytes) 1 0) where
-    pub barred_12 : (length bytes ≡ 6 * count + 4 → ⊥) → Barred 12
-    unfolding reading_answer header
+    pub barred_12 : (length bytes ≡ 6 * count + 4 → ⊥) → Barred 12 0
+    unfolding reading_checks header
     barred_12 n =
         let off : length bytes ≡ 4 + 6 * count → ⊥ = λ q. n (omega arith) in
-        barred 12 (rw (le-ltb (length bytes) 4 h, ← f, ne_eqb (length bytes) (4 + 6 * count) off))
+        barred 12 0 (rw (le-ltb (length bytes) 4 h, ← f, ne_eqb (length bytes) (4 + 6 * count) off))
+
+    abbrev then_13 : Check
+    then_13 = bar (ltb (length list) (2 * count) || ltb (length slots) count) 13 passed
 
     module _ (whole : length bytes ≡ 6 * count + 4) where
-      is_whole : length bytes ≡ 4 + 6 * count
-      is_whole = omega arith
+      after_12 : reading_checks bytes list slots ≡ check_parties p (check_count count then_13)
+      unfolding reading_checks header
+      after_12 =
+          let is_whole : length bytes ≡ 4 + 6 * count = omega arith in
+          rw (le-ltb (length bytes) 4 h, ← f, eq-eqb (length bytes) (4 + 6 * count) is_whole, ← e)
 
-      pub barred_1 : 1024 < p → Barred 1
-      unfolding reading_answer header
-      barred_1 k = barred 1 (rw (le-ltb (length bytes) 4 h, ← f, eq-eqb (length bytes) (4 + 6 * count) is_whole, ← e, lt-ltb 1024 p k))
+      pub barred_1 : (n i : ℕ) → refused n i ≡ checked (check_parties p passed) → Barred n i
+      barred_1 n i k = barred n i (after_12 ∙ bar_stays _ 1 _ n i k)
 
-      module _ (few : p ≤ 1024) where
-        pub barred_3 : 4096 < count → Barred 3
-        unfolding reading_answer header
-        barred_3 k =
-            barred 3
-            (rw (le-ltb (length bytes) 4 h, ← f, eq-eqb (length bytes) (4 + 6 * count) is_whole, ← e, le-ltb 1024 p few, lt-ltb 4096 count k))
+      module _ (parties : accepted tt ≡ checked (check_parties p passed)) where
+        pub barred_3 : (n i : ℕ) → refused n i ≡ checked (check_count count passed) → Barred n i
+        barred_3 n i k = barred n i (after_12 ∙ bar_goes_on _ 1 _ parties ∙ bar_stays _ 3 _ n i k)
 
-        module _ (k : count ≤ 4096) where
+        module _ (few : accepted tt ≡ checked (check_count count passed)) where
+          only_13 : reading_checks bytes list slots ≡ then_13
+          only_13 = after_12 ∙ bar_goes_on _ 1 _ parties ∙ bar_goes_on _ 3 _ few
+
           -- the list or the slots are too short
-          barred_13 : (ltb (length list) (2 * count) || ltb (length slots) count) ≡ true → Barred 13
-          unfolding reading_answer header
-          barred_13 short =
-              barred 13
-              (rw (
-                le-ltb (length bytes) 4 h,
-                ← f,
-                eq-eqb (length bytes) (4 + 6 * count) is_whole,
-                ← e,
-                le-ltb 1024 p few,
-                le-ltb 4096 count k,
-                short,
-              ))
-
-          pub short_13 : (length list < 2 * count) ⊎ (length slots < count) → Barred 13
-          short_13 (inl s) = barred_13 (rw (lt-ltb (length list) (2 * count) s))
-          short_13 (inr s) = barred_13 (rw (lt-ltb (length slots) count s, or_true (ltb (length list) (2 * count))))
+          pub short_13 : (length list < 2 * count) ⊎ (length slots < count) → Barred 13 0
+          short_13 (inl s) = barred 13 0 (only_13 ∙ rw (lt-ltb (length list) (2 * count) s))
+          short_13 (inr s) = barred 13 0 (only_13 ∙ rw (lt-ltb (length slots) count s, or_true (ltb (length list) (2 * count))))
 
           -- read: P and A, and the list and the slots filled with the plan's
           pub was_read :
@@ -129,11 +126,12 @@ module _ (bytes list slots : List ℕ) where
               (accepted (header_of p count) ≡ reading_answer bytes list slots)
               × ((filled (rows_list (filed_rows bytes)) (2 * count) list ≡ reading_list bytes list slots)
               × (filled (rows_slots (filed_rows bytes)) count slots ≡ reading_slots bytes list slots))
-          unfolding header
+          unfolding reading_answer header
           was_read room seats =
-              let r : Readable bytes list slots =
-              record { whole = rw (← f) is_whole; parties = rw (← e) few; few = rw (← f) k; list_room = rw (← f) room; slot_room = rw (← f) seats } in (
-                rw (readable_accepted bytes list slots r, e, f),
+              let told : reading_answer bytes list slots ≡ accepted (header bytes) =
+              rw (only_13, le-ltb (length list) (2 * count) room, le-ltb (length slots) count seats) in
+              let r : Readable bytes list slots = (accepted_readable bytes list slots _ told).0 in (
+                rw (told, e, f),
                 (
                   filled_all (rows_list (filed_rows bytes)) (2 * count) list (ends_long bytes count whole)
                       ∙ ap (λ (m : ℕ). rows_list (filed_rows bytes) ++ drop (2 * m) list) f

@@ -4,18 +4,21 @@ use Prim.Native.Nat.{ℕ, suc, ◌+◌, ◌*◌, ◌%◌, ◌/◌, ◌≤◌, �
 use mathlib.Core.Path.{◌≡◌, refl, sym, ◌∙◌, ap}
 use mathlib.Core.List.{List, ◌∷◌, ◌++◌}
 use native.Mathlib.Omega.{arith}
-use borrow.Author.Tests.{eq-eqb, ne_eqb, lt-ltb, le-ltb}
+use borrow.Author.Tests.{lt-ltb, le-ltb}
+use lib.Dec.{ltb}
 use lib.ListN.{length, get_or, set, drop}
 use Rattle.words.specs.Words.{filled}
 use Rattle.words.proofs.Filling.{filled_more, filled_all, RowAt}
 use Rattle.appointments.specs.Appointments.{appts}
-use Rattle.appointments.proofs.ChecksLaws.{test_even}
+use Rattle.appointments.specs.Checks.{Check, passed, bar, check_parties, check_even, check_count, check_slots}
 use Rattle.appointments.proofs.Flat.{appts_count}
 use Rattle.appointments.specs.Answers.{accepted, refused}
-use Rattle.filing.specs.Filed.{bytes_of, rows, filed_bytes, writing_answer, writing_output}
+use Rattle.checking.specs.Checked.{checked}
+use Rattle.checking.proofs.Answering.{enough_slots, bar_stays, bar_goes_on}
+use Rattle.filing.specs.Filed.{bytes_of, rows, filed_length, filed_bytes, writing_checks, writing_answer, writing_output}
 use Rattle.filing.specs.Buffers.{put_number, put_row}
 use Rattle.filing.proofs.Bytes.{bytes_length, rows_length}
-use Rattle.filing.proofs.FiledLaws.{Writable, writable_accepted, writing_refused, writing_wrote}
+use Rattle.filing.proofs.FiledLaws.{Writable, accepted_writable, writing_refused, writing_wrote}
 use Rattle.filing.proofs.ByIndex.{byte_low, byte_high, rows_at}
 
 -- ── the bytes, step by step ──
@@ -74,58 +77,60 @@ module _ (P : ℕ) (list slots : List ℕ) where
 -- ── what the call tells and leaves ──
 
 module _ (P : ℕ) (list slots output : List ℕ) where
-  -- refused with a number, place 0, the output as it was
-  abbrev Barred : ℕ → Type 0
-  Barred number = (refused number 0 ≡ writing_answer P list slots output) × (output ≡ writing_output P list slots output)
+  -- refused with a number and a place, the output as it was
+  abbrev Barred : ℕ → ℕ → Type 0
+  Barred n i = (refused n i ≡ writing_answer P list slots output) × (output ≡ writing_output P list slots output)
 
-  barred : (number : ℕ) → writing_answer P list slots output ≡ refused number 0 → Barred number
-  barred number e = (rw e, sym (writing_refused P list slots output number 0 e))
-
-  pub barred_1 : 1024 < P → Barred 1
+  barred : (n i : ℕ) → writing_checks P list slots output ≡ Check.refused n i → Barred n i
   unfolding writing_answer
-  barred_1 h = barred 1 (rw (lt-ltb 1024 P h))
+  barred n i e =
+      let told : writing_answer P list slots output ≡ refused n i = rw e in
+      (sym told, sym (writing_refused P list slots output n i told))
 
-  pub barred_2 : P ≤ 1024 → length list % 2 ≡ 1 → Barred 2
-  unfolding writing_answer
-  barred_2 h e = barred 2 (rw (le-ltb 1024 P h, eq-eqb (length list % 2) 1 e))
+  abbrev then_13 : Check
+  then_13 = bar (ltb (length output) (4 + 6 * (length list / 2))) 13 passed
 
-  module _ (h : P ≤ 1024) (n : length list % 2 ≡ 1 → ⊥) where
-    pub barred_3 : 4096 < length list / 2 → Barred 3
-    unfolding writing_answer
-    barred_3 k = barred 3 (rw (le-ltb 1024 P h, ne_eqb (length list % 2) 1 n, appts_count list, lt-ltb 4096 (length list / 2) k))
+  pub barred_1 : (n i : ℕ) → refused n i ≡ checked (check_parties P passed) → Barred n i
+  unfolding writing_checks
+  barred_1 n i e = barred n i (bar_stays _ 1 _ n i e)
 
-    pub barred_7 : length list / 2 ≤ 4096 → length slots < length list / 2 → Barred 7
-    unfolding writing_answer
-    barred_7 k s =
-        barred 7
-        (rw (le-ltb 1024 P h, ne_eqb (length list % 2) 1 n, appts_count list, le-ltb 4096 (length list / 2) k, lt-ltb (length slots) (length list / 2) s))
+  module _ (parties : accepted tt ≡ checked (check_parties P passed)) where
+    pub barred_2 : (n i : ℕ) → refused n i ≡ checked (check_even list passed) → Barred n i
+    unfolding writing_checks
+    barred_2 n i e = barred n i (bar_goes_on _ 1 _ parties ∙ bar_stays _ 2 _ n i e)
 
-    module _ (k : length list / 2 ≤ 4096) (s : length list / 2 ≤ length slots) where
-      pub barred_13 : length output < 6 * (length list / 2) + 4 → Barred 13
-      unfolding writing_answer
-      barred_13 o =
-          barred 13
-          (rw (
-            le-ltb 1024 P h,
-            ne_eqb (length list % 2) 1 n,
-            appts_count list,
-            le-ltb 4096 (length list / 2) k,
-            le-ltb (length slots) (length list / 2) s,
-            lt-ltb (length output) (4 + 6 * (length list / 2)) (omega arith),
-          ))
+    module _ (even : accepted tt ≡ checked (check_even list passed)) where
+      after_2 : writing_checks P list slots output ≡ check_count (length list / 2) (check_slots (length slots) (length list / 2) then_13)
+      unfolding writing_checks
+      after_2 = bar_goes_on _ 1 _ parties ∙ bar_goes_on _ 2 _ even ∙ rw (appts_count list)
 
-      -- written: its length, and the output filled with the plan
-      pub written :
-          6 * (length list / 2) + 4 ≤ length output →
-          (accepted (6 * (length list / 2) + 4) ≡ writing_answer P list slots output)
-          × (filled (filed_bytes P list slots) (6 * (length list / 2) + 4) output ≡ writing_output P list slots output)
-      written o =
-          let half : length (appts list) ≡ length list / 2 = appts_count list in
-          let w : Writable P list slots output =
-          record { parties = h; even = test_even (length list) (ne_eqb (length list % 2) 1 n); few = omega arith; slot_room = omega arith; room = omega arith } in
-          let long : 6 * (length list / 2) + 4 ≡ 4 + 6 * length (appts list) = omega arith in (
-            rw (writable_accepted P list slots output w, long),
-            filled_all (filed_bytes P list slots) (6 * (length list / 2) + 4) output (filed_long P list slots s)
-                ∙ ap (λ (m : ℕ). filed_bytes P list slots ++ drop m output) long
-                ∙ sym (writing_wrote P list slots output w),
-          )
+      pub barred_3 : (n i : ℕ) → refused n i ≡ checked (check_count (length list / 2) passed) → Barred n i
+      barred_3 n i e = barred n i (after_2 ∙ bar_stays _ 3 _ n i e)
+
+      module _ (few : accepted tt ≡ checked (check_count (length list / 2) passed)) where
+        pub barred_7 : (n i : ℕ) → refused n i ≡ checked (check_slots (length slots) (length list / 2) passed) → Barred n i
+        barred_7 n i e = barred n i (after_2 ∙ bar_goes_on _ 3 _ few ∙ bar_stays _ 7 _ n i e)
+
+        module _ (slot_room : accepted tt ≡ checked (check_slots (length slots) (length list / 2) passed)) where
+          only_13 : writing_checks P list slots output ≡ then_13
+          only_13 = after_2 ∙ bar_goes_on _ 3 _ few ∙ bar_goes_on _ 7 _ slot_room
+
+          pub barred_13 : length output < 6 * (length list / 2) + 4 → Barred 13 0
+          barred_13 o = barred 13 0 (only_13 ∙ rw (lt-ltb (length output) (4 + 6 * (length list / 2)) (omega arith)))
+
+          -- written: its length, and the output filled with the plan
+          pub written :
+              6 * (length list / 2) + 4 ≤ length output →
+              (accepted (6 * (length list / 2) + 4) ≡ writing_answer P list slots output)
+              × (filled (filed_bytes P list slots) (6 * (length list / 2) + 4) output ≡ writing_output P list slots output)
+          unfolding writing_answer
+          written o =
+              let long : 6 * (length list / 2) + 4 ≡ filed_length (length (appts list)) = omega (arith, appts_count list) in
+              let told : writing_answer P list slots output ≡ accepted (filed_length (length (appts list))) =
+              rw (only_13, le-ltb (length output) (4 + 6 * (length list / 2)) (omega arith)) in
+              let w : Writable P list slots output = (accepted_writable P list slots output _ told).0 in (
+                rw (told, long),
+                filled_all (filed_bytes P list slots) (6 * (length list / 2) + 4) output (filed_long P list slots (enough_slots _ _ slot_room))
+                    ∙ ap (λ (m : ℕ). filed_bytes P list slots ++ drop m output) long
+                    ∙ sym (writing_wrote P list slots output w),
+              )

@@ -15,6 +15,7 @@ use euler::RegularGraph;
 use list_pairs::Bases;
 use mark::Mark;
 use matching::Table;
+use multigraph::PairNumbers;
 use slot_chains::Chains;
 
 // Where things lie, in units of q words (specs/Steps.antt): the ends of the pairs, the map of places, each appointment's pair, the
@@ -93,5 +94,9 @@ pub fn bipartite_edge_color_given_partition(
     color(s, FIRST_MARK * q, t, graph, out);
     let links = g;
     let chains = Chains { n, d, out, links };
-    slots::give_slots(s, slots, chains, list.len() / 2, APAIR * q);
+    let numbers = PairNumbers {
+        at: APAIR * q,
+        n: list.len() / 2,
+    };
+    slots::give_slots(s, slots, chains, numbers);
 }

@@ -7,9 +7,8 @@ use mathlib.Core.Logic.{inl, inr, ⊎_elim}
 use native.Mathlib.Omega.{arith}
 use native.Mathlib.Decide.{ℕ_discrete, dec_lt}
 use lib.ListN.{length}
-use Rattle.std.specs.Int.Bits.{bit_xor, bit_and, xor_add_and}
-use Rattle.std.proofs.lemmas.Nat.{and_mask}
 use Rattle.words.specs.Words.{word, put_word}
+use Rattle.words.specs.Sides.{mate}
 use Rattle.words.specs.Frames.{Changes}
 use Rattle.words.proofs.Frames.{here, away, length_put}
 use Rattle.words.proofs.Ranges.{changes_trans, changes_put, changes_put_low}
@@ -20,15 +19,9 @@ use Rattle.list_pairs.specs.Contract.{first_of, second_of}
 use Rattle.list_pairs.specs.declared.rows.RowBases.{RowBases}
 use Rattle.list_pairs.specs.Rows.{row, counter}
 use Rattle.list_pairs.specs.Ends.{Earlier}
-use Rattle.list_pairs.specs.Representatives.{mate, Same, Rep, candidate, Finds, RepFound, RepsFit, RowDone, RepsDone}
+use Rattle.list_pairs.specs.Representatives.{Same, Rep, candidate, Finds, RepFound, RepsFit, RowDone, RepsDone}
 
 -- ── the two ends ──
-
--- the last bit flipped
-pub flipped : (h : ℕ) → bit_xor h 1 ≡ mate h
-flipped h =
-    let low : bit_and h 1 ≡ h % 2 = and_mask h 1 in
-    omega (arith, xor_add_and h 1, low)
 
 -- a half-edge and its mate are the ends of their appointment
 pub half_ends :

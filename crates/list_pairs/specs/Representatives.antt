@@ -1,16 +1,13 @@
 -- Representatives: what they are, and what the search for them asks and gives (`src/representatives.rt`). Assumes nothing.
-use Rattle.std.specs.Prelude.{ℕ, ◌+◌, ◌*◌, ◌-◌, ◌/◌, ◌%◌, ◌<◌, ◌≤◌, ◌≡◌, List, ◌⊎◌, length}
+use Rattle.std.specs.Prelude.{ℕ, ◌+◌, ◌*◌, ◌/◌, ◌%◌, ◌<◌, ◌≤◌, ◌≡◌, List, ◌⊎◌, length}
 use Rattle.words.specs.Frames.{Changes}
 use Rattle.words.specs.Words.{word, put_word, word_limit}
+use Rattle.words.specs.Sides.{mate}
 use Rattle.multigraph.specs.Regular.{SameEnds}
 use Rattle.list_pairs.specs.Contract.{first_of, second_of}
 use Rattle.list_pairs.specs.declared.rows.RowBases.{RowBases}
 use Rattle.list_pairs.specs.Rows.{counter, Rows}
 use Rattle.list_pairs.specs.Ends.{Earlier}
-
--- the half-edge at the other end of half-edge h
-abbrev pub mate : ℕ → ℕ
-mate h = 2 * (h / 2) + (1 - h % 2)
 
 -- two appointments have the same ends, either way round
 abbrev pub Same : List ℕ → ℕ → ℕ → Type 0

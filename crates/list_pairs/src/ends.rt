@@ -29,10 +29,5 @@ pub(crate) fn earlier(list: &[u16], j: usize, i: usize, v: usize, w: usize) -> b
     requires { 2 * i + 1 < length list.now }
     ensures { IsTrue result ↔ Earlier list.now j i v w }
 {
-    if i < j {
-        return false;
-    }
-    let x = word_at(list, 2 * j);
-    let y = word_at(list, 2 * j + 1);
-    same_ends(v, w, x, y)
+    j <= i && same_ends(v, w, word_at(list, 2 * j), word_at(list, 2 * j + 1))
 }

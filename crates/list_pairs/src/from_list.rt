@@ -24,26 +24,17 @@ impl Bases {
         EdgeIndex::new(word_at(s, self.g + 1))
     }
 
-    // One copy for appointment `i`: its pair gets it, and the pair's number takes the place of the representative.
-    fn add_appointment(self, s: &mut [u32], list: &[u16], i: usize)
-        requires building { Building list.now self i s.old }
-        requires i_in_bounds { i < length list.now / 2 }
-        ensures { Built list.now self (i + 1) s.old s.new }
-    {
-        let e = self.pair_of(s, i);
-        let x = word_at(list, 2 * i);
-        let y = word_at(list, 2 * i + 1);
-        self.add_pair(s, e, NodeIndex::new(x), NodeIndex::new(y), 1);
-        set_word(s, self.apair + i, e.index());
-    }
-
-    // One copy for each appointment, in list order.
+    // One copy for each appointment, in list order: its pair gets it, and the pair's number takes the place of the representative.
     fn add_appointments(self, s: &mut [u32], list: &[u16])
         requires { Building list.now self 0 s.old }
         ensures { Built list.now self (length list.now / 2) s.old s.new }
     {
-        for i in 0..list.len() / 2 {
-            self.add_appointment(s, list, i);
+        for (i, &[first, second]) in list.as_chunks::<2>().0.iter().enumerate() {
+            let e = self.pair_of(s, i);
+            let l = NodeIndex::new(usize::from(first));
+            let r = NodeIndex::new(usize::from(second));
+            self.add_pair(s, e, l, r, 1);
+            set_word(s, self.apair + i, e.index());
         }
     }
 

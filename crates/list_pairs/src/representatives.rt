@@ -4,11 +4,11 @@
 // it is looked at. The representative of appointment i goes to `apair + i`, where later its pair's number will stand.
 ghost use Rattle.std.specs.Prelude.{◌≡◌, ◌<◌};
 ghost use Rattle.words.specs.Words.{word_limit};
-ghost use Rattle.list_pairs.specs.Representatives.{mate, Finds, RepFound, RepsFit, RowDone, RepsDone};
+ghost use Rattle.list_pairs.specs.Representatives.{Finds, RepFound, RepsFit, RowDone, RepsDone};
 
 use crate::ends::earlier;
 use crate::rows::RowBases;
-use words::{NodeIndex, set_word, word_at};
+use words::{NodeIndex, other_half, set_word, word_at};
 
 // Where the search for representatives works: the rows that are gone through, the map, and where the representatives go.
 #[derive(Clone, Copy)]
@@ -18,14 +18,6 @@ pub(crate) struct Reps {
     pub(crate) apair: usize,
     ghost map_small: { map < word_limit },
     ghost apair_small: { apair < word_limit },
-}
-
-// The half-edge at the other end of the same appointment.
-#[tactic(auto, using(crate::proofs::RepsLaws::flipped))]
-fn other_half(h: usize) -> usize
-    ensures { result ≡ mate h }
-{
-    h ^ 1
 }
 
 impl Reps {

@@ -6,9 +6,10 @@
 #![tactic(auto)]
 
 ghost use Rattle.std.specs.Prelude.{◌≡◌, ℕ, ◌+◌, ◌*◌, ◌-◌, ◌/◌, ◌^◌, ◌<◌, ◌≤◌, length};
-ghost use Rattle.words.specs.Words.{word, put_word, word_limit};
+ghost use Rattle.words.specs.Words.{word, word_limit};
 ghost use Rattle.multigraph.specs.Stored.{graph_at};
-ghost use Rattle.multigraph.specs.Places.{size, AddsEdge};
+ghost use Rattle.multigraph.specs.Places.{size, number, copies_of, AddsEdge};
+ghost use Rattle.euler.specs.Entries.{push_m};
 ghost use Rattle.perfect_matching.specs.Matching.{flagged_pairs};
 ghost use Rattle.words.specs.PowersOfTwo.{log_up};
 ghost use Rattle.matching.specs.Choosing.{flagged_by, flagged_entry, Whole, fewer, Chooses, Copies, Copying, CanCopy, InsideBoth, SideBySide, GoesOn};
@@ -17,7 +18,7 @@ ghost use Rattle.matching.specs.Searched.{AddsDiagonal, BuildsGraph, CanHalve, H
 use euler::RegularGraph;
 use mark::Mark;
 use multigraph::{MappedGraph, PairNumbers, head, pair_at};
-use words::{EdgeIndex, get, put, set_word, word_at};
+use words::{EdgeIndex, get, put, word_at};
 
 // Where the table of a regular graph lies: the ends, two words for each pair and then for left i with right i; the map of
 // places; the numbers of the diagonal; and how many pairs there are. A number is flagged if it is not below `pairs`.
@@ -105,12 +106,11 @@ impl GraphCopy {
     // Copies entry `i`.
     fn copy_entry(self, s: &mut [u32], i: usize)
         requires { InsideBoth self.from self.to (i + 1) s.old }
-        ensures { s.new ≡ put_word (put_word s.old (self.to + 2 + 2 * i) (word s.old (self.from + 2 + 2 * i))) (self.to + 3 + 2 * i) (self.alpha * word s.old (self.from + 3 + 2 * i)) }
+        ensures { s.new ≡ push_m self.to s.old i (number s.old self.from i) (self.alpha * copies_of s.old self.from i) }
     {
         let e = word_at(s, self.from + 2 + 2 * i);
         let c = word_at(s, self.from + 3 + 2 * i);
-        set_word(s, self.to + 2 + 2 * i, e);
-        set_word(s, self.to + 3 + 2 * i, self.alpha.wrapping_mul(c));
+        euler::push(s, self.to, i, e, self.alpha.wrapping_mul(c));
     }
 
     // Copies `m` entries.
@@ -313,14 +313,14 @@ fn searches(s: &mut [u32], m: &mut Mark, t: Table, graph: RegularGraph)
     search(s, m, t, graph, Count::FlaggedCopies);
 }
 
-// Writes the numbers of the `n` pairs of the graph at `h` to `out`.
-pub fn read_matching(s: &mut [u32], h: usize, n: usize, out: usize)
-    requires { (h < word_limit) × (n < word_limit) × (out < word_limit) }
-    ensures { ReadsMatching h n out s.old s.new }
+// Reads the matching that lies as a graph at `h`: its pairs' numbers go to `numbers`.
+pub fn read_matching(s: &mut [u32], h: usize, numbers: PairNumbers)
+    requires { h < word_limit }
+    ensures { ReadsMatching h numbers.n numbers.at s.old s.new }
 {
-    for i in 0..n {
+    for i in 0..numbers.n {
         let e = pair_at(s, h + 2 + 2 * i);
-        put(s, out + i, e.index());
+        put(s, numbers.at + i, e.index());
     }
 }
 
@@ -337,5 +337,9 @@ pub fn rbmg_find_perfect_matching(
 {
     let h = m.taken;
     searches(s, m, t, graph);
-    read_matching(s, h, graph.n, out);
+    let numbers = PairNumbers {
+        at: out,
+        n: graph.n,
+    };
+    read_matching(s, h, numbers);
 }

@@ -14,15 +14,6 @@ use Rattle.multigraph.specs.Places.{size, number, Alike, Mappable, PlacesMapped}
 use Rattle.multigraph.specs.Steps.{Written, Writable, Writes}
 use Rattle.multigraph.proofs.Kept.{EndsKept, ends_kept, alike_back}
 
-pub written_none : (key value : ℕ → ℕ) (rows places : ℕ) (s : List ℕ) → Written key value 0 rows places s s
-written_none key value rows places s =
-    record {
-      len = refl;
-      under = λ i h. refl;
-      over = λ i h. refl;
-      at = λ e h. inr (λ i k x. omega arith, refl);
-    }
-
 -- one more key
 pub written_more :
     (key value : ℕ → ℕ) (i rows places : ℕ) (s t : List ℕ) → Written key value i rows places s t → key i < rows →

@@ -41,6 +41,15 @@ pub fn head(s: &mut [u32], g: usize, n: usize)
     put(s, g + 1, n);
 }
 
+// Writes entry `i` of the graph at `g`.
+fn put_entry(s: &mut [u32], g: usize, i: usize, e: EdgeIndex, copies: usize)
+    requires { (g < word_limit) × (i < word_limit) }
+    ensures { s.new ≡ put_word (put_word s.old (g + 2 + 2 * i) e.0) (g + 3 + 2 * i) copies }
+{
+    put(s, g + 2 + 2 * i, e.index());
+    put(s, g + 3 + 2 * i, copies);
+}
+
 // Adds to the word at `at`; the sum is cut to 32 bits.
 fn add_to(s: &mut [u32], at: usize, copies: usize)
     ensures { s.new ≡ put_word s.old at (word s.old at + copies) }
@@ -116,8 +125,7 @@ impl MappedGraph {
         requires { m < word_limit }
         ensures { s.new ≡ put_word (put_word (put_word s.old (self.g + 2 + 2 * m) e.0) (self.g + 3 + 2 * m) copies) (self.g + 1) (m + 1) }
     {
-        put(s, self.g + 2 + 2 * m, e.index());
-        put(s, self.g + 3 + 2 * m, copies);
+        put_entry(s, self.g, m, e, copies);
         put(s, self.g + 1, m + 1);
     }
 
@@ -174,8 +182,7 @@ impl MappedGraph {
     {
         let e = pair_at(s, self.g + 2 + 2 * i);
         let left = self.left_over(s, i, e);
-        put(s, to + 2 + 2 * at, e.index());
-        put(s, to + 3 + 2 * at, left);
+        put_entry(s, to, at, e, left);
         if left > 0 {
             return at + 1;
         }

@@ -30,9 +30,7 @@ fn work_out(
     if p == 0 {
         return Ok(0);
     }
-    let Some(left) = two_color::two_sides(s, p, d, list) else {
-        return Err(Refusal::OddRound);
-    };
+    let left = two_color::two_sides(s, p, d, list).ok_or(Refusal::OddRound)?;
     given_partition::bipartite_edge_color_given_partition(s, slots, list, p, d, left);
     Ok(d)
 }

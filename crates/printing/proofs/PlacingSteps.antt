@@ -4,7 +4,7 @@ use mathlib.Core.Path.{◌≡◌, refl, sym, ◌∙◌, ap, subst}
 use mathlib.Core.Bool.{Bool, true, false}
 use mathlib.Core.List.{List, [], ◌∷◌, ◌++◌, append_assoc, append-nil}
 use native.Mathlib.Omega.{arith}
-use borrow.Author.Tests.{ne_eqb, lt-ltb, le-ltb, ltb-false, ltb-true}
+use borrow.Author.Tests.{ne_eqb, lt-ltb, ltb-false, ltb-true}
 use lib.Dec.{ltb}
 use lib.ListN.{length, drop, length-append}
 use lib.Seq.{append_snoc}
@@ -68,22 +68,6 @@ digits_more k n behind h =
     rw (ne_eqb (n / 10) 0 tenth, lt-ltb (n % 10) 10 digit)
 
 -- ── a number by its digits ──
-
--- fuel above the number is enough
-enough : (f g n : ℕ) → n < f → n < g → decimal_by f n ≡ decimal_by g n
-unfolding decimal_by
-enough zero g n h k = absurd (omega arith)
-enough (suc f) zero n h k = absurd (omega arith)
-enough (suc f) (suc g) n h k = go (ltb n 10) refl (λ l. enough f g (n / 10) (omega arith) (omega arith))
-  where
-    go : (t : Bool) → ltb n 10 ≡ t → (10 ≤ n → decimal_by f (n / 10) ≡ decimal_by g (n / 10))
-        → pick t ((48 + n) ∷ []) (decimal_by f (n / 10) ++ ((48 + n % 10) ∷ [])) ≡ pick t ((48 + n) ∷ []) (decimal_by g (n / 10) ++ ((48 + n % 10) ∷ []))
-    go true e front = refl
-    go false e front = rw (front (ltb-false n 10 e))
-
-pub decimal_large : (n : ℕ) → 10 ≤ n → decimal n ≡ decimal (n / 10) ++ ((48 + n % 10) ∷ [])
-unfolding decimal
-decimal_large n h = rw (le-ltb n 10 h, enough n (suc (n / 10)) (n / 10) (omega arith) (omega arith))
 
 -- the digits that std writes of a number, in front of others
 digits_by : (k f n : ℕ) (behind : List ℕ) → n < 10 ^ suc k → n < f → digits_onto (suc k) 10 false n behind ≡ decimal_by f n ++ behind

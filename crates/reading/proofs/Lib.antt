@@ -5,3 +5,4 @@ pub mod Digits
 pub mod ParsingSteps
 pub mod LinesSteps
 pub mod Pieces
+pub mod Coming

@@ -18,6 +18,7 @@ use Rattle.std.specs.List.{IsFirstMatchOrLen}
 use Rattle.std.specs.declared.slice.SplitInclusive.{SplitInclusive}
 use Rattle.std.specs.Slice.Iter.{split_inclusive_rest, split_inclusive_callee}
 use Rattle.std.proofs.lemmas.Iterator.{YieldsList}
+use Rattle.std.proofs.lemmas.Iterator.Consumers.{YieldsList-at}
 use Rattle.std.proofs.lemmas.Iterator.Splits.{YieldsList-from_shown_while}
 use Rattle.std.proofs.lemmas.Fn.{always_returns_same}
 use Rattle.std.proofs.lemmas.Bool.{cases_lt}
@@ -88,19 +89,21 @@ cuts g s r t =
     × ((p : ℕ → Bool) → ComputesKey g p (split_inclusive_callee s) → ComputesKey g p (split_inclusive_callee t) × IsFirstMatchOrLen p (split_inclusive_rest s) i))
     × (0 < length (split_inclusive_rest s)))
 
--- an iterator over bytes that are cut behind each line feed; the first two facts are the clauses `rest` and `closure`
+-- an iterator that begins over bytes that are cut behind each line feed; the first three facts are the clauses `into_iter_gives`,
+-- `rest` and `closure`
 pub yields_pieces :
-    {F : Type 0} {s : _} (g : Mut F (Bor ℕ × Unit {0}) Bool) {f : F} (bytes : List ℕ) → split_inclusive_rest s ≡ bytes → split_inclusive_callee s ≡ f →
+    {F : Type 0} {s z : _} (g : Mut F (Bor ℕ × Unit {0}) Bool) {f : F} (bytes : List ℕ) → s ≡ z → split_inclusive_rest z ≡ bytes → split_inclusive_callee z ≡ f →
     ((x : ℕ) (b : Bool) (q : F) → CalledAt g f x b q → (q ≡ f) × (b ≡ eqb x line_feed)) → YieldsList (cuts g) (λ x. x.now) s (pieces bytes)
 unfolding pieces parts
-yields_pieces {s = s} g {f} bytes rest closure tests =
-    subst (λ (b : List ℕ). YieldsList (cuts g) (λ x. x.now) s (pieces b)) rest
+yields_pieces {z = z} g {f} bytes start rest closure tests =
+    YieldsList-at start
+    (subst (λ (b : List ℕ). YieldsList (cuts g) (λ x. x.now) z (pieces b)) rest
     (YieldsList-from_shown_while (cuts g) (λ x. x.now) (λ t. pieces (split_inclusive_rest t)) (λ t. ComputesKey g (λ b. eqb b line_feed) (split_inclusive_callee t))
     (λ t u h k. ap (λ (b : List ℕ). length (pieces b)) (nil_from_length (split_inclusive_rest t) k.0))
     (λ t x u h k.
     let d = k.1.2 (λ b. eqb b line_feed) h in
     (d.0, first_piece _ x.now _ k.0 k.1.0 k.1.1 d.1 k.2))
-    s (subst (ComputesKey g (λ b. eqb b line_feed)) (sym closure) (always_returns_same g (λ a r. r ≡ eqb a.0.now line_feed) f (λ a r q k. let m = tests a.0.now r q (record { shown = a.0; shows = refl; called = k }) in (m.1, m.0)))))
+    z (subst (ComputesKey g (λ b. eqb b line_feed)) (sym closure) (always_returns_same g (λ a r. r ≡ eqb a.0.now line_feed) f (λ a r q k. let m = tests a.0.now r q (record { shown = a.0; shows = refl; called = k }) in (m.1, m.0))))))
 
 -- ── reading piece by piece ──
 

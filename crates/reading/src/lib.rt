@@ -1,7 +1,8 @@
-// What main reads: the line of P, then a line for each appointment.
+// What came of an input, and what main reads of it: the line of P, then a line for each appointment.
 #![tactic(auto)]
 
-ghost use Rattle.std.specs.Prelude.{◌≡◌, ◌≢◌, ◌+◌, ◌<◌, ◌≤◌, length, set, take, slice_index, option_map, EachIndex, MatchOption};
+ghost use Rattle.std.specs.Prelude.{◌≡◌, ◌≢◌, ◌+◌, ◌<◌, ◌≤◌, false, length, set, take, drop, slice_index, Some, IfSome, unwrap_or, option_map, EachIndex, MatchOption};
+ghost use Rattle.std.specs.Io.KnownBytes.{Consumes, IsAtEnd};
 ghost use Rattle.words.specs.Ascii.{line_feed};
 ghost use Rattle.reading.specs.Reading.{parts, digits_value, number, end_of, appointment_of, read_lines, read_text, read_input};
 ghost use Rattle.reading.specs.Told.{FirstAt, ends_of, ended_line, ReadAs};
@@ -23,25 +24,47 @@ pub struct ReadInput {
     pub count: usize,
 }
 
-// What came of an input: its bytes, and whether it is broken, that is, reading failed for good before the input ended.
+// What came of an input: its bytes, and whether it is broken, that is, reading was given up before the input's end was seen.
 #[derive(Clone, Copy)]
-pub struct Input<'a> {
+pub struct Came<'a> {
     pub bytes: &'a [u8],
     pub broken: bool,
 }
 
-// Reads until the buffer is full, the input ends or a read fails: how many bytes came, which stand at the start of the buffer.
-pub fn read_full<R: Read>(reader: &mut R, buffer: &mut [u8]) -> usize
-    ensures { (result ≤ length buffer.new) × (result ≡ length (take result buffer.new)) }
+// One read into the buffer from where the bytes end, which stay: how many bytes it gave, 0 at the end of the input; or nothing where
+// it failed, and then nothing of the input was taken.
+fn read_piece<R: Read>(reader: &mut R, buffer: &mut [u8], from: usize) -> Option<usize>
+    requires { from < length buffer.old }
+    ensures inside { IfSome result (λ n. from + n ≤ length buffer.old) }
+    ensures front { take from buffer.new ≡ take from buffer.old }
+    ensures bytes { Consumes (R.remaining reader.old) (R.remaining reader.new) (take (unwrap_or result 0) (drop from buffer.new)) }
+    ensures end { result ≡ Some 0 → IsAtEnd (R.remaining reader.new) }
+{
+    reader.read(&mut buffer[from..]).ok()
+}
+
+// Reads until the input ends or the buffer is full, however few bytes come at a time. A read may fail for a while, by a signal or
+// since the next bytes aren't there yet, so it is tried again; after as many failed reads in all as there are tries the input is
+// broken. What is given is all that was taken, none left out; and where the input isn't broken and the buffer isn't full, that is
+// all of the input. No clause says how often it tries: one that gave up at once, and said so, would meet them.
+pub fn read_full<'a, R: Read>(reader: &mut R, buffer: &'a mut [u8], tries: usize) -> Came<'a>
+    ensures inside { length result.bytes.now ≤ length buffer.old }
+    ensures bytes { Consumes (R.remaining reader.old) (R.remaining reader.new) result.bytes.now }
+    ensures all { result.broken ≡ false → length result.bytes.now < length buffer.old → IsAtEnd (R.remaining reader.new) }
 {
     let mut count = 0;
-    while count < buffer.len() {
-        match reader.read(&mut buffer[count..]) {
-            Ok(0) | Err(_) => break,
-            Ok(n) => count += n,
+    let mut tries_left = tries;
+    while count < buffer.len() && 0 < tries_left {
+        match read_piece(reader, buffer, count) {
+            Some(0) => break,
+            Some(n) => count += n,
+            None => tries_left -= 1,
         }
     }
-    count
+    Came {
+        bytes: &buffer[..count],
+        broken: tries_left == 0,
+    }
 }
 
 // The first place of a separator.
@@ -75,10 +98,7 @@ fn number_in(bytes: &[u8]) -> Option<u16>
         return None;
     }
     let v = digits_in(bytes)?;
-    if usize::from(BLANK) <= v {
-        return None;
-    }
-    Some(v as u16)
+    u16::try_from(v).ok().filter(|v| *v < BLANK)
 }
 
 // An end may be empty and is then blank.
@@ -151,12 +171,12 @@ fn read_text(input: &[u8], list: &mut [u16]) -> Result<ReadInput, Refusal>
 
 // The same of what came of an input that may be broken: no list is read of a broken one. Where its lines are all well formed, each
 // but the first gave two numbers of the list, and it broke off in the line behind them.
-pub fn read_input(input: Input<'_>, list: &mut [u16]) -> Result<ReadInput, Refusal>
-    requires { length input.bytes.now ≤ length list.old }
-    ensures { ReadAs (read_input input.entry.broken input.entry.bytes.now) result list.old list.new }
+pub fn read_input(came: Came<'_>, list: &mut [u16]) -> Result<ReadInput, Refusal>
+    requires { length came.bytes.now ≤ length list.old }
+    ensures { ReadAs (read_input came.entry.broken came.entry.bytes.now) result list.old list.new }
 {
-    let read = read_text(input.bytes, list)?;
-    if input.broken {
+    let read = read_text(came.bytes, list)?;
+    if came.broken {
         return Err(Refusal::MalformedLine(read.count / 2 + 2));
     }
     Ok(read)

@@ -7,12 +7,12 @@
 // Ported from rustworkx-core, the second half of `bipartite_edge_color_given_partition` in bipartite_coloring.rs (Apache License 2.0, see NOTICE).
 #![tactic(auto)]
 
-ghost use Rattle.std.specs.Prelude.{◌≡◌, ◌+◌, ◌*◌, ◌<◌, ◌≤◌, length};
-ghost use Rattle.words.specs.Words.{word, word_limit};
+ghost use Rattle.std.specs.Prelude.{◌≡◌, ◌+◌, ◌*◌, ◌≤◌, length};
+ghost use Rattle.words.specs.Words.{word};
 ghost use Rattle.slots.specs.Stored.{GivesSlots};
 ghost use Rattle.slot_chains.specs.Steps.{taken_words, taken_slots, given_words, given_slots};
 
-use multigraph::pair_at;
+use multigraph::{PairNumbers, pair_at};
 use slot_chains::{Chains, LINK};
 use words::{get, put};
 
@@ -28,23 +28,21 @@ fn take_slot(s: &mut [u32], slots: &mut [u16], chains: Chains, at: usize, i: usi
     chains.set_first_link(s, e, next);
 }
 
-// A slot for each of the `a` appointments, in list order.
-fn take_all(s: &mut [u32], slots: &mut [u16], chains: Chains, a: usize, pair_numbers: usize)
-    requires { pair_numbers + a < word_limit }
-    ensures { (s.new ≡ given_words chains.out pair_numbers chains.links 0 a s.old) × (slots.new ≡ given_slots chains.out pair_numbers chains.links 0 a s.old slots.old) }
+// A slot for each appointment, in list order.
+fn take_all(s: &mut [u32], slots: &mut [u16], chains: Chains, numbers: PairNumbers)
+    ensures { (s.new ≡ given_words chains.out numbers.at chains.links 0 numbers.n s.old) × (slots.new ≡ given_slots chains.out numbers.at chains.links 0 numbers.n s.old slots.old) }
 {
-    for i in 0..a {
-        take_slot(s, slots, chains, pair_numbers + i, i);
+    for i in 0..numbers.n {
+        take_slot(s, slots, chains, numbers.at + i, i);
     }
 }
 
-// Each of the `a` appointments, in list order, takes the highest slot its pair has left. The number of appointment i's pair
-// stands at `pair_numbers + i`; the matchings are used up.
-pub fn give_slots(s: &mut [u32], slots: &mut [u16], chains: Chains, a: usize, pair_numbers: usize)
-    requires d_in_bounds { chains.out + chains.n * chains.d ≤ length s.old }
-    requires a_bound { pair_numbers + a < word_limit }
-    ensures { GivesSlots a chains.n chains.d chains.out pair_numbers chains.links s.old slots.old s.new slots.new }
+// Each appointment, in list order, takes the highest slot its pair has left. Number i is that of appointment i's pair; the matchings
+// are used up.
+pub fn give_slots(s: &mut [u32], slots: &mut [u16], chains: Chains, numbers: PairNumbers)
+    requires { chains.out + chains.n * chains.d ≤ length s.old }
+    ensures { GivesSlots numbers.n chains.n chains.d chains.out numbers.at chains.links s.old slots.old s.new slots.new }
 {
     chains.push_all(s);
-    take_all(s, slots, chains, a, pair_numbers);
+    take_all(s, slots, chains, numbers);
 }

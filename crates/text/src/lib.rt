@@ -9,17 +9,17 @@ ghost use Rattle.text.specs.Text.{report, text_output};
 
 use appointments::Refusal;
 use arrayvec::ArrayString;
-use reading::Input;
+use reading::Came;
 
 // The plan's lines, or why there are none. Here are the 4,096 slot entries and 16,384 scratch words that main lends.
-fn plan_output(input: Input<'_>) -> Result<ArrayString<1801>, Refusal>
-    ensures { MatchResult result (λ lines. lines.bytes ≡ text_output input.entry.broken input.entry.bytes.now) (λ r. report input.entry.broken input.entry.bytes.now ≡ refused (refusal_number r) (refusal_place r)) }
+fn plan_output(came: Came<'_>) -> Result<ArrayString<1801>, Refusal>
+    ensures { MatchResult result (λ lines. lines.bytes ≡ text_output came.entry.broken came.entry.bytes.now) (λ r. report came.entry.broken came.entry.bytes.now ≡ refused (refusal_number r) (refusal_place r)) }
 {
-    if 4096 < input.bytes.len() {
+    if 4096 < came.bytes.len() {
         return Err(Refusal::LongInput);
     }
     let mut list = [0u16; 4096];
-    let read = reading::read_input(input, &mut list)?;
+    let read = reading::read_input(came, &mut list)?;
     let list = &list[..read.count];
     let mut slots = [0u16; 4096];
     let mut scratch = [0u32; 16384];
@@ -31,10 +31,10 @@ fn plan_output(input: Input<'_>) -> Result<ArrayString<1801>, Refusal>
 
 // Main on what came of any input. This asks nothing of its caller: an input of more than 4,096 bytes is refused, a list that is
 // read from no more has at most 4,096 numbers, and main never prints more than 1,801 bytes.
-pub fn text_output(input: Input<'_>) -> ArrayString<1801>
-    ensures { result.bytes ≡ text_output input.entry.broken input.entry.bytes.now }
+pub fn text_output(came: Came<'_>) -> ArrayString<1801>
+    ensures { result.bytes ≡ text_output came.entry.broken came.entry.bytes.now }
 {
-    match plan_output(input) {
+    match plan_output(came) {
         Ok(lines) => lines,
         Err(refusal) => {
             let mut line = ArrayString::new();

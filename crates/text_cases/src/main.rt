@@ -7,28 +7,28 @@
 ghost use Rattle.std.specs.Prelude.{◌≡◌, ◌↔◌, ◌<◌, ◌≤◌, IsTrue, IfSome, length};
 ghost use Rattle.text.specs.Text.{text_output};
 
-use reading::Input;
+use reading::Came;
 use std::io::Write;
 
-// An input, and what main prints of it.
+// What came of an input, and what main prints of it.
 #[derive(Clone, Copy)]
 struct Case<'a> {
     name: &'a [u8],
-    input: Input<'a>,
+    came: Came<'a>,
     expected: &'a [u8],
 }
 
 impl Case<'_> {
     // Whether main prints the bytes expected.
     fn is_right(&self) -> bool
-        ensures { IsTrue result ↔ (text_output self.now.input.broken self.now.input.bytes.now ≡ self.now.expected.now) }
+        ensures { IsTrue result ↔ (text_output self.now.came.broken self.now.came.bytes.now ≡ self.now.expected.now) }
     {
-        text::text_output(self.input).as_bytes() == self.expected
+        text::text_output(self.came).as_bytes() == self.expected
     }
 }
 
 // How many cases there were, and how many were right.
-#[derive(Clone, Copy)]
+#[derive(Clone, Copy, Default)]
 struct Tally {
     cases: usize,
     right: usize,
@@ -46,7 +46,7 @@ fn tell<W: Write>(out: &mut W, case: Case) -> bool {
 fn next_field(table: &[u8]) -> Option<(&[u8], &[u8])>
     ensures { IfSome result (λ r. length r.1.now < length table.now) }
 {
-    let bar = table.iter().position(|byte| *byte == b'|')?;
+    let bar = reading::find(table, b'|')?;
     Some((&table[..bar], &table[bar + 1..]))
 }
 
@@ -59,7 +59,7 @@ fn next_case(table: &[u8]) -> Option<(Case<'_>, &[u8])>
     let (expected, behind) = next_field(behind)?;
     let case = Case {
         name,
-        input: Input {
+        came: Came {
             bytes,
             broken: false,
         },
@@ -72,7 +72,7 @@ fn next_case(table: &[u8]) -> Option<(Case<'_>, &[u8])>
 fn listed_cases<W: Write>(out: &mut W, table: &[u8]) -> Tally
     ensures { (result.right ≤ result.cases) × (result.cases ≤ length table.now) }
 {
-    let mut tally = Tally { cases: 0, right: 0 };
+    let mut tally = Tally::default();
     let mut rest = table;
     while let Some((case, behind)) = next_case(rest) {
         if tell(out, case) {
@@ -95,9 +95,9 @@ fn filled<const N: usize>(first: &[u8]) -> [u8; N] {
 }
 
 // The cases made here: 4,097 bytes give 11, whatever they are, and 4,096 don't; a broken input gives the first malformed line among
-// those that ended, or else 1 plus the number of line feeds. Gives how many are right.
-fn made_cases<W: Write>(out: &mut W) -> usize
-    ensures { result ≤ 12 }
+// those that ended, or else 1 plus the number of line feeds.
+fn made_cases<W: Write>(out: &mut W) -> Tally
+    ensures { (result.right ≤ result.cases) × (result.cases ≡ 12) }
 {
     let most_x = [b'x'; 4096];
     let long_x = [b'x'; 4097];
@@ -134,25 +134,31 @@ fn made_cases<W: Write>(out: &mut W) -> usize
         ),
         (b"broken, 4097 bytes", &long_x, true, b"refused 11 0\n"),
     ];
-    let mut right = 0;
+    let mut tally = Tally::default();
     for (name, bytes, broken, expected) in made {
         let case = Case {
             name,
-            input: Input { bytes, broken },
+            came: Came { bytes, broken },
             expected,
         };
         if tell(out, case) {
-            right += 1;
+            tally.right += 1;
         }
+        tally.cases += 1;
     }
-    right
+    tally
 }
 
+// The stored table is shorter than 65,536 bytes; of a longer one no more are read, and none behind a failed read.
 fn main(rt: HostRuntime) {
     let mut table = [0u8; 65_536];
-    let length = reading::read_full(&mut rt.stdin(), &mut table);
+    let came = reading::read_full(&mut rt.stdin(), &mut table, 1);
     let out = &mut rt.stdout();
-    let listed = listed_cases(out, &table[..length]);
+    let listed = listed_cases(out, came.bytes);
     let made = made_cases(out);
-    let _ = println!(rt; "{} of {} ok", listed.right + made, listed.cases + 12);
+    let _ = println!(rt;
+        "{} of {} ok",
+        listed.right + made.right,
+        listed.cases + made.cases
+    );
 }

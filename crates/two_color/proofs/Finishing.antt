@@ -1,6 +1,6 @@
 -- The words after the last step, and the answer that is read off them: that of the definition. Assumes nothing.
 use Prim.Native.Nat.{ℕ, ◌+◌, ◌*◌, ◌-◌, ◌≤◌, ◌<◌}
-use mathlib.Core.Path.{◌≡◌, refl, ◌∙◌, ap}
+use mathlib.Core.Path.{◌≡◌, refl, sym, ◌∙◌, ap}
 use mathlib.Core.List.{List, [], ◌∷◌}
 use native.Mathlib.Omega.{arith}
 use native.Mathlib.Nat.{le_refl}
@@ -29,18 +29,15 @@ nobody : (u : ℕ) (list s : List ℕ) → two_color 0 (appts list) ≡ sides (r
 unfolding two_color search_below region side
 nobody u list s = refl
 
-pub none_colored : (u : ℕ) (list s : List ℕ) (p m : ℕ) → p ≡ 0 → m ≡ u + 2 * p → Colored p list u s m s (Some 0)
-none_colored u list s p m e h = record { answers = (omega arith, rw e (nobody u list s)); mark = h; keeps = keeps_refl u s }
+pub none_colored : (u : ℕ) (list s : List ℕ) (p : ℕ) → p ≡ 0 → Colored p list u s (u + 2 * p) s (Some 0)
+none_colored u list s p e = record { answers = (omega arith, rw e (nobody u list s)); mark = refl; keeps = keeps_refl u s }
 
 -- the words before the first step, and after the last
 abbrev pub first_words : ℕ → ℕ → ℕ → List ℕ → List ℕ → List ℕ
 first_words u p d list s = prepare_m u p d list s
 
-abbrev pub last_words : ℕ → ℕ → ℕ → List ℕ → List ℕ → List ℕ
+abbrev last_words : ℕ → ℕ → ℕ → List ℕ → List ℕ → List ℕ
 last_words u p d list s = steps_m u p (2 * p) (first_words u p d list s)
-
-pub last_is : (u p d : ℕ) (list s t z : List ℕ) → t ≡ first_words u p d list s → z ≡ steps_m u p (2 * p) t → z ≡ last_words u p d list s
-last_is u p d list s t z e h = rw e at h
 
 module _ (u p d : ℕ) (list s : List ℕ) (can : CanColor p d u list s) (some : 0 < p) where
   xs : List Appt
@@ -97,18 +94,23 @@ module _ (u p d : ℕ) (list s : List ℕ) (can : CanColor p d u list s) (some :
       let own : l ≡ length (side 0 so_far) = q ∙ x.lefts.count in
       (so_far, refl, own, omega arith, omega arith)
 
-  -- It refused.
-  pub refused_colored : (m : ℕ) → m ≡ u + 2 * p → (word (last_words u p d list s) (refused_place u p) ≡ 0 → ⊥) → Colored p list u s m (last_words u p d list s) None
-  unfolding two_color xs
-  refused_colored m h n = record { answers = rw (refuses (search_below p xs p) ended whole n); mark = h; keeps = keeps }
+  module _ (t z : List ℕ) (begins : t ≡ first_words u p d list s) (steps : z ≡ steps_m u p (2 * p) t) (r : ℕ) (told : r ≡ word z (refused_place u p)) where
+    last_is : z ≡ last_words u p d list s
+    last_is = rw begins at steps
 
-  -- It found sides.
-  pub found_colored : (m l : ℕ) → m ≡ u + 2 * p → word (last_words u p d list s) (refused_place u p) ≡ 0 → l ≡ word (last_words u p d list s) (left_count u p) → Colored p list u s m (last_words u p d list s) (Some l)
-  unfolding two_color xs
-  found_colored m l h z q =
-      let f = finds (search_below p xs p) ended whole z l q in
-      let so_far : Colouring = f.0 in
-      let x : Shows u p (first_words u p d list s) (last_words u p d list s) so_far [] last.next = rw f.1 at whole in
-      let left : region (last_words u p d list s) u l ≡ side 0 so_far = ap (region (last_words u p d list s) u) f.2 ∙ x.lefts.words in
-      let right : region (last_words u p d list s) (right_place u p) (p - l) ≡ side 1 so_far = ap (region (last_words u p d list s) (right_place u p)) f.3 ∙ x.rights.words in
-      record { answers = (f.4, rw (f.1, left, right)); mark = h; keeps = keeps }
+    -- It refused.
+    pub refused_colored : (r ≡ 0 → ⊥) → Colored p list u s (u + 2 * p) z None
+    unfolding two_color xs
+    refused_colored n =
+        rw last_is (record { answers = rw (refuses (search_below p xs p) ended whole (λ o. n (rw last_is at told ∙ o))); mark = refl; keeps = keeps })
+
+    -- It found sides.
+    pub found_colored : (l : ℕ) → r ≡ 0 → l ≡ word z (left_count u p) → Colored p list u s (u + 2 * p) z (Some l)
+    unfolding two_color xs
+    found_colored l none count =
+        let f = finds (search_below p xs p) ended whole (sym (rw last_is at told) ∙ none) l (rw last_is at count) in
+        let so_far : Colouring = f.0 in
+        let x : Shows u p (first_words u p d list s) (last_words u p d list s) so_far [] last.next = rw f.1 at whole in
+        let left : region (last_words u p d list s) u l ≡ side 0 so_far = ap (region (last_words u p d list s) u) f.2 ∙ x.lefts.words in
+        let right : region (last_words u p d list s) (right_place u p) (p - l) ≡ side 1 so_far = ap (region (last_words u p d list s) (right_place u p)) f.3 ∙ x.rights.words in
+        rw last_is (record { answers = (f.4, rw (f.1, left, right)); mark = refl; keeps = keeps })

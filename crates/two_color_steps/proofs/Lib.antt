@@ -1,1 +1,2 @@
 pub mod ModelLaws
+pub mod Backwards

@@ -13,7 +13,8 @@ pub record CanPush (u p v : ℕ) (s : List ℕ) : Type 0 where
 abbrev pub CanFill : ℕ → ℕ → List ℕ → ℕ → ℕ → ℕ → List ℕ → Type 0
 CanFill u p list near far zero s = Unit {0}
 CanFill u p list near far (suc i) s =
-    CanPush u p (word list (2 * i + near)) s × CanFill u p list near far i (push_end_m u p list (2 * i + near) (2 * i + far) s)
+    CanPush u p (word list (2 * i + near)) s
+    × CanFill u p list near far i (push_end_m u p (word list (2 * i + near)) (word list (2 * i + far)) s)
 
 -- both passes over the list can be made, once the parties are started
 pub record CanPrepare (u p d : ℕ) (list s : List ℕ) : Type 0 where

@@ -70,13 +70,14 @@ unfoldable pub start_parties_m : ℕ → ℕ → ℕ → ℕ → List ℕ → Li
 start_parties_m u p d zero s = s
 start_parties_m u p d (suc v) s = start_party_m u p d v (start_parties_m u p d v s)
 
-unfoldable pub push_end_m : ℕ → ℕ → List ℕ → ℕ → ℕ → List ℕ → List ℕ
-push_end_m u p list i j s = append_m (row_count u p (word list i)) (word s (row_start u p (word list i))) (word list j) s
+unfoldable pub push_end_m : ℕ → ℕ → ℕ → ℕ → List ℕ → List ℕ
+push_end_m u p v w s = append_m (row_count u p v) (word s (row_start u p v)) w s
 
 -- the appointments below n, from the newest down
 unfoldable pub fill_rows_m : ℕ → ℕ → List ℕ → ℕ → ℕ → ℕ → List ℕ → List ℕ
 fill_rows_m u p list near far zero s = s
-fill_rows_m u p list near far (suc i) s = fill_rows_m u p list near far i (push_end_m u p list (2 * i + near) (2 * i + far) s)
+fill_rows_m u p list near far (suc i) s =
+    fill_rows_m u p list near far i (push_end_m u p (word list (2 * i + near)) (word list (2 * i + far)) s)
 
 unfoldable pub prepare_m : ℕ → ℕ → ℕ → List ℕ → List ℕ → List ℕ
 prepare_m u p d list s =

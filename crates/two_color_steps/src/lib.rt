@@ -147,29 +147,26 @@ impl Layout {
         }
     }
 
-    // The number at `j` goes into the row of the party at `i`.
+    // The number `w` goes into the row of the party `v`.
     #[tactic(auto, unfolding(crate::specs::Model::push_end_m))]
-    fn push_end(self, s: &mut [u32], list: &[u16], i: usize, j: usize)
-        requires i_in_bounds { (i < length list.now) × (j < length list.now) }
-        requires can_push { CanPush self.u self.p (word list.now i) s.old }
-        ensures { s.new ≡ push_end_m self.u self.p list.now i j s.old }
+    fn push_end(self, s: &mut [u32], v: NodeIndex, w: usize)
+        requires { CanPush self.u self.p v.0 s.old }
+        ensures { s.new ≡ push_end_m self.u self.p v.0 w s.old }
     {
-        let v = NodeIndex::new(word_at(list, i));
-        let w = word_at(list, j);
         let row = word_at(s, self.row_start(v));
         append(s, self.row_count(v), row, w);
     }
 
     // Each appointment, from the newest down: its other end goes into the row of its end on the side `near`.
-    #[tactic(auto, unfolding(crate::specs::Model::fill_rows_m))]
     fn fill_rows(self, s: &mut [u32], list: &[u16], near: Side)
         requires { CanFill self.u self.p list.now (offset_of near) (1 - offset_of near) (length list.now / 2) s.old }
         ensures { s.new ≡ fill_rows_m self.u self.p list.now (offset_of near) (1 - offset_of near) (length list.now / 2) s.old }
     {
         let own = near.offset();
         let other = 1 - own;
-        for i in (0..list.len() / 2).rev() {
-            self.push_end(s, list, 2 * i + own, 2 * i + other);
+        for ends in list.as_chunks::<2>().0.iter().rev() {
+            let v = NodeIndex::new(usize::from(ends[own]));
+            self.push_end(s, v, usize::from(ends[other]));
         }
     }
 

@@ -10,3 +10,4 @@ pub mod Regions
 pub mod Puts
 pub mod Filling
 pub mod Extremes
+pub mod Sides

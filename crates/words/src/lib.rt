@@ -10,7 +10,7 @@ ghost use Rattle.words.specs.Clearing.{Cleared};
 
 mod side; // side.rt: the two ends of an appointment or a pair
 
-pub use side::Side;
+pub use side::{Side, other_half};
 
 // A party's number.
 #[derive(Clone, Copy)]

@@ -1,6 +1,6 @@
 // The two sides of an appointment or a pair: its two ends stand next to each other, the first before the second.
 ghost use Rattle.std.specs.Prelude.{◌≡◌, ◌%◌};
-ghost use Rattle.words.specs.Sides.{offset_of};
+ghost use Rattle.words.specs.Sides.{offset_of, mate};
 
 // The side on which an end stands.
 #[derive(Clone, Copy, Debug, PartialEq, Eq)]
@@ -30,4 +30,12 @@ impl Side {
             Side::Second
         }
     }
+}
+
+// The half-edge at the other end of the same appointment or pair.
+#[tactic(auto, using(crate::proofs::Sides::flipped))]
+pub fn other_half(h: usize) -> usize
+    ensures { result ≡ mate h }
+{
+    h ^ 1
 }

@@ -4,7 +4,7 @@ use native.Mathlib.Omega.{arith}
 use Rattle.appointments.specs.Appointments.{appts}
 use Rattle.appointments.specs.Checks.{unlisted, has_blank, has_unlisted}
 use Rattle.appointments.proofs.BadEnds.{remembered}
-use Rattle.appointments.proofs.Chunks.{chunk_ends}
+use Rattle.appointments.proofs.Chunks.{chunk_seen}
 use Rattle.bad_ends.proofs.Noting.{is_blank, kept_more, kept_all}
 use Rattle.bad_ends.proofs.first_bad_ends.Goals as goal
 
@@ -12,12 +12,12 @@ pub loop-i-preserved : goal.loop-i-preserved
 loop-i-preserved c =
     let args = c.args in
     let in-loop = c.loop-i in
-    let between = c.note_end-between in
-    let after = c.note_end-after in
-    let ends = chunk_ends _ args.list.now in-loop.i c.as_chunks.ensures.front (omega (arith, c.as_chunks.ensures.front_len)) in
+    let first = c.note.new.self in
+    let second = c.note-in-loop-i.new.self in
+    let chunk = chunk_seen _ args.list.now in-loop.i c.as_chunks.ensures.front (omega arith) in
     record {
-      for_4 = kept_more is_blank args.list.now in-loop.i in-loop.seen.blank between.result.blank after.result.blank (omega arith) (rw ends at between.ensures.blank) (rw ends at after.ensures.blank) in-loop.invariant.for_4;
-      for_5 = kept_more (unlisted args.p) args.list.now in-loop.i in-loop.seen.unlisted between.result.unlisted after.result.unlisted (omega arith) (rw ends at between.ensures.unlisted) (rw ends at after.ensures.unlisted) in-loop.invariant.for_5;
+      for_4 = kept_more is_blank args.list.now in-loop.i in-loop.seen.blank first.blank second.blank chunk.inside (rw chunk.ends at c.note.ensures.blank) (rw chunk.ends at c.note-in-loop-i.ensures.blank) in-loop.invariant.for_4;
+      for_5 = kept_more (unlisted args.p) args.list.now in-loop.i in-loop.seen.unlisted first.unlisted second.unlisted chunk.inside (rw chunk.ends at c.note.ensures.unlisted) (rw chunk.ends at c.note-in-loop-i.ensures.unlisted) in-loop.invariant.for_5;
     }
 
 pub returns : goal.returns

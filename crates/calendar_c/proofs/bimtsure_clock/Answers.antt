@@ -3,7 +3,7 @@ use Prim.Native.Nat.{ℕ, ◌<◌}
 use mathlib.Core.Path.{◌≡◌}
 use native.Mathlib.Omega.{arith}
 use Rattle.appointments.specs.Answers.{refused}
-use Rattle.appointments.proofs.AnswerLaws.{place_below}
+use Rattle.appointments.proofs.AnswerLaws.{place_fits}
 use Rattle.calendar.specs.Calendar.{clock_answer}
 use Rattle.calendar.proofs.Telling.{clock_refusal}
 use Rattle.calendar_c.proofs.bimtsure_clock.Goals as goal
@@ -12,7 +12,4 @@ refusal_fits : (s n i : ℕ) → clock_answer s ≡ refused n i → i < 42949672
 refusal_fits s n i e = omega (arith, clock_refusal s n i e)
 
 pub overflow_cast-result : goal.overflow_cast-result
-overflow_cast-result c =
-    let small : c.of-clock.result.place < 4294967296 =
-    rw (c.of-clock.ensures.place, c.clock.ensures) (place_below _ 4294967296 (omega arith) (refusal_fits _)) in
-    omega arith
+overflow_cast-result c = omega (arith, place_fits c.of-clock.ensures.place c.clock.ensures (refusal_fits _))

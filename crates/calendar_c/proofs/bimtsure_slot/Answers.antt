@@ -3,7 +3,7 @@ use Prim.Native.Nat.{ℕ, ◌<◌}
 use mathlib.Core.Path.{◌≡◌, refl}
 use native.Mathlib.Omega.{arith}
 use Rattle.appointments.specs.Answers.{accepted, refused}
-use Rattle.appointments.proofs.AnswerLaws.{place_below, figure_below, figures_say}
+use Rattle.appointments.proofs.AnswerLaws.{place_fits, figure_fits}
 use Rattle.calendar.specs.Calendar.{slot_answer}
 use Rattle.calendar.proofs.Telling.{slot_small, slot_refusal}
 use Rattle.calendar_c.proofs.bimtsure_slot.Goals as goal
@@ -15,13 +15,8 @@ refusal_fits : (day hours minutes n i : ℕ) → slot_answer day hours minutes �
 refusal_fits day hours minutes n i e = omega (arith, slot_refusal day hours minutes n i e)
 
 pub overflow_cast-result : goal.overflow_cast-result
-overflow_cast-result c =
-    let small : c.of-slot.result.place < 4294967296 =
-    rw (c.of-slot.ensures.place, c.slot.ensures) (place_below _ 4294967296 (omega arith) (refusal_fits _ _ _)) in
-    omega arith
+overflow_cast-result c = omega (arith, place_fits c.of-slot.ensures.place c.slot.ensures (refusal_fits _ _ _))
 
 pub overflow_cast-result-2 : goal.overflow_cast-result-2
 overflow_cast-result-2 c =
-    let small : c.of-slot.result.figures < 4294967296 =
-    rw (c.of-slot.ensures.figures, c.slot.ensures, figures_say (λ (n : ℕ). n) _ _ refl) (figure_below (λ (n : ℕ). n) _ 4294967296 (omega arith) (slot_fits _ _ _)) in
-    omega arith
+    omega (arith, figure_fits (λ (n : ℕ). n) c.of-slot.ensures.figures c.slot.ensures refl (slot_fits _ _ _))

@@ -2,7 +2,6 @@
 -- led to it. Assumes nothing.
 use mathlib.Core.Path.{ap}
 use native.Mathlib.Omega.{arith}
-use Rattle.appointments.specs.Checks.{passed, checks_1_to_5}
 use Rattle.appointments.specs.Answers.{accepted}
 use Rattle.appointments.proofs.AnswerLaws.{handed_on}
 use Rattle.checking.proofs.Answering.{checked_passed, checked_number, still_refused, refuses_6, passes_6, countable, product_fits}
@@ -12,7 +11,7 @@ pub returns-in_err-check_list : goal.returns-in_err-check_list
 returns-in_err-check_list c =
     let a = c.args in
     handed_on c.from_residual.result _ _ c.from_residual.ensures.1
-    (rw (still_refused a.p a.list.now _ _ (checked_number (checks_1_to_5 a.p a.list.now passed) _ _ c.in_err-check_list.ensures)))
+    (rw (still_refused a.p a.list.now _ _ (checked_number _ _ _ c.in_err-check_list.ensures)))
 
 pub largest_load-d-requires : goal.largest_load-d-requires
 largest_load-d-requires c =

@@ -1,5 +1,4 @@
 -- `checking::needs` meets its contract: a refusal is that of checks 1 to 6, and W is computed from D. Assumes nothing.
-use Rattle.appointments.specs.Checks.{passed, checks_1_to_6}
 use Rattle.appointments.proofs.AnswerLaws.{handed_on}
 use Rattle.checking.proofs.Answering.{answered_number, needs_refused, needs_words, sized}
 use Rattle.checking.proofs.needs.Goals as goal
@@ -8,7 +7,7 @@ pub returns-in_err-d : goal.returns-in_err-d
 returns-in_err-d c =
     let a = c.args in
     handed_on c.from_residual.result _ _ c.from_residual.ensures.1
-    (needs_refused a.p a.list.now _ _ (answered_number (checks_1_to_6 a.p a.list.now passed) _ _ _ c.in_err-d.ensures))
+    (needs_refused a.p a.list.now _ _ (answered_number _ _ _ _ c.in_err-d.ensures))
 
 pub scratch_words-requires : goal.scratch_words-requires
 scratch_words-requires c =

@@ -5,4 +5,4 @@ use Rattle.matching.proofs.Reading.{Reading}
 use Rattle.matching.proofs.read_matching.Given as goal
 
 abbrev pub invariant-loop-i : goal.invariant-loop-i
-invariant-loop-i l = (ends rows : ℕ) → CanRead ends rows l.h l.n l.out l.fn.s → Reading l.h l.out l.i l.fn.s l.s
+invariant-loop-i l = (ends rows : ℕ) → CanRead ends rows l.h l.numbers.n l.numbers.at l.fn.s → Reading l.h l.numbers.at l.i l.fn.s l.s

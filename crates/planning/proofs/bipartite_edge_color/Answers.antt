@@ -1,7 +1,7 @@
 -- `planning::bipartite_edge_color` meets its contract: by the checks, and past them by what is worked out on the first W
 -- words; demand 3 is the definitions' law. Assumes nothing.
 use native.Mathlib.Omega.{arith}
-use Rattle.std.proofs.lemmas.Result.{err_from_is_err_and}
+use Rattle.appointments.proofs.AnswerLaws.{err_is}
 use Rattle.appointments.specs.Lent.{lent}
 use Rattle.planning.proofs.WorkingOut.{refused_stated, words_there, taken_length, words_fit, units_are, ready, slot_room, planned_stated}
 use Rattle.planning.proofs.bipartite_edge_color.Goals as goal
@@ -11,8 +11,7 @@ returns-in_err-d c =
     let a = c.args in
     let l = lent a.p a.list.now a.slots.now a.scratch.now in
     let stated = refused_stated l (rw c.from-parties.ensures at c.in_err-d.ensures) in
-    let handed = err_from_is_err_and c.from_residual.result c.from_residual.ensures.1 in
-    rw (handed.1, handed.2) (record { answer = stated.0; slots = stated.1.0; scratch = stated.1.1.0; demand_3 = stated.1.1.1 })
+    rw (err_is _ _ c.from_residual.ensures.1) (record { answer = stated.0; slots = stated.1.0; scratch = stated.1.1.0; demand_3 = stated.1.1.1 })
 
 pub scratch_words-w-requires : goal.scratch_words-w-requires
 scratch_words-w-requires c =

@@ -1,9 +1,7 @@
 -- `put_appointments` meets its contract: a line more with each turn. Assumes nothing.
-use Prim.Native.Nat.{◌<◌, ◌/◌}
 use native.Mathlib.Omega.{arith}
 use borrow.Author.Rules.{rules}
-use lib.ListN.{length}
-use Rattle.appointments.proofs.Chunks.{chunk_ends}
+use Rattle.appointments.proofs.Chunks.{chunk_seen}
 use Rattle.printing.proofs.PlacingSteps.{underway_room, underway_more, underway_all, appointment_next, appointment_last}
 use Rattle.printing.proofs.put_appointments.Goals as goal
 
@@ -11,19 +9,17 @@ pub put_appointment-requires : goal.put_appointment-requires
 put_appointment-requires g c =
     let a = c.args in
     let i = c.loop-i.i in
-    let inside : i < length a.list.now / 2 = omega (arith, c.as_chunks.ensures.front_len) in
-    let ends = chunk_ends _ a.list.now i c.as_chunks.ensures.front inside in
-    let next = appointment_next a.list.now a.slots.now i inside in
-    rw (ends, c.get.ensures.0) (search rules, underway_room c.loop-i.invariant _ _ next c.requires)
+    let chunk = chunk_seen _ a.list.now i c.as_chunks.ensures.front (omega arith) in
+    let next = appointment_next a.list.now a.slots.now i chunk.inside in
+    rw (chunk.ends, c.get.ensures.0) (search rules, underway_room c.loop-i.invariant _ _ next c.requires)
 
 pub loop-i-preserved : goal.loop-i-preserved
 loop-i-preserved g c =
     let a = c.args in
     let i = c.loop-i.i in
-    let inside : i < length a.list.now / 2 = omega (arith, c.as_chunks.ensures.front_len) in
-    let ends = chunk_ends _ a.list.now i c.as_chunks.ensures.front inside in
-    let next = appointment_next a.list.now a.slots.now i inside in
-    underway_more c.loop-i.invariant _ _ next (rw (ends, c.get.ensures.0) at c.put_appointment.ensures)
+    let chunk = chunk_seen _ a.list.now i c.as_chunks.ensures.front (omega arith) in
+    let next = appointment_next a.list.now a.slots.now i chunk.inside in
+    underway_more c.loop-i.invariant _ _ next (rw (chunk.ends, c.get.ensures.0) at c.put_appointment.ensures)
 
 pub returns : goal.returns
 returns g c =

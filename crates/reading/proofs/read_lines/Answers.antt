@@ -5,9 +5,9 @@ use native.Mathlib.Omega.{arith}
 use borrow.Author.Rules.{rules}
 use Rattle.std.proofs.Common.{tests}
 use Rattle.std.specs.Prelude.{Some, None}
-use Rattle.std.proofs.lemmas.Iterator.Consumers.{YieldsList-at, YieldsList-turn, YieldsList-end}
+use Rattle.std.proofs.lemmas.Iterator.Consumers.{YieldsList-turn, YieldsList-end}
 use Rattle.std.proofs.lemmas.List.{length_push}
-use Rattle.std.proofs.lemmas.Result.{err_from_is_err_and}
+use Rattle.appointments.proofs.AnswerLaws.{err_is}
 use Rattle.reading.proofs.LinesSteps.{told_some, told_none}
 use Rattle.reading.proofs.Pieces.{yields_pieces, stored_start, stored_malformed, stored_room, stored_more, stored_all}
 use Rattle.appointments.specs.declared.Refusal.TheVariants.{MalformedLine}
@@ -18,10 +18,9 @@ loop-line-init c = stored_start c.args.parties c.args.bytes.now c.args.list.now
 
 pub put_ends-requires : goal.put_ends-requires
 put_ends-requires c =
+    let items = c.split_inclusive-line-items.ensures in
     let turn =
-    YieldsList-turn
-    (YieldsList-at c.into_iter-line-iterator.ensures.into_iter_gives
-    (yields_pieces _ c.args.bytes.now c.split_inclusive-line-items.ensures.rest c.split_inclusive-line-items.ensures.closure (λ x b q k. search (rules, tests))))
+    YieldsList-turn (yields_pieces _ c.args.bytes.now c.into_iter-line-iterator.ensures.into_iter_gives items.rest items.closure (λ x b q k. search (rules, tests)))
     c.loop-line.yielded _ c.loop-line.yielded_by _ _ c.in-Some.line c.in-Some.is c.next.ensures.steps in
     let read : c.ended_line.result ≡ Some c.in_ok-ends.ends = grind arith in
     let ends = told_some _ _ (sym read ∙ c.ended_line.ensures) in
@@ -29,10 +28,9 @@ put_ends-requires c =
 
 pub loop-line-preserved : goal.loop-line-preserved
 loop-line-preserved c =
+    let items = c.split_inclusive-line-items.ensures in
     let turn =
-    YieldsList-turn
-    (YieldsList-at c.into_iter-line-iterator.ensures.into_iter_gives
-    (yields_pieces _ c.args.bytes.now c.split_inclusive-line-items.ensures.rest c.split_inclusive-line-items.ensures.closure (λ x b q k. search (rules, tests))))
+    YieldsList-turn (yields_pieces _ c.args.bytes.now c.into_iter-line-iterator.ensures.into_iter_gives items.rest items.closure (λ x b q k. search (rules, tests)))
     c.loop-line.yielded _ c.loop-line.yielded_by _ _ c.in-Some.line c.in-Some.is c.next.ensures.steps in
     let read : c.ended_line.result ≡ Some c.in_ok-ends.ends = grind arith in
     let ends = told_some _ _ (sym read ∙ c.ended_line.ensures) in
@@ -40,21 +38,18 @@ loop-line-preserved c =
 
 pub returns-in_err-ends : goal.returns-in_err-ends
 returns-in_err-ends c =
+    let items = c.split_inclusive-line-items.ensures in
     let turn =
-    YieldsList-turn
-    (YieldsList-at c.into_iter-line-iterator.ensures.into_iter_gives
-    (yields_pieces _ c.args.bytes.now c.split_inclusive-line-items.ensures.rest c.split_inclusive-line-items.ensures.closure (λ x b q k. search (rules, tests))))
+    YieldsList-turn (yields_pieces _ c.args.bytes.now c.into_iter-line-iterator.ensures.into_iter_gives items.rest items.closure (λ x b q k. search (rules, tests)))
     c.loop-line.yielded _ c.loop-line.yielded_by _ _ c.in-Some.line c.in-Some.is c.next.ensures.steps in
     let gone : None ≡ c.ended_line.result = grind arith in
     let first : c.in_err-ends.field-0.0 ≡ MalformedLine (c.loop-line.count / 2 + 2) = grind arith in
-    let p = err_from_is_err_and c.from_residual.result c.from_residual.ensures.1 in
-    rw (p.1, p.2, first) (stored_malformed c.loop-line.invariant c.requires _ turn (told_none _ (gone ∙ c.ended_line.ensures)))
+    rw (err_is _ _ c.from_residual.ensures.1, first) (stored_malformed c.loop-line.invariant c.requires _ turn (told_none _ (gone ∙ c.ended_line.ensures)))
 
 pub returns : goal.returns
 returns c =
+    let items = c.split_inclusive-line-items.ensures in
     let seen =
-    YieldsList-end
-    (YieldsList-at c.into_iter-line-iterator.ensures.into_iter_gives
-    (yields_pieces _ c.args.bytes.now c.split_inclusive-line-items.ensures.rest c.split_inclusive-line-items.ensures.closure (λ x b q k. search (rules, tests))))
+    YieldsList-end (yields_pieces _ c.args.bytes.now c.into_iter-line-iterator.ensures.into_iter_gives items.rest items.closure (λ x b q k. search (rules, tests)))
     c.loop-line.yielded _ c.loop-line.yielded_by _ _ c.in-None.is c.next.ensures.steps in
     stored_all c.loop-line.invariant c.requires seen.1

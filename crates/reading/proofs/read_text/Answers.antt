@@ -4,7 +4,7 @@ use mathlib.Core.Path.{◌≡◌}
 use native.Mathlib.Omega.{arith}
 use Rattle.std.specs.Prelude.{Some, None}
 use Rattle.std.proofs.lemmas.Option.{MatchOption-at_some, MatchOption-at_none}
-use Rattle.std.proofs.lemmas.Result.{err_from_is_err_and}
+use Rattle.appointments.proofs.AnswerLaws.{err_is}
 use Rattle.appointments.specs.declared.Refusal.TheVariants.{MalformedLine}
 use Rattle.reading.proofs.Parting.{to_the_end}
 use Rattle.reading.proofs.LinesSteps.{text_unended, text_no_number, text_lines}
@@ -14,16 +14,14 @@ pub returns-in_err-end : goal.returns-in_err-end
 returns-in_err-end c =
     let gone : c.find.result ≡ None = grind arith in
     let first : c.in_err-end.field-0.0 ≡ MalformedLine 1 = grind arith in
-    let p = err_from_is_err_and c.from_residual.result c.from_residual.ensures.1 in
-    rw (p.1, p.2, first, text_unended c.args.input.now (MatchOption-at_none _ _ gone c.find.ensures))
+    rw (err_is _ _ c.from_residual.ensures.1, first, text_unended c.args.input.now (MatchOption-at_none _ _ gone c.find.ensures))
 
 pub returns-in_err-parties : goal.returns-in_err-parties
 returns-in_err-parties c =
     let found : c.find.result ≡ Some c.in_ok-end.end = grind arith in
     let gone : None ≡ c.number_in.result = grind arith in
     let first : c.in_err-parties.field-0.0 ≡ MalformedLine 1 = grind arith in
-    let p = err_from_is_err_and c.from_residual-in_err-parties.result c.from_residual-in_err-parties.ensures.1 in
-    rw (p.1, p.2, first, text_no_number c.args.input.now _ (MatchOption-at_some _ _ _ found c.find.ensures) (cc))
+    rw (err_is _ _ c.from_residual-in_err-parties.ensures.1, first, text_no_number c.args.input.now _ (MatchOption-at_some _ _ _ found c.find.ensures) (cc))
 
 pub returns : goal.returns
 returns c =

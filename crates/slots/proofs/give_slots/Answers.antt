@@ -8,4 +8,4 @@ returns c =
     λ ends pairs xs plan e fit.
     let x = c.take_all.ensures in
     rw (x.0, x.1, c.push_all.ensures, ← e)
-    (slots_stored ends pairs a.chains.n a.chains.d a.chains.out a.pair_numbers a.chains.links xs plan a.s.now a.slots.now fit)
+    (slots_stored ends pairs a.chains.n a.chains.d a.chains.out a.numbers.at a.chains.links xs plan a.s.now a.slots.now fit)

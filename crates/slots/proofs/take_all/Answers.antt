@@ -13,16 +13,16 @@ loop-i-preserved c =
       c.take_slot.auto.s ∙ lp.invariant.0,
       c.take_slot.auto.slots ∙ lp.invariant.1,
       rw x.0
-          (sym (given_words_turn a.chains.out a.pair_numbers a.chains.links a.a lp.i h lp.s) ∙ lp.invariant.2),
+          (sym (given_words_turn a.chains.out a.numbers.at a.chains.links a.numbers.n lp.i h lp.s) ∙ lp.invariant.2),
       rw (x.0, x.1)
-          (sym (given_slots_turn a.chains.out a.pair_numbers a.chains.links a.a lp.i h lp.s lp.slots) ∙ lp.invariant.3),
+          (sym (given_slots_turn a.chains.out a.numbers.at a.chains.links a.numbers.n lp.i h lp.s lp.slots) ∙ lp.invariant.3),
     )
 
 pub returns : goal.returns
 returns c =
     let lp = c.loop-i in
     let a = c.args in
-    let h : a.a ≤ lp.i = omega arith in (
-      sym (given_words_stop a.chains.out a.pair_numbers a.chains.links a.a lp.i h lp.s) ∙ lp.invariant.2,
-      sym (given_slots_stop a.chains.out a.pair_numbers a.chains.links a.a lp.i h lp.s lp.slots) ∙ lp.invariant.3,
+    let h : a.numbers.n ≤ lp.i = omega arith in (
+      sym (given_words_stop a.chains.out a.numbers.at a.chains.links a.numbers.n lp.i h lp.s) ∙ lp.invariant.2,
+      sym (given_slots_stop a.chains.out a.numbers.at a.chains.links a.numbers.n lp.i h lp.s lp.slots) ∙ lp.invariant.3,
     )

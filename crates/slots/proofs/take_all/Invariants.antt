@@ -8,5 +8,5 @@ use Rattle.slots.proofs.take_all.Given as goal
 
 abbrev pub invariant-loop-i : goal.invariant-loop-i
 invariant-loop-i l = (length l.s ≡ length l.initial.s) × (length l.slots ≡ length l.initial.slots)
-    × (given_words l.chains.out l.pair_numbers l.chains.links l.i (l.a - l.i) l.s ≡ given_words l.chains.out l.pair_numbers l.chains.links 0 l.a l.initial.s)
-    × (given_slots l.chains.out l.pair_numbers l.chains.links l.i (l.a - l.i) l.s l.slots ≡ given_slots l.chains.out l.pair_numbers l.chains.links 0 l.a l.initial.s l.initial.slots)
+    × (given_words l.chains.out l.numbers.at l.chains.links l.i (l.numbers.n - l.i) l.s ≡ given_words l.chains.out l.numbers.at l.chains.links 0 l.numbers.n l.initial.s)
+    × (given_slots l.chains.out l.numbers.at l.chains.links l.i (l.numbers.n - l.i) l.s l.slots ≡ given_slots l.chains.out l.numbers.at l.chains.links 0 l.numbers.n l.initial.s l.initial.slots)

@@ -1,28 +1,26 @@
 -- `plan_output` meets its contract: too long, malformed, or by the planning call. Assumes nothing.
 use borrow.Author.Rules.{rules}
-use Rattle.std.proofs.lemmas.Result.{err_from_is_err_and}
+use Rattle.appointments.proofs.AnswerLaws.{err_is}
 use Rattle.text.proofs.Main.{report_long, report_malformed, report_refused, report_planned, output_room, output_placed}
 use Rattle.text.proofs.plan_output.Goals as goal
 
-pub returns-then-input-gt4096 : goal.returns-then-input-gt4096
-returns-then-input-gt4096 c = report_long c.args.input.broken c.args.input.bytes.now c.if-input-gt4096.true
+pub returns-then-came-gt4096 : goal.returns-then-came-gt4096
+returns-then-came-gt4096 c = report_long c.args.came.broken c.args.came.bytes.now c.if-came-gt4096.true
 
 pub returns-in_err-read : goal.returns-in_err-read
 returns-in_err-read c =
-    let p = err_from_is_err_and c.from_residual.result c.from_residual.ensures.1 in
-    rw (p.1, p.2) (report_malformed c.args.input.broken c.args.input.bytes.now c.if-input-gt4096.false _ _ _ c.in_err-read.ensures)
+    rw (err_is _ _ c.from_residual.ensures.1) (report_malformed c.args.came.broken c.args.came.bytes.now c.if-came-gt4096.false _ _ _ c.in_err-read.ensures)
 
 pub returns-in_err-d : goal.returns-in_err-d
 returns-in_err-d c =
-    let p = err_from_is_err_and c.from_residual-in_err-d.result c.from_residual-in_err-d.ensures.1 in
-    rw (p.1, p.2) (report_refused c.args.input.broken c.args.input.bytes.now c.if-input-gt4096.false _ _ _ c.in_ok-read.ensures _ c.in_err-d.ensures.answer)
+    rw (err_is _ _ c.from_residual-in_err-d.ensures.1) (report_refused c.args.came.broken c.args.came.bytes.now c.if-came-gt4096.false _ _ _ c.in_ok-read.ensures _ c.in_err-d.ensures.answer)
 
 pub put_plan-requires : goal.put_plan-requires
 put_plan-requires c =
-    let report = report_planned c.args.input.broken c.args.input.bytes.now c.if-input-gt4096.false _ _ _ c.in_ok-read.ensures _ _ c.in_ok-d.ensures.answer c.in_ok-d.ensures.slots in
+    let report = report_planned c.args.came.broken c.args.came.bytes.now c.if-came-gt4096.false _ _ _ c.in_ok-read.ensures _ _ c.in_ok-d.ensures.answer c.in_ok-d.ensures.slots in
     (search rules, output_room _ _ _ report _ c.new-lines.ensures)
 
 pub returns : goal.returns
 returns c =
-    let report = report_planned c.args.input.broken c.args.input.bytes.now c.if-input-gt4096.false _ _ _ c.in_ok-read.ensures _ _ c.in_ok-d.ensures.answer c.in_ok-d.ensures.slots in
+    let report = report_planned c.args.came.broken c.args.came.bytes.now c.if-came-gt4096.false _ _ _ c.in_ok-read.ensures _ _ c.in_ok-d.ensures.answer c.in_ok-d.ensures.slots in
     output_placed _ _ _ report _ _ c.new-lines.ensures c.put_plan.ensures

@@ -1,13 +1,8 @@
--- The appointments from the newest down to the one passed last are in their rows.
-use Rattle.std.proofs.Common.{◌≡◌, ◌/◌, length}
-use Rattle.two_color_steps.specs.Model.{fill_rows_m}
-use Rattle.two_color_steps.specs.Bounds.{CanFill}
+-- The appointments passed, from the newest down, are in their rows.
+use Rattle.std.specs.Iterator.Adapters.{rev_source}
+use Rattle.std.specs.Slice.Iter.{iter_rest}
+use Rattle.two_color_steps.proofs.Backwards.{Filling}
 use Rattle.two_color_steps.proofs.Layout.fill_rows.Given as goal
 
-abbrev pub invariant-loop-i : goal.invariant-loop-i
-invariant-loop-i l = record {
-  can_fill : CanFill l.self.u l.self.p l.list l.own l.other l.i l.s;
-  filled :
-      fill_rows_m l.self.u l.self.p l.list l.own l.other l.i l.s
-      ≡ fill_rows_m l.self.u l.self.p l.list l.own l.other (length l.list / 2) l.initial.s;
-}
+abbrev pub invariant-loop-ends : goal.invariant-loop-ends
+invariant-loop-ends l = Filling l.self.u l.self.p l.own l.other l.list l.initial.s (iter_rest (rev_source l.ends-iterator)) l.s

@@ -1,7 +1,7 @@
 -- `Viewer::open` meets its contract: each refusal is that of its check. Assumes nothing.
 use mathlib.Core.Path.{◌≡◌}
 use Rattle.std.specs.Prelude.{Result, IsErrAnd}
-use Rattle.std.proofs.lemmas.Result.{err_from_is_err_and}
+use Rattle.appointments.proofs.AnswerLaws.{err_is}
 use Rattle.appointments.proofs.Flat.{appts_count}
 use Rattle.appointments.specs.Answers.{Answer, refused}
 use Rattle.appointments.specs.Refusals.{refusal_number, refusal_place}
@@ -14,7 +14,7 @@ use Rattle.viewing.proofs.Viewer.open.Goals as goal
 
 -- what the exit of a `?` returns says the refusal that came
 opened_on : (r : Result Viewer Refusal) (e : Refusal) (a : Answer Unit) → IsErrAnd r (λ d. d ≡ e) → refused (refusal_number e) (refusal_place e) ≡ a → opened r ≡ a
-opened_on r e a h k = let p = err_from_is_err_and r h in rw (p.1, p.2) k
+opened_on r e a h k = rw (err_is r e h) k
 
 pub returns-in_err-check_even-clause-answer : goal.returns-in_err-check_even-clause-answer
 unfolding viewer_answer

@@ -1,7 +1,7 @@
--- `read_input` meets its contract: what one more read gave stands behind what had come. Assumes nothing.
+-- `read_full` meets its contract: what one more read gave stands behind what had come. Assumes nothing.
 use borrow.Author.Rules.{rules}
-use Rattle.bimtsure.proofs.Coming.{more_came}
-use Rattle.bimtsure.proofs.read_input.Goals as goal
+use Rattle.reading.proofs.Coming.{more_came}
+use Rattle.reading.proofs.read_full.Goals as goal
 
 pub loop-count-preserved-in-Some : goal.loop-count-preserved-in-Some
 loop-count-preserved-in-Some g c =
