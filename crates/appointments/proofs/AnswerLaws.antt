@@ -51,7 +51,7 @@ module _ {F : Type 0} where
   pub barred_says : (a : Answer F) (n i : ℕ) → a ≡ refused n i → (n ≡ number_of a) × (i ≡ place_of a)
   barred_says a n i e = rw e (refl, refl)
 
-  -- What an exported call tells fits 32 bits: p is the place of an answer, and x its figures, where a refusal has figures of 0.
+  -- What an exported call tells fits 32 bits: p is the place of an answer, and x its figures, where those of a refusal fit too.
   place_below : (a : Answer F) → ((n i : ℕ) → a ≡ refused n i → i < 4294967296) → place_of a < 4294967296
   place_below (accepted f) h = omega arith
   place_below (refused n i) h = h n i refl
@@ -59,13 +59,13 @@ module _ {F : Type 0} where
   pub place_fits : {a b : Answer F} {p : ℕ} → p ≡ place_of a → a ≡ b → ((n i : ℕ) → b ≡ refused n i → i < 4294967296) → p < 4294967296
   place_fits {a} {b} {p} is e h = rw (is, e) (place_below b h)
 
-  figures_below : (which : F → ℕ) (none : F) (a : Answer F) → which none ≡ 0 → ((f : F) → a ≡ accepted f → which f < 4294967296) → which (figures_of none a) < 4294967296
+  figures_below : (which : F → ℕ) (none : F) (a : Answer F) → which none < 4294967296 → ((f : F) → a ≡ accepted f → which f < 4294967296) → which (figures_of none a) < 4294967296
   figures_below which none (accepted f) z h = h f refl
-  figures_below which none (refused n i) z h = omega (arith, z)
+  figures_below which none (refused n i) z h = z
 
   pub figure_fits :
       (which : F → ℕ) {none x : F} {a b : Answer F} →
-      x ≡ figures_of none a → a ≡ b → which none ≡ 0 → ((f : F) → b ≡ accepted f → which f < 4294967296) → which x < 4294967296
+      x ≡ figures_of none a → a ≡ b → which none < 4294967296 → ((f : F) → b ≡ accepted f → which f < 4294967296) → which x < 4294967296
   figure_fits which {none} {x} {a} {b} is e z h = rw (is, e) (figures_below which none b z h)
 
 -- ── an answer of one figure ──

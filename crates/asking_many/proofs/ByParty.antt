@@ -8,7 +8,7 @@ use native.Mathlib.Numerals.{add-one}
 use native.Mathlib.Decide.{ℕ_discrete}
 use borrow.Author.Tests.{eq-eqb, ne_eqb}
 use lib.Dec.{eqb, ltb}
-use lib.ListN.{length, replicate, set, take, length-set, length-take, length-replicate, get_or-replicate}
+use lib.ListN.{length, replicate, set, take, get_or, length-set, length-take, length-replicate, get_or-replicate}
 use lib.Seq.{take-suc, get_or-set_same, get_or-set_other, take_all}
 use Rattle.words.specs.Basics.{pick, is, total}
 use Rattle.words.specs.Words.{word}
@@ -17,59 +17,61 @@ use Rattle.appointments.proofs.Flat.{appts_count, appt_at}
 use Rattle.appointments.proofs.Loads.{load_append, load_most}
 use Rattle.asking.specs.PartySlots.{slots_of, lowest, highest}
 use Rattle.asking.proofs.PartySlots.{slots_more, slots_none, lowest_more, highest_more}
-use Rattle.asking_many.specs.Tables.{Walkable, entered, row_of, row_at, no_slot, ByParty, Table}
+use Rattle.asking_many.specs.Tables.{Walkable, entered, row_of, row_at, no_slot, past_table, ByParty, Table}
 use Rattle.asking_many.specs.declared.Row.{Row}
 
--- ── a row changed ──
+-- ── an entry changed ──
 
--- what each party then has
-changed :
-    (f : Row → Row) (rows : List Row) (e v : ℕ) → e < length rows →
-    row_at (set rows e (f (row_at rows e))) v ≡ pick (eqb v e) (f (row_at rows v)) (row_at rows v)
-changed f rows e v h =
-    elim (ℕ_discrete v e) [
-      | yes q ↦ rw (eq-eqb v e q, q) (get_or-set_same rows e (f (row_at rows e)) _ h)
-      | no n ↦ rw (ne_eqb v e n) (get_or-set_other rows e v (f (row_at rows e)) _ n)
-    ]
-
--- what a party has once the rows of both ends of an appointment are changed
-abbrev twice : (Row → Row) → ℕ → ℕ → ℕ → Row → Row
+-- what a party has once the entries of both ends of an appointment are changed
+abbrev twice : {A : Type 0} → (A → A) → ℕ → ℕ → ℕ → A → A
 twice f a b v x = pick (eqb v b) (f (pick (eqb v a) (f x) x)) (pick (eqb v a) (f x) x)
 
--- The table with the rows of both ends changed.
-module _ (f : Row → Row) (a b : ℕ) (rows : List Row) (h : a < length rows) (k : b < length rows) where
-  abbrev one : List Row
-  one = set rows a (f (row_at rows a))
+-- of a table of rows, or of numbers
+module _ {A : Type 0} (past : A) (f : A → A) where
+  -- what each party then has
+  changed :
+      (table : List A) (e v : ℕ) → e < length table →
+      get_or (set table e (f (get_or table e past))) v past ≡ pick (eqb v e) (f (get_or table v past)) (get_or table v past)
+  changed table e v h =
+      elim (ℕ_discrete v e) [
+        | yes q ↦ rw (eq-eqb v e q, q) (get_or-set_same table e (f (get_or table e past)) past h)
+        | no n ↦ rw (ne_eqb v e n) (get_or-set_other table e v (f (get_or table e past)) past n)
+      ]
 
-  abbrev two : List Row
-  two = set one b (f (row_at one b))
+  -- The table with the entries of both ends changed.
+  module _ (a b : ℕ) (table : List A) (h : a < length table) (k : b < length table) where
+    abbrev one : List A
+    one = set table a (f (get_or table a past))
 
-  two_size : length two ≡ length rows
-  two_size = length-set one b (f (row_at one b)) ∙ length-set rows a (f (row_at rows a))
+    abbrev two : List A
+    two = set one b (f (get_or one b past))
 
-  two_entry : (v : ℕ) → row_at two v ≡ twice f a b v (row_at rows v)
-  two_entry v =
-      changed f one b v (omega (arith, length-set rows a (f (row_at rows a))))
-      ∙ ap (λ (x : Row). pick (eqb v b) (f x) x) (changed f rows a v h)
+    two_size : length two ≡ length table
+    two_size = length-set one b (f (get_or one b past)) ∙ length-set table a (f (get_or table a past))
 
--- what each party has in the table, from what each had
-by_party :
-    (f : Row → Row) (a b : ℕ) (rows : List Row) (old new : ℕ → Row) → ByParty old rows → a < 1024 → b < 1024 →
-    ((v : ℕ) → twice f a b v (old v) ≡ new v) →
-    let first : List Row = set rows a (f (row_at rows a)) in
-    ByParty new (set first b (f (row_at first b)))
-by_party f a b rows old new p h k e =
-    let first_end : a < length rows = omega (arith, p.size) in
-    let second_end : b < length rows = omega (arith, p.size) in
-    record {
-      size = two_size f a b rows first_end second_end ∙ p.size;
-      entry = λ v l. two_entry f a b rows first_end second_end v ∙ ap (twice f a b v) (p.entry v l) ∙ e v;
-    }
+    two_entry : (v : ℕ) → get_or two v past ≡ twice f a b v (get_or table v past)
+    two_entry v =
+        changed one b v (omega (arith, length-set table a (f (get_or table a past))))
+        ∙ ap (λ (x : A). pick (eqb v b) (f x) x) (changed table a v h)
+
+  -- what each party has in the table, from what each had
+  by_party :
+      (a b : ℕ) (table : List A) (old new : ℕ → A) → ByParty past old table → a < 1024 → b < 1024 →
+      ((v : ℕ) → twice f a b v (old v) ≡ new v) →
+      let first : List A = set table a (f (get_or table a past)) in
+      ByParty past new (set first b (f (get_or first b past)))
+  by_party a b table old new p h k e =
+      let first_end : a < length table = omega (arith, p.size) in
+      let second_end : b < length table = omega (arith, p.size) in
+      record {
+        size = two_size a b table first_end second_end ∙ p.size;
+        entry = λ v l. two_entry a b table first_end second_end v ∙ ap (twice f a b v) (p.entry v l) ∙ e v;
+      }
 
 -- a change that does nothing when it comes again is made once for whom the appointment names, once or twice
 twice_once :
     {A : Type 0} (f : A → A) → ((x : A) → f (f x) ≡ f x) → (a b v : ℕ) (x : A) →
-    pick (eqb v b) (f (pick (eqb v a) (f x) x)) (pick (eqb v a) (f x) x) ≡ pick (named v (appt a b)) (f x) x
+    twice f a b v x ≡ pick (named v (appt a b)) (f x) x
 unfolding names is
 twice_once {A = A} f again a b v x = go (eqb v a) (eqb v b)
   where
@@ -164,7 +166,7 @@ module _ (list slots : List ℕ) (i : ℕ) (walk : Walkable list slots) (inside 
       Table with_this slots (set first b (entered s (row_at first b)))
   table_more rows small t =
       let ends = walk.ends i inside in
-      by_party (entered s) a b rows (row_of so_far slots) (row_of with_this slots) t ends.0 ends.1 (λ v. row_more v small)
+      by_party past_table (entered s) a b rows (row_of so_far slots) (row_of with_this slots) t ends.0 ends.1 (λ v. row_more v small)
 
   -- loads so far leave room for one more in 16 bits, and for two
   pub load_room : (rows : List Row) (v : ℕ) → Table so_far slots rows → v < 1024 → (row_at rows v).load ≤ 8190
@@ -176,7 +178,7 @@ module _ (list slots : List ℕ) (i : ℕ) (walk : Walkable list slots) (inside 
       (rows : List Row) (v : ℕ) → Table so_far slots rows → v < 1024 →
       (row_at (set rows a (entered s (row_at rows a))) v).load ≤ 8191
   load_room_again rows v t h =
-      rw (changed (entered s) rows a v (omega (arith, t.size, walk.ends i inside))) (go (eqb v a) (load_room rows v t h))
+      rw (changed past_table (entered s) rows a v (omega (arith, t.size, walk.ends i inside))) (go (eqb v a) (load_room rows v t h))
     where
       go : (p : Bool) → (row_at rows v).load ≤ 8190 → (pick p (entered s (row_at rows v)) (row_at rows v)).load ≤ 8191
       go true r = omega arith

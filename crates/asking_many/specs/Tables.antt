@@ -27,17 +27,20 @@ abbrev pub no_slot : Row
 no_slot = record { load = 0; span = no_span }
 
 -- the row at a place, and zeroes past the table
-abbrev pub row_at : List Row → ℕ → Row
-row_at rows v = get_or rows v (record { load = 0; span = record { lowest = 0; highest = 0 } })
+abbrev pub past_table : Row
+past_table = record { load = 0; span = record { lowest = 0; highest = 0 } }
 
--- 1,024 rows, each the one that its party has
-pub record ByParty (has : ℕ → Row) (rows : List Row) : Type 0 where
-  pub size : length rows ≡ 1024
-  pub entry : (v : ℕ) → v < 1024 → row_at rows v ≡ has v
+abbrev pub row_at : List Row → ℕ → Row
+row_at rows v = get_or rows v past_table
+
+-- a table of 1,024 entries, of rows or of numbers, that has for each party its own
+pub record ByParty {A : Type 0} (past : A) (has : ℕ → A) (table : List A) : Type 0 where
+  pub size : length table ≡ 1024
+  pub entry : (v : ℕ) → v < 1024 → get_or table v past ≡ has v
 
 -- The table of some appointments: each row that of its party.
 abbrev pub Table : List Appt → List ℕ → List Row → Type 0
-Table xs slots rows = ByParty (row_of xs slots) rows
+Table xs slots rows = ByParty past_table (row_of xs slots) rows
 
 -- the three entries of query j, put from the row of the party that it asks for
 abbrev pub put_three : List ℕ → ℕ → Row → List ℕ

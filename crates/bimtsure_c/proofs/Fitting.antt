@@ -114,7 +114,7 @@ module _ (bytes list slots : List ℕ) where
 
 -- ── the viewer ──
 
-viewer_refusal_fits : (list slots : List ℕ) (n i : ℕ) → viewer_answer list slots ≡ refused n i → PlaceFits n i
+pub viewer_refusal_fits : (list slots : List ℕ) (n i : ℕ) → viewer_answer list slots ≡ refused n i → PlaceFits n i
 unfolding viewer_answer
 viewer_refusal_fits list slots n i e =
     bar_fits (eqb (length list % 2) 1) 2 _ n i

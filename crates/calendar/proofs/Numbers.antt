@@ -40,7 +40,7 @@ number_found (x ∷ xs) t h = go (eqb x t) refl (number_found xs t)
 -- ── where it stands tells its number ──
 
 -- none of the first k is the time
-abbrev NoneBefore : List ℕ → ℕ → ℕ → Type 0
+abbrev pub NoneBefore : List ℕ → ℕ → ℕ → Type 0
 NoneBefore xs t k = (i : ℕ) → i < k → get_or xs i 0 ≡ t → ⊥
 
 pub none_more : (xs : List ℕ) (t k : ℕ) → NoneBefore xs t k → (get_or xs k 0 ≡ t → ⊥) → NoneBefore xs t (k + 1)
@@ -50,11 +50,18 @@ none_later : (x t k : ℕ) (xs : List ℕ) → NoneBefore (x ∷ xs) t (suc k) �
 none_later x t k xs none i l = none (suc i) (omega arith)
 
 -- at place k, and none before it
-first_number : (xs : List ℕ) (t k : ℕ) → k < length xs → get_or xs k 0 ≡ t → NoneBefore xs t k → number_in xs t ≡ k
+pub first_number : (xs : List ℕ) (t k : ℕ) → k < length xs → get_or xs k 0 ≡ t → NoneBefore xs t k → number_in xs t ≡ k
 first_number [] t k h e none = absurd (omega arith)
 first_number (x ∷ xs) t zero h e none = number_here x t xs e
 first_number (x ∷ xs) t (suc k) h e none =
     number_later x t xs (none 0 (omega arith)) ∙ ap suc (first_number xs t k (omega arith) e (none_later x t k xs none))
+
+-- nowhere
+pub no_number : (xs : List ℕ) (t : ℕ) → NoneBefore xs t (length xs) → number_in xs t ≡ length xs
+unfolding number_in
+no_number [] t none = refl
+no_number (x ∷ xs) t none =
+    number_later x t xs (none 0 (omega arith)) ∙ ap suc (no_number xs t (none_later x t (length xs) xs none))
 
 -- In a list that rises each entry's number is its place.
 pub rising_number : (xs : List ℕ) → Rising xs → (k : ℕ) → k < length xs → number_in xs (get_or xs k 0) ≡ k

@@ -95,7 +95,7 @@ module _ (list : List ℕ) (rs : RowBases) (map apair : ℕ) (s₀ : List ℕ) (
   apair_low = omega (arith, fit.before, fit.after, fit.after_rows)
 
   -- the row is as it was
-  row_kept : (k t : ℕ) (s : List ℕ) → t < len → Going list rs map apair v k s₀ s → row s rs v t ≡ h_at t
+  pub row_kept : (k t : ℕ) (s : List ℕ) → t < len → Going list rs map apair v k s₀ s → row s rs v t ≡ h_at t
   row_kept k t s a g =
       g.changes.between (rs.rows + rs.d * v + t) (omega (arith, fit.before, fit.after))
       (omega (arith, fit.after_rows, row_inside rs.d v t rs.parties party (omega (arith, fit.lens v party))))
@@ -201,7 +201,7 @@ module _ (list : List ℕ) (rs : RowBases) (map apair : ℕ) (s₀ : List ℕ) (
     i_inside = omega (arith, i_below, apair_low, fit.inside, s_len)
 
     -- the next half-edge, its mate and their places
-    finds : Finds list map apair h s
+    pub finds : Finds list map apair h s
     finds =
         record {
           half = h_below k inside;
@@ -270,7 +270,7 @@ module _ (list : List ℕ) (rs : RowBases) (map apair : ℕ) (s₀ : List ℕ) (
         (changes_put_low apair (length list / 2) map rs.parties s (apair + i) i apair_low (omega arith) (omega (arith, i_below)))
         (changes_put apair (length list / 2) map rs.parties u (map + w) i apair_low (omega arith) (omega (arith, w_party)))))
 
-    going_more : (t : List ℕ) → RepFound list map apair h s t → Going list rs map apair v (k + 1) s₀ t
+    pub going_more : (t : List ℕ) → RepFound list map apair h s t → Going list rs map apair v (k + 1) s₀ t
     going_more t f = ⊎_elim (λ x. going_found t x.0 x.1) (λ x. going_new t x.0 x.1) f
 
     -- it is what is read now

@@ -122,7 +122,7 @@ module _ (list : List ℕ) (rs : RowBases) (s : List ℕ) (h : RowsFit list rs s
     v_short = omega (arith, own_count, count_take_le v list (k + 1), h.loads v v_party)
 
     -- it has a place in its row
-    pushes : Pushes rs v t
+    pub pushes : Pushes rs v t
     pushes =
         record {
           count = omega (arith, v_party, h.after, h.inside, x.keeps.len);
@@ -201,7 +201,7 @@ module _ (list : List ℕ) (rs : RowBases) (s : List ℕ) (h : RowsFit list rs s
                 ]
           ]
 
-      filled_more : RowsFilled list rs (k + 1) s u
+      pub filled_more : RowsFilled list rs (k + 1) s u
       filled_more =
           record {
             filled = record { lens = lens'; below = below'; named = each (λ w f. word list f ≡ w) refl x.filled.named; order = order'; there = there' };

@@ -92,7 +92,7 @@ module _ (t : Table) (g n k mark : ℕ) (s : List ℕ) (can : CanSearch t g n k 
     c : Cut n k p
     c = cut n k p is can.several can.some can.most
 
-    can_build : CanBuild p t g mark n (p / k) (p - k * (p / k)) s
+    pub can_build : CanBuild p t g mark n (p / k) (p - k * (p / k)) s
     can_build =
         record {
           tabled = can.tabled;

@@ -29,7 +29,7 @@ use Rattle.euler.proofs.HalfLaws.{ApartAt, big, bigs, big_yes, big_no, bigs_leng
 use Rattle.splitting.proofs.Parities.{dealt, dealt_all, dealt_count, more_dealt, picks, picks_dealt}
 
 -- the count grows by at most 1
-entry_count : (l : Rings) (h parity : ℕ) (t : Counted) (i : ℕ) → (entry_m l h parity t i).count ≤ t.count + 1
+pub entry_count : (l : Rings) (h parity : ℕ) (t : Counted) (i : ℕ) → (entry_m l h parity t i).count ≤ t.count + 1
 unfolding entry_m
 entry_count l h parity t i = omega (arith, many_le (copies_m l t.words i))
 

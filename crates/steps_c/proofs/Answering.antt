@@ -34,7 +34,7 @@ module _ (p : ℕ) (list before : List ℕ) where
       )
 
   module _ (after : List ℕ) (ok : checks p list (length list) (length before) ≡ passed) where
-    sides_say : (left : ℕ) → Answers p list 0 after (Some left) → TwoColored p list before after 0 left
+    pub sides_say : (left : ℕ) → Answers p list 0 after (Some left) → TwoColored p list before after 0 left
     sides_say left a =
         record {
           number_is = rw (ok, a.1);
@@ -43,7 +43,7 @@ module _ (p : ℕ) (list before : List ℕ) where
           stays = λ n i h. refused_passed n i (sym h ∙ ok);
         }
 
-    not_bipartite_says : Answers p list 0 after None → TwoColored p list before after 9 0
+    pub not_bipartite_says : Answers p list 0 after None → TwoColored p list before after 9 0
     not_bipartite_says a =
         record {
           number_is = rw (ok, a);

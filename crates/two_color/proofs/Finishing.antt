@@ -36,7 +36,7 @@ none_colored u list s p e = record { answers = (omega arith, rw e (nobody u list
 abbrev pub first_words : ℕ → ℕ → ℕ → List ℕ → List ℕ → List ℕ
 first_words u p d list s = prepare_m u p d list s
 
-abbrev last_words : ℕ → ℕ → ℕ → List ℕ → List ℕ → List ℕ
+abbrev pub last_words : ℕ → ℕ → ℕ → List ℕ → List ℕ → List ℕ
 last_words u p d list s = steps_m u p (2 * p) (first_words u p d list s)
 
 module _ (u p d : ℕ) (list s : List ℕ) (can : CanColor p d u list s) (some : 0 < p) where
@@ -95,7 +95,7 @@ module _ (u p d : ℕ) (list s : List ℕ) (can : CanColor p d u list s) (some :
       (so_far, refl, own, omega arith, omega arith)
 
   module _ (t z : List ℕ) (begins : t ≡ first_words u p d list s) (steps : z ≡ steps_m u p (2 * p) t) (r : ℕ) (told : r ≡ word z (refused_place u p)) where
-    last_is : z ≡ last_words u p d list s
+    pub last_is : z ≡ last_words u p d list s
     last_is = rw begins at steps
 
     -- It refused.

@@ -19,8 +19,7 @@ overflow_sub-result c =
 pub overflow_sub-result-2 : goal.overflow_sub-result-2
 overflow_sub-result-2 c =
     let a = c.args in
-    rw (c.from-lowest.ensures, c.from-highest.ensures)
-    (waits_some (appts a.list.now) a.slots.now a.party c.note_all-own.ensures (omega arith)).1
+    omega (arith, c.from-lowest.ensures, c.from-highest.ensures, (waits_some (appts a.list.now) a.slots.now a.party c.note_all-own.ensures (omega arith)).1)
 
 pub returns : goal.returns
 returns c =

@@ -10,8 +10,8 @@ overflow_cast-result c = omega (arith, place_fits c.of-needs.ensures.place c.nee
 
 pub overflow_cast-result-2 : goal.overflow_cast-result-2
 overflow_cast-result-2 c =
-    omega (arith, figure_fits (λ (n : Needs). n.d) c.of-needs.ensures.figures c.needs.ensures c.default.ensures.0 (λ n e. (needs_fit c.from.result c.args.list.now n.d n.words e).0))
+    omega (arith, figure_fits (λ (n : Needs). n.d) c.of-needs.ensures.figures c.needs.ensures (omega (arith, c.default.ensures.0)) (λ n e. (needs_fit c.from.result c.args.list.now n.d n.words e).0))
 
 pub overflow_cast-result-3 : goal.overflow_cast-result-3
 overflow_cast-result-3 c =
-    omega (arith, figure_fits (λ (n : Needs). n.words) c.of-needs.ensures.figures c.needs.ensures c.default.ensures.1 (λ n e. (needs_fit c.from.result c.args.list.now n.d n.words e).1))
+    omega (arith, figure_fits (λ (n : Needs). n.words) c.of-needs.ensures.figures c.needs.ensures (omega (arith, c.default.ensures.1)) (λ n e. (needs_fit c.from.result c.args.list.now n.d n.words e).1))

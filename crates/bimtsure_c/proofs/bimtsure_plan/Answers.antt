@@ -1,6 +1,5 @@
 -- `bimtsure_plan` meets its contract: D and the place of a refusal fit 32 bits. Assumes nothing.
 use Prim.Native.Nat.{ℕ}
-use mathlib.Core.Path.{refl}
 use native.Mathlib.Omega.{arith}
 use Rattle.appointments.proofs.AnswerLaws.{place_fits, figure_fits}
 use Rattle.bimtsure_c.proofs.PlanNumbers.{planned_fits, plan_refusal_fits}
@@ -11,4 +10,4 @@ overflow_cast-result c = omega (arith, place_fits c.of-plan.ensures.place c.bipa
 
 pub overflow_cast-result-2 : goal.overflow_cast-result-2
 overflow_cast-result-2 c =
-    omega (arith, figure_fits (λ (n : ℕ). n) c.of-plan.ensures.figures c.bipartite_edge_color.ensures.answer refl (planned_fits _))
+    omega (arith, figure_fits (λ (n : ℕ). n) c.of-plan.ensures.figures c.bipartite_edge_color.ensures.answer (omega arith) (planned_fits _))

@@ -10,4 +10,4 @@ overflow_cast-result c = omega (arith, place_fits c.of-read.ensures.place c.read
 
 pub overflow_cast-result-2 : goal.overflow_cast-result-2
 overflow_cast-result-2 c =
-    omega (arith, figure_fits (λ (h : Header). h.appointments) c.of-read.ensures.figures c.read_plan.ensures.answer c.default.ensures.1 (λ h. reading_fits _ _ _ h.parties h.appointments))
+    omega (arith, figure_fits (λ (h : Header). h.appointments) c.of-read.ensures.figures c.read_plan.ensures.answer (omega (arith, c.default.ensures.1)) (λ h. reading_fits _ _ _ h.parties h.appointments))

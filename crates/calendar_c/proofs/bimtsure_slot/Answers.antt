@@ -1,6 +1,6 @@
 -- `bimtsure_slot` meets its contract: a slot and the place of a refusal fit 32 bits. Assumes nothing.
 use Prim.Native.Nat.{ℕ, ◌<◌}
-use mathlib.Core.Path.{◌≡◌, refl}
+use mathlib.Core.Path.{◌≡◌}
 use native.Mathlib.Omega.{arith}
 use Rattle.appointments.specs.Answers.{accepted, refused}
 use Rattle.appointments.proofs.AnswerLaws.{place_fits, figure_fits}
@@ -19,4 +19,4 @@ overflow_cast-result c = omega (arith, place_fits c.of-slot.ensures.place c.slot
 
 pub overflow_cast-result-2 : goal.overflow_cast-result-2
 overflow_cast-result-2 c =
-    omega (arith, figure_fits (λ (n : ℕ). n) c.of-slot.ensures.figures c.slot.ensures refl (slot_fits _ _ _))
+    omega (arith, figure_fits (λ (n : ℕ). n) c.of-slot.ensures.figures c.slot.ensures (omega arith) (slot_fits _ _ _))
