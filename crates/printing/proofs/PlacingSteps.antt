@@ -1,12 +1,14 @@
 -- Text put piece by piece: the digits of a number, a line field by field, and lines one by one. Assumes nothing.
 use Prim.Native.Nat.{ℕ, zero, suc, ◌+◌, ◌-◌, ◌/◌, ◌%◌, ◌^◌, ◌≤◌, ◌<◌}
-use mathlib.Core.Path.{◌≡◌, refl, sym, ◌∙◌, ap, subst}
+use mathlib.Core.Path.{◌≡◌, refl, sym, ◌∙◌, ap, ap₂, subst}
 use mathlib.Core.Bool.{Bool, true, false}
 use mathlib.Core.List.{List, [], ◌∷◌, ◌++◌, append_assoc, append-nil}
 use native.Mathlib.Omega.{arith}
 use borrow.Author.Tests.{ne_eqb, lt-ltb, ltb-false, ltb-true}
 use lib.Dec.{ltb}
-use lib.ListN.{length, drop, length-append}
+use lib.ListN.{length, take, drop, length-append}
+use Rattle.std.specs.Borrow.{GName}
+use Rattle.std.proofs.lemmas.List.{drop-drop, take-append-drop}
 use lib.Seq.{append_snoc}
 use Rattle.std.specs.Fmt as Fmt
 use Rattle.std.specs.Fmt.{digits, digits_onto}
@@ -15,42 +17,81 @@ use Rattle.appointments.proofs.Flat.{rest_cons, rest_none, appts_count}
 use Rattle.words.specs.Ascii.{ascii, space, line_feed}
 use Rattle.words.specs.Basics.{pick}
 use Rattle.printing.specs.Printing.{decimal_by, decimal, line, party_line, appointment_lines, party_lines, plan_lines}
-use Rattle.printing.specs.Placed.{Room, Placed, field, appointment_line_at}
+use Rattle.printing.specs.Placed.{State, slice, Fits, Placed, Printed, field, appointment_line_at}
 
 -- ── one piece behind another ──
 
-pub room_first : {most : ℕ} {text bytes : List ℕ} (more : List ℕ) → Room most text (bytes ++ more) → Room most text bytes
-room_first {bytes = bytes} more r = record { fits = omega (arith, r.fits, length-append bytes more) }
+pub room_first : {before : State} {bytes : List ℕ} (more : List ℕ) → Fits before (bytes ++ more) → Fits before bytes
+room_first {bytes = bytes} more r = record { room = omega (arith, r.room, length-append bytes more) }
 
-pub room_then : {most : ℕ} {text bytes after : List ℕ} (more : List ℕ) → Room most text (bytes ++ more) → Placed text bytes after → Room most after more
-room_then {text = text} {bytes = bytes} more r p =
-    record { fits = rw p.stored (omega (arith, r.fits, length-append text bytes, length-append bytes more)) }
+pub room_then : {before between : State} {bytes : List ℕ} (more : List ℕ) → Fits before (bytes ++ more) → Placed before bytes between → Fits between more
+room_then {bytes = bytes} more r p = record { room = omega (arith, r.room, p.counted, p.holds, length-append bytes more) }
 
-pub placed_then : {text bytes more between after : List ℕ} → Placed text bytes between → Placed between more after → Placed text (bytes ++ more) after
-placed_then {text} {bytes} {more} p q = record { stored = rw (q.stored, p.stored) (append_assoc text bytes more) }
+pub placed_none : (before : State) → Placed before [] before
+placed_none before = record { stored = sym (append-nil before.text); counted = omega arith; holds = refl; stays = refl; same = refl }
+
+pub placed_then : {before between after : State} {bytes more : List ℕ} → Placed before bytes between → Placed between more after → Placed before (bytes ++ more) after
+placed_then {before} {between} {after} {bytes} {more} p q =
+    record {
+      stored = rw (q.stored, p.stored) (append_assoc before.text bytes more);
+      counted = omega (arith, p.counted, q.counted, length-append bytes more);
+      holds = q.holds ∙ p.holds;
+      stays = rw (q.stays, p.stays, length-append bytes more) (drop-drop (length more) (length bytes) before.behind);
+      same = q.same ∙ p.same;
+    }
 
 -- what is put under another name
-pub room_as : {most : ℕ} {text bytes fields : List ℕ} → bytes ≡ fields → Room most text bytes → Room most text fields
-room_as {most} {text} e r = subst (Room most text) e r
+pub room_as : {before : State} {bytes fields : List ℕ} → bytes ≡ fields → Fits before bytes → Fits before fields
+room_as {before} e r = subst (Fits before) e r
 
-pub placed_as : {text bytes fields after : List ℕ} → bytes ≡ fields → Placed text fields after → Placed text bytes after
-placed_as e p = record { stored = rw e p.stored }
+pub placed_as : {before after : State} {bytes fields : List ℕ} → bytes ≡ fields → Placed before fields after → Placed before bytes after
+placed_as {before} {after} e p = subst (λ (l : List ℕ). Placed before l after) (sym e) p
 
 -- lines that are put one by one: what was put and what is to come is the whole
-pub record Underway (text whole now rest : List ℕ) : Type 0 where
-  pub split : now ++ rest ≡ text ++ whole
+pub record Underway (before : State) (whole : List ℕ) (now : State) (rest : List ℕ) : Type 0 where
+  pub done : List ℕ
+  pub placed : Placed before done now
+  pub split : done ++ rest ≡ whole
 
-module _ {text whole now rest : List ℕ} (u : Underway text whole now rest) where
+pub underway_start : (before : State) {whole rest : List ℕ} → rest ≡ whole → Underway before whole before rest
+underway_start before e = record { done = []; placed = placed_none before; split = e }
+
+module _ {before : State} {whole : List ℕ} {now : State} {rest : List ℕ} (u : Underway before whole now rest) where
   module _ (this later : List ℕ) (e : rest ≡ this ++ later) where
-    pub underway_room : {most : ℕ} → Room most text whole → Room most now this
-    underway_room r =
-        record { fits = omega (arith, r.fits, ap length u.split, length-append now rest, length-append text whole, ap length e, length-append this later) }
+    next : whole ≡ u.done ++ (this ++ later)
+    next = sym u.split ∙ ap (λ (l : List ℕ). u.done ++ l) e
 
-    pub underway_more : {after : List ℕ} → Placed now this after → Underway text whole after later
-    underway_more p = record { split = rw (p.stored, append_assoc now this later, ← e) u.split }
+    pub underway_room : Fits before whole → Fits now this
+    underway_room r = room_first later (room_then (this ++ later) (room_as next r) u.placed)
 
-  pub underway_all : rest ≡ [] → Placed text whole now
-  underway_all e = record { stored = sym (append-nil now) ∙ ap (λ (l : List ℕ). now ++ l) (sym e) ∙ u.split }
+    pub underway_more : {after : State} → Placed now this after → Underway before whole after later
+    underway_more p = record { done = u.done ++ this; placed = placed_then u.placed p; split = append_assoc u.done this later ∙ sym next }
+
+  pub underway_all : rest ≡ [] → Placed before whole now
+  underway_all e = placed_as (sym u.split ∙ ap (λ (l : List ℕ). u.done ++ l) e ∙ append-nil u.done) u.placed
+
+-- ── a lent slice ──
+
+-- what stands behind the next place stays, and what stands before it is the text and the bytes behind that
+pub placed_slice : (old now bytes : List ℕ) (start count : ℕ) {lent same : GName} → drop count now ≡ drop count old → take count now ≡ take start old ++ bytes
+    → count ≡ start + length bytes → length now ≡ length old → same ≡ lent → Placed (slice old start lent) bytes (slice now count same)
+placed_slice old now bytes start count stays stored counted holds e =
+    record {
+      stored = stored;
+      counted = counted;
+      holds = holds;
+      stays = stays ∙ ap (λ (n : ℕ). drop n old) counted ∙ sym (drop-drop (length bytes) start old);
+      same = e;
+    }
+
+-- What was put from its start on is printed, once what the reference last held is what is lent back.
+pub printed : {bytes old now last : List ℕ} {count told : ℕ} {lent same : GName} → Placed (slice old 0 lent) bytes (slice now count same) → last ≡ now → told ≡ count
+    → Printed bytes told old last
+printed {bytes} {old} {now} {last} {count} p back said =
+    record {
+      counted = omega (arith, p.counted, said);
+      stored = back ∙ sym (take-append-drop count now) ∙ ap₂ (λ (a b : List ℕ). a ++ b) p.stored p.stays;
+    }
 
 -- ── a number ──
 

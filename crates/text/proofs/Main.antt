@@ -16,7 +16,7 @@ use Rattle.reading.specs.Told.{ReadAs}
 use Rattle.reading.specs.declared.ReadInput.{ReadInput}
 use Rattle.reading.proofs.LinesSteps.{was_read, was_malformed}
 use Rattle.printing.specs.Printing.{Report, plan, refused, printed}
-use Rattle.printing.specs.Placed.{Room, Placed}
+use Rattle.printing.specs.Placed.{string, Fits, Placed}
 use Rattle.text.specs.Text.{main_lent, planned_report, input_report, report, text_output}
 use Rattle.text.proofs.TextLaws.{output_fits}
 
@@ -32,10 +32,10 @@ module _ (broken : Bool) (bytes : List ℕ) where
     unfolding text_output
     output_is = ap printed e
 
-    pub output_room : (text : List ℕ) → text ≡ [] → Room 1801 text (printed r)
-    output_room text h = rw h (record { fits = omega (arith, output_fits broken bytes, ap length output_is) })
+    pub output_room : (text : List ℕ) → text ≡ [] → Fits (string 1801 text) (printed r)
+    output_room text h = record { room = omega (arith, output_fits broken bytes, ap length output_is, ap length h) }
 
-    pub output_placed : (text after : List ℕ) → text ≡ [] → Placed text (printed r) after → after ≡ text_output broken bytes
+    pub output_placed : (text after : List ℕ) → text ≡ [] → Placed (string 1801 text) (printed r) (string 1801 after) → after ≡ text_output broken bytes
     output_placed text after h p = p.stored ∙ ap (λ (l : List ℕ). l ++ printed r) h ∙ sym output_is
 
   -- up to there it goes by what was read

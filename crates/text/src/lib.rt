@@ -25,7 +25,7 @@ fn plan_output(came: Came<'_>) -> Result<ArrayString<1801>, Refusal>
     let mut scratch = [0u32; 16384];
     let d = planning::bipartite_edge_color(read.parties, list, &mut slots, &mut scratch)?;
     let mut lines = ArrayString::new();
-    printing::put_plan(read.parties, list, d, &slots, &mut lines);
+    printing::put_plan_lines(read.parties, list, d, &slots, &mut lines);
     Ok(lines)
 }
 
@@ -38,7 +38,7 @@ pub fn text_output(came: Came<'_>) -> ArrayString<1801>
         Ok(lines) => lines,
         Err(refusal) => {
             let mut line = ArrayString::new();
-            printing::put_refusal(refusal, &mut line);
+            printing::put_refusal_line(refusal.number() as usize, refusal.place(), &mut line);
             line
         }
     }

@@ -7,4 +7,4 @@ use Rattle.printing.proofs.put_appointments.Given as goal
 
 abbrev pub invariant-loop-i : goal.invariant-loop-i
 invariant-loop-i g l =
-    Underway l.initial.out.bytes (appointment_lines 0 (appts l.list) l.slots) l.out.bytes (appointment_lines l.i (drop l.i (appts l.list)) l.slots)
+    Underway (g.O.Output.state l.initial.out) (appointment_lines 0 (appts l.list) l.slots) (g.O.Output.state l.out) (appointment_lines l.i (drop l.i (appts l.list)) l.slots)

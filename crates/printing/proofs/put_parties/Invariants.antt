@@ -7,4 +7,4 @@ use Rattle.printing.proofs.put_parties.Given as goal
 
 abbrev pub invariant-loop-party : goal.invariant-loop-party
 invariant-loop-party g l =
-    Underway l.initial.out.bytes (party_lines (appts l.list) l.slots 0 l.p) l.out.bytes (party_lines (appts l.list) l.slots l.party (l.p - l.party))
+    Underway (g.O.Output.state l.initial.out) (party_lines (appts l.list) l.slots 0 l.p) (g.O.Output.state l.out) (party_lines (appts l.list) l.slots l.party (l.p - l.party))

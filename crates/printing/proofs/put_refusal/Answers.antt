@@ -1,13 +1,9 @@
--- `put_refusal` meets its contract: the word, the number and the place. Assumes nothing.
+-- `put_refusal` meets its contract: what was put stands at the slice's start, and its later bytes stay. Assumes nothing.
 use borrow.Author.Rules.{rules}
-use Rattle.words.specs.Ascii.{ascii}
-use Rattle.printing.specs.Printing.{refusal_line}
+use Rattle.printing.proofs.PlacingSteps.{printed}
 use Rattle.printing.proofs.put_refusal.Goals as goal
 
-pub put_line-requires : goal.put_line-requires
-unfolding ascii refusal_line
-put_line-requires g c = (search rules, rw (c.number.ensures, c.place.ensures) c.requires)
-
 pub returns : goal.returns
-unfolding ascii refusal_line
-returns g c = rw (c.number.ensures, c.place.ensures) at c.put_line.ensures
+returns c =
+    let same = c.put_refusal_line.ensures.same in
+    printed c.put_refusal_line.ensures (search rules) (search rules)

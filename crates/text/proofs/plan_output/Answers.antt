@@ -1,5 +1,4 @@
 -- `plan_output` meets its contract: too long, malformed, or by the planning call. Assumes nothing.
-use borrow.Author.Rules.{rules}
 use Rattle.appointments.proofs.AnswerLaws.{err_is}
 use Rattle.text.proofs.Main.{report_long, report_malformed, report_refused, report_planned, output_room, output_placed}
 use Rattle.text.proofs.plan_output.Goals as goal
@@ -15,12 +14,12 @@ pub returns-in_err-d : goal.returns-in_err-d
 returns-in_err-d c =
     rw (err_is _ _ c.from_residual-in_err-d.ensures.1) (report_refused c.args.came.broken c.args.came.bytes.now c.if-came-gt4096.false _ _ _ c.in_ok-read.ensures _ c.in_err-d.ensures.answer)
 
-pub put_plan-requires : goal.put_plan-requires
-put_plan-requires c =
+pub put_plan_lines-requires : goal.put_plan_lines-requires
+put_plan_lines-requires c =
     let report = report_planned c.args.came.broken c.args.came.bytes.now c.if-came-gt4096.false _ _ _ c.in_ok-read.ensures _ _ c.in_ok-d.ensures.answer c.in_ok-d.ensures.slots in
-    (search rules, output_room _ _ _ report _ c.new-lines.ensures)
+    output_room _ _ _ report _ c.new-lines.ensures
 
 pub returns : goal.returns
 returns c =
     let report = report_planned c.args.came.broken c.args.came.bytes.now c.if-came-gt4096.false _ _ _ c.in_ok-read.ensures _ _ c.in_ok-d.ensures.answer c.in_ok-d.ensures.slots in
-    output_placed _ _ _ report _ _ c.new-lines.ensures c.put_plan.ensures
+    output_placed _ _ _ report _ _ c.new-lines.ensures c.put_plan_lines.ensures
