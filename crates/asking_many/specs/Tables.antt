@@ -26,10 +26,11 @@ row_of xs slots v =
 abbrev pub no_slot : Row
 no_slot = record { load = 0; span = no_span }
 
--- the row at a place, and zeroes past the table
+-- what is read past the table: zeroes
 abbrev pub past_table : Row
 past_table = record { load = 0; span = record { lowest = 0; highest = 0 } }
 
+-- the row at a place
 abbrev pub row_at : List Row → ℕ → Row
 row_at rows v = get_or rows v past_table
 
